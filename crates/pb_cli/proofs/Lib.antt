@@ -1,0 +1,5 @@
+mod Streamed
+mod HexPairs
+mod Pairs
+mod OneMoreLine
+mod SpelledText

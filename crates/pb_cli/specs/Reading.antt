@@ -1,0 +1,17 @@
+-- Why an input could not be read, and the limits of reading.
+use Rattle.std.specs.Prelude.{ℕ, ◌-◌, ◌⊎◌}
+use Rattle.pb_cli.specs.Counts.{GrowsBy}
+
+-- the most bytes that an input may have
+abbrev pub byte_limit : ℕ
+byte_limit = 1048576
+
+-- the most read calls that are made for one input
+abbrev pub call_limit : ℕ
+call_limit = 2097152
+
+-- The reader failed, or as many calls were made as an input may take. In the second case all but a call for each byte were interrupted.
+abbrev pub IsReadCause : ℕ → ℕ → ℕ → ℕ → ℕ → ℕ → Type 0
+IsReadCause failures_before failures_now calls_before calls_now interruptions_before interruptions_now =
+    GrowsBy 1 failures_before failures_now
+    ⊎ (GrowsBy call_limit calls_before calls_now × GrowsBy (call_limit - byte_limit) interruptions_before interruptions_now)

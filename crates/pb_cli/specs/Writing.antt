@@ -1,0 +1,17 @@
+-- What a write that was given up has done, and why it was.
+use Rattle.std.specs.Prelude.{ℕ, ◌+◌, ◌≤◌, ◌⊎◌, List, length, take, Option}
+use Rattle.std.specs.Io.KnownBytes.{Appends}
+use Rattle.pb_cli.specs.Counts.{GrowsBy}
+
+-- known bytes grow by a front of the text
+abbrev pub AppendsFront : Option (List ℕ) → Option (List ℕ) → List ℕ → Type 0
+AppendsFront old new text = (count : ℕ) × (count ≤ length text) × Appends old new (take count text)
+
+-- how often in a row an interrupted write is tried again
+abbrev pub retries_in_a_row : ℕ
+retries_in_a_row = 1000
+
+-- the writer failed, or was interrupted once more than a write is tried again
+abbrev pub IsWriteCause : ℕ → ℕ → ℕ → ℕ → Type 0
+IsWriteCause failures_before failures_now interruptions_before interruptions_now =
+    GrowsBy 1 failures_before failures_now ⊎ GrowsBy (retries_in_a_row + 1) interruptions_before interruptions_now

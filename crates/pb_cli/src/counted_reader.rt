@@ -1,0 +1,68 @@
+ghost use Rattle.std.specs.Prelude.{◌≡◌};
+
+use crate::streams::{ReadFault, Source};
+use std::io::{ErrorKind, Read};
+
+/// A [`Source`] over any reader of std, which counts its calls, interruptions and failures.
+#[derive(Drop)]
+pub struct CountedReader<R> {
+    reader: R,
+    calls: u64,
+    interruptions: u64,
+    failures: u64,
+}
+
+impl<R> CountedReader<R> {
+    ghost use Rattle.pb_cli.specs.Counted.{counted_reader, calls_of, reader_failures};
+
+    /// The reader, with nothing counted yet.
+    pub fn new(reader: R) -> Self
+        ensures { result ≡ counted_reader reader }
+    {
+        CountedReader {
+            reader,
+            calls: 0,
+            interruptions: 0,
+            failures: 0,
+        }
+    }
+
+    /// How many read calls were made.
+    pub fn calls(&self) -> u64
+        ensures { result ≡ calls_of self.now }
+    {
+        self.calls
+    }
+
+    /// How many of them failed.
+    pub fn failures(&self) -> u64
+        ensures { result ≡ reader_failures self.now }
+    {
+        self.failures
+    }
+}
+
+impl<R: Read> Source for CountedReader<R> {
+    ghost remaining = { λ counted. R.remaining counted.reader };
+
+    ghost calls = { λ counted. counted.calls };
+
+    ghost interruptions = { λ counted. counted.interruptions };
+
+    ghost failures = { λ counted. counted.failures };
+
+    fn read(&mut self, buffer: &mut [u8]) -> Result<usize, ReadFault> {
+        self.calls = self.calls.saturating_add(1);
+        match self.reader.read(buffer) {
+            Ok(count) => Ok(count),
+            Err(error) if error.kind() == ErrorKind::Interrupted => {
+                self.interruptions = self.interruptions.saturating_add(1);
+                Err(ReadFault::Interrupted)
+            }
+            Err(_) => {
+                self.failures = self.failures.saturating_add(1);
+                Err(ReadFault::Failed)
+            }
+        }
+    }
+}

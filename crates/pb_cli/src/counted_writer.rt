@@ -1,0 +1,70 @@
+ghost use Rattle.std.specs.Prelude.{◌≡◌};
+
+use crate::streams::{Sink, WriteFault};
+use std::io::{ErrorKind, Write};
+
+/// A [`Sink`] over any writer of std, which counts its interruptions and failures.
+#[derive(Drop)]
+pub struct CountedWriter<W> {
+    writer: W,
+    interruptions: u64,
+    failures: u64,
+}
+
+impl<W> CountedWriter<W> {
+    ghost use Rattle.pb_cli.specs.Counted.{counted_writer, inner_writer, interruptions_of, writer_failures};
+
+    /// The writer, with nothing counted yet.
+    pub fn new(writer: W) -> Self
+        ensures { result ≡ counted_writer writer }
+    {
+        CountedWriter {
+            writer,
+            interruptions: 0,
+            failures: 0,
+        }
+    }
+
+    /// How many write calls were interrupted.
+    pub fn interruptions(&self) -> u64
+        ensures { result ≡ interruptions_of self.now }
+    {
+        self.interruptions
+    }
+
+    /// How many write calls failed, or took none of the bytes.
+    pub fn failures(&self) -> u64
+        ensures { result ≡ writer_failures self.now }
+    {
+        self.failures
+    }
+
+    /// The writer.
+    pub fn writer(&self) -> &W
+        ensures { result.now ≡ inner_writer self.now }
+    {
+        &self.writer
+    }
+}
+
+impl<W: Write> Sink for CountedWriter<W> {
+    ghost contents = { λ counted. W.contents counted.writer };
+
+    ghost interruptions = { λ counted. counted.interruptions };
+
+    ghost failures = { λ counted. counted.failures };
+
+    fn write(&mut self, bytes: &[u8]) -> Result<usize, WriteFault> {
+        match self.writer.write(bytes) {
+            Ok(count) if count > 0 || bytes.is_empty() => Ok(count),
+            Err(error) if error.kind() == ErrorKind::Interrupted => {
+                self.interruptions = self.interruptions.saturating_add(1);
+                Err(WriteFault::Interrupted)
+            }
+            _ => {
+                self.failures = self.failures.saturating_add(1);
+                Err(WriteFault::Failed)
+            }
+        }
+    }
+}

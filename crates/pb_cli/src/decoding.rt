@@ -1,0 +1,64 @@
+ghost use Rattle.std.specs.Prelude.{◌≡◌, ◌≢◌, ◌≤◌, ◌<◌, ◌+◌, length, Err, IfOk, IfErr, OnOk, IfSome, IsErrOf};
+ghost use Rattle.std.specs.Io.KnownBytes.{Appends, Keeps};
+ghost use Rattle.pb_cli.specs.Decoding.{output_of, refuses, status_of};
+ghost use Rattle.pb_cli.specs.Reading.{byte_limit, call_limit, IsReadCause};
+ghost use Rattle.pb_cli.specs.Writing.{AppendsFront, IsWriteCause};
+
+use crate::faults::{CliFault, Status};
+use crate::lines::decode;
+use crate::reading::read_input;
+use crate::streams::{Sink, Source};
+use crate::writing::write_out;
+use std::alloc::Global;
+
+/// Reads lines of hex to the end of the reader, and writes a line of text for each: the telegram
+/// that it spells, or its fault. The whole text is made before the first write.
+///
+/// At `Ok` the writer holds the text of all that the reader had, and the status is `Refused`
+/// exactly where some line is a fault. Faults: `Read` where the reader failed, or all 2,097,152
+/// read calls were made and most of them were interrupted; `TooLong` for an input of more than 1,048,576 bytes;
+/// `Write` where the writer failed, or was interrupted 1,001 times in a row; `NoMemory`. After
+/// `Write` a front of the text went out, after the other faults nothing.
+pub fn decode_lines<R: Source, W: Sink>(
+    alloc: Global,
+    reader: &mut R,
+    writer: &mut W,
+) -> Result<Status, CliFault>
+    ensures text { OnOk result (IfSome (R.remaining reader.old) (λ input.
+        Appends (W.contents writer.old) (W.contents writer.new) (output_of input))) }
+    ensures status { IfOk result (λ status. IfSome (R.remaining reader.old) (λ input.
+        status ≡ status_of (refuses input))) }
+    ensures fits { OnOk result (IfSome (R.remaining reader.old) (λ input. length input ≤ byte_limit)) }
+
+    ensures write_fits { IsErrOf result CliFault.Write
+        → IfSome (R.remaining reader.old) (λ input. length input ≤ byte_limit) }
+    ensures calls { R.calls reader.new ≤ R.calls reader.old + call_limit }
+
+    // A fault comes only where its cause is.
+    ensures read { IsErrOf result CliFault.Read
+        → IsReadCause (R.failures reader.old) (R.failures reader.new) (R.calls reader.old) (R.calls reader.new)
+        (R.interruptions reader.old) (R.interruptions reader.new) }
+    ensures too_long { IsErrOf result CliFault.TooLong
+        → IfSome (R.remaining reader.old) (λ input. byte_limit < length input) }
+    ensures write { IsErrOf result CliFault.Write
+        → IsWriteCause (W.failures writer.old) (W.failures writer.new) (W.interruptions writer.old) (W.interruptions writer.new) }
+
+    // A failure of the reader or of the writer is told.
+    ensures reader_failed { result ≢ Err CliFault.Read → R.failures reader.new ≡ R.failures reader.old }
+    ensures writer_failed { result ≢ Err CliFault.Write → W.failures writer.new ≡ W.failures writer.old }
+
+    // After a failed write a front of the text went out, after another fault nothing.
+    ensures front { IsErrOf result CliFault.Write → IfSome (R.remaining reader.old) (λ input.
+        AppendsFront (W.contents writer.old) (W.contents writer.new) (output_of input)) }
+    ensures nothing { IfErr result (λ fault. fault ≢ CliFault.Write
+        → Keeps (W.contents writer.old) (W.contents writer.new)) }
+{
+    let input = read_input(alloc, reader)?;
+    let decoded = decode(alloc, &input)?;
+    write_out(writer, &decoded.text)?;
+    Ok(if decoded.is_refused {
+        Status::Refused
+    } else {
+        Status::Done
+    })
+}

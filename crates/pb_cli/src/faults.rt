@@ -1,0 +1,48 @@
+ghost use Rattle.std.specs.Prelude.{◌≡◌};
+ghost use Rattle.pb_cli.specs.declared.faults.CliFault.TheVariants.{NoMemory};
+
+use std::alloc::{AllocError, AllocFailed};
+use thiserror::Error;
+
+/// How a call ended that wrote its whole text: the program's exit statuses 0 and 1.
+#[derive(Clone, Copy, Debug, PartialEq, Eq)]
+pub enum Status {
+    /// Nothing was refused: 0.
+    Done,
+    /// Something that was read is refused, as the text says: 1.
+    Refused,
+}
+
+/// Why a call did not write its whole text. Shown, it is the program's words for it.
+#[derive(Clone, Copy, Debug, PartialEq, Eq, Error)]
+pub enum CliFault {
+    /// The reader failed, or the limit of 2,097,152 read calls is reached. Nothing was written.
+    #[error("read fault")]
+    Read,
+    /// The input has more than 1,048,576 bytes. Nothing was written.
+    #[error("input too long")]
+    TooLong,
+    /// The writer failed, or answered an interruption more than 1,000 times in a row. A front of
+    /// the text was written.
+    #[error("write fault")]
+    Write,
+    /// Memory was refused. Nothing was written.
+    #[error("no memory")]
+    NoMemory,
+}
+
+impl From<AllocError> for CliFault {
+    ghost from_gives = { λ _ fault. fault ≡ NoMemory };
+
+    fn from(_refused: AllocError) -> CliFault {
+        CliFault::NoMemory
+    }
+}
+
+impl<T: Drop> From<AllocFailed<T>> for CliFault {
+    ghost from_gives = { λ _ fault. fault ≡ NoMemory };
+
+    fn from(_refused: AllocFailed<T>) -> CliFault {
+        CliFault::NoMemory
+    }
+}

@@ -1,0 +1,36 @@
+//! What the program `ringplay` does, over any reader and writer.
+//!
+//! [`ask`] reads the program's words, and [`decode_lines`] turns lines of hex into lines of text.
+//! The contracts name the bytes: what is written is a stated function of what is read, and `Read`,
+//! `TooLong` and `Write` come only where their cause is. [`Source`] and [`Sink`] are what is read
+//! from and written to; [`CountedReader`] and [`CountedWriter`] make them of any reader and writer
+//! of std.
+#![tactic(auto)]
+
+mod asking;
+mod characters;
+mod counted_reader;
+mod counted_writer;
+mod decoding;
+mod faults;
+mod laws;
+mod lines;
+mod reading;
+mod streams;
+mod texts;
+mod words;
+mod writing;
+
+pub use asking::ask;
+pub use counted_reader::CountedReader;
+pub use counted_writer::CountedWriter;
+pub use decoding::decode_lines;
+pub use faults::{CliFault, Status};
+pub use laws::spelled_text_is_the_telegrams;
+pub use reading::{INPUT_LIMIT, READ_CALLS};
+pub use streams::{ReadFault, Sink, Source, WriteFault};
+pub use words::{Ask, AskFault};
+pub use writing::RETRIES_IN_A_ROW;
+
+#[cfg(test)]
+mod tests;

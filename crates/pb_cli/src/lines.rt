@@ -1,0 +1,73 @@
+ghost use Rattle.std.specs.Prelude.{◌≡◌, ◌++◌, ◌||◌, IfOk, OnOk, is_some};
+ghost use Rattle.pb_telegram.specs.Faults.{fault_of};
+ghost use Rattle.pb_cli.specs.Characters.{characters_of};
+ghost use Rattle.pb_cli.specs.Decoding.{answer_text, hex_text, is_refused, line_text, output_of, refuses};
+
+use crate::characters::read_characters;
+use crate::texts::{push_fault, push_telegram};
+use bstr::ByteSlice;
+use pb_telegram::{RxChar, parse};
+use std::alloc::{AllocError, Global};
+
+/// Lines of text, and whether one of them is a fault.
+#[derive(Drop)]
+pub struct Decoded {
+    pub text: Vec<u8>,
+    pub is_refused: bool,
+}
+
+/// The lines of text for lines of hex.
+pub fn decode(alloc: Global, input: &[u8]) -> Result<Decoded, AllocError>
+    ensures text { IfOk result (λ decoded. decoded.text.items ≡ output_of input.now) }
+    ensures refused { IfOk result (λ decoded. decoded.is_refused ≡ refuses input.now) }
+{
+    let mut text = Vec::new(alloc);
+    let mut chars = Vec::new(alloc);
+    let mut is_refused = false;
+    for line in input.lines() {
+        is_refused |= push_line(&mut text, &mut chars, line)?;
+    }
+    Ok(Decoded { text, is_refused })
+}
+
+/// Appends the line of text for a line of hex, and says whether it is refused; `chars` is room for
+/// its characters.
+fn push_line(text: &mut Vec<u8>, chars: &mut Vec<RxChar>, line: &[u8]) -> Result<bool, AllocError>
+    ensures text { OnOk result (text.new.items ≡ text.old.items ++ line_text line.now) }
+    ensures refused { IfOk result (λ refused. refused ≡ is_refused (characters_of line.now)) }
+{
+    let refused = push_hex(text, chars, line)?;
+    text.extend_from_slice(b"\n")?;
+    Ok(refused)
+}
+
+/// Appends the text of the characters that a line stands for, where it is hex, and says whether the
+/// line is refused.
+fn push_hex(text: &mut Vec<u8>, chars: &mut Vec<RxChar>, line: &[u8]) -> Result<bool, AllocError>
+    ensures text { OnOk result (text.new.items ≡ text.old.items ++ hex_text (characters_of line.now)) }
+    ensures refused { IfOk result (λ refused. refused ≡ is_refused (characters_of line.now)) }
+{
+    if read_characters(chars, line)? {
+        return push_answer(text, chars);
+    }
+    text.extend_from_slice(b"fault 0 NotHex")?;
+    Ok(true)
+}
+
+/// Appends the text of characters, the telegram that they spell or their first fault, and says
+/// whether it is a fault.
+fn push_answer(text: &mut Vec<u8>, chars: &[RxChar]) -> Result<bool, AllocError>
+    ensures text { OnOk result (text.new.items ≡ text.old.items ++ answer_text chars.now) }
+    ensures refused { IfOk result (λ refused. refused ≡ is_some (fault_of chars.now)) }
+{
+    match parse(chars) {
+        Ok(telegram) => {
+            push_telegram(text, &telegram)?;
+            Ok(false)
+        }
+        Err(fault) => {
+            push_fault(text, &fault)?;
+            Ok(true)
+        }
+    }
+}

@@ -1,0 +1,64 @@
+ghost use Rattle.std.specs.Prelude.{◌≡◌, ◌≤◌, ◌<◌, ℕ, List, Option, length, IfOk};
+ghost use Rattle.std.specs.Io.KnownBytes.{ReadConsumes, WriteAppends};
+ghost use Rattle.pb_cli.specs.Counts.{one_more, read_failures, read_interruptions, write_failures, write_interruptions};
+
+/// Why a read gave no bytes.
+#[derive(Clone, Copy, Debug, PartialEq, Eq)]
+pub enum ReadFault {
+    /// It was interrupted, and may be tried again.
+    Interrupted,
+    /// The reader failed.
+    Failed,
+}
+
+/// Why a write took no bytes.
+#[derive(Clone, Copy, Debug, PartialEq, Eq)]
+pub enum WriteFault {
+    /// It was interrupted, and may be tried again.
+    Interrupted,
+    /// The writer failed, or took none of the bytes.
+    Failed,
+}
+
+/// What a call reads from: a reader that says how often it was called and has failed.
+///
+/// A count stays at 2^64 - 1.
+pub trait Source {
+    // The bytes that reads will give from here on, where they are known.
+    ghost remaining: { Self → Option (List ℕ) };
+    // How many read calls were made.
+    ghost calls: { Self → ℕ };
+    // How many of them were interrupted.
+    ghost interruptions: { Self → ℕ };
+    // How many of them failed; an interruption is no failure.
+    ghost failures: { Self → ℕ };
+
+    /// Reads some bytes into the front of `buffer`, and says how many: 0 only at the end, or where
+    /// the buffer is empty.
+    fn read(&mut self, buffer: &mut [u8]) -> Result<usize, ReadFault>
+        ensures bound { IfOk result (λ count. count ≤ length buffer.new) }
+        ensures bytes { ReadConsumes (remaining self.old) (remaining self.new) result buffer.new }
+        ensures calls { calls self.new ≡ one_more (calls self.old) }
+        ensures interruptions { interruptions self.new ≡ read_interruptions (interruptions self.old) result }
+        ensures failures { failures self.new ≡ read_failures (failures self.old) result };
+}
+
+/// What a call writes to: a writer that says how often it was interrupted and has failed.
+///
+/// A count stays at 2^64 - 1.
+pub trait Sink {
+    // The bytes that the writer holds, where they are known.
+    ghost contents: { Self → Option (List ℕ) };
+    // How many write calls were interrupted.
+    ghost interruptions: { Self → ℕ };
+    // How many write calls failed.
+    ghost failures: { Self → ℕ };
+
+    /// Writes a front of `bytes`, and says how many it took: at least one, unless there are none.
+    fn write(&mut self, bytes: &[u8]) -> Result<usize, WriteFault>
+        ensures bound { IfOk result (λ count. count ≤ length bytes.now) }
+        ensures some { IfOk result (λ count. 0 < length bytes.now → 0 < count) }
+        ensures bytes { WriteAppends (contents self.old) (contents self.new) result bytes.now }
+        ensures interruptions { interruptions self.new ≡ write_interruptions (interruptions self.old) result }
+        ensures failures { failures self.new ≡ write_failures (failures self.old) result };
+}

@@ -1,0 +1,4 @@
+mod decoding;
+mod memory;
+mod streams;
+mod words;

@@ -1,0 +1,69 @@
+use crate::{CountedReader, CountedWriter, Status, decode_lines};
+use std::test::Fail;
+
+const LINES: [(&str, &str); 23] = [
+    ("dc0302", "token da=3 sa=2"),
+    ("DC 03 02", "token da=3 sa=2"),
+    ("d C\t0 302 ", "token da=3 sa=2"),
+    ("100302494e16", "short da=3 sa=2 fc=49"),
+    ("10830249ce16", "short da=3+ sa=2 fc=49"),
+    ("107f82094a16", "fault 10 BadFcs"),
+    ("107f82090a16", "short da=127 sa=2+ fc=09"),
+    ("e5", "ack"),
+    (" \t", "fault 1 Empty"),
+    ("--0302", "fault 2 Faulty 0"),
+    ("dc03 --", "fault 2 Faulty 2"),
+    ("77", "fault 3 BadStart"),
+    ("1003", "fault 4 Truncated"),
+    ("dc7f02", "fault 8 BadAddress"),
+    ("dc8302", "fault 8 BadAddress"),
+    ("10027f49ca16", "fault 8 BadAddress"),
+    ("100302c9ce16", "fault 9 BadFc"),
+    ("100302c90017", "fault 9 BadFc"),
+    ("100302494f16", "fault 10 BadFcs"),
+    ("100302494e17", "fault 11 BadEnd"),
+    ("e5e5", "fault 12 Trailing"),
+    ("zz", "fault 0 NotHex"),
+    ("dc030", "fault 0 NotHex"),
+];
+
+#[test]
+fn a_line_of_text_for_each_line(rt: HostRuntime) -> Result<(), Fail> {
+    for (line, text) in LINES {
+        let mut writer = CountedWriter::new(Vec::new(rt.alloc()));
+        let status = decode_lines(
+            rt.alloc(),
+            &mut CountedReader::new(line.as_bytes()),
+            &mut writer,
+        )?;
+        let wanted = format!(in rt.alloc(); "{text}\n")?;
+        assert_eq!(rt; writer.writer().as_slice(), wanted.as_bytes(), "{line}");
+        let refused = text.starts_with("fault");
+        assert_eq!(rt; status == Status::Refused, refused, "{line}");
+    }
+    Ok(())
+}
+
+/// Inputs with their outputs and whether some line is refused.
+const INPUTS: [(&[u8], &str, Status); 9] = [
+    (b"", "", Status::Done),
+    (b"\n", "fault 1 Empty\n", Status::Refused),
+    (b"DC 03 02\r\ne5", "token da=3 sa=2\nack\n", Status::Done),
+    (b"e5\n", "ack\n", Status::Done),
+    (b"zz\ne5\n", "fault 0 NotHex\nack\n", Status::Refused),
+    (b"e5\n\ne5", "ack\nfault 1 Empty\nack\n", Status::Refused),
+    (b"e5\r", "fault 0 NotHex\n", Status::Refused),
+    (b"e5\r\r\ne5", "fault 0 NotHex\nack\n", Status::Refused),
+    (b"\xff\x00\ne5\n", "fault 0 NotHex\nack\n", Status::Refused),
+];
+
+#[test]
+fn lines_end_with_a_line_feed_or_the_input(rt: HostRuntime) -> Result<(), Fail> {
+    for (input, output, wanted) in INPUTS {
+        let mut writer = CountedWriter::new(Vec::new(rt.alloc()));
+        let status = decode_lines(rt.alloc(), &mut CountedReader::new(input), &mut writer)?;
+        assert_eq!(rt; writer.writer().as_slice(), output.as_bytes(), "{input:?}");
+        assert_eq!(rt; status, wanted, "{input:?}");
+    }
+    Ok(())
+}

@@ -1,0 +1,192 @@
+use crate::{CliFault, CountedReader, CountedWriter, Status, decode_lines};
+use std::io;
+use std::io::{Error, ErrorKind, Read, Write};
+use std::test::Fail;
+
+const INPUT: &[u8] = b"dc0302\ne5\nzz\n";
+
+const OUTPUT: &[u8] = b"token da=3 sa=2\nack\nfault 0 NotHex\n";
+
+/// Gives one byte a call, and answers an error at one call.
+#[derive(Drop)]
+struct ByteReader {
+    rest: &'static [u8],
+    calls_before: u32,
+    kind: ErrorKind,
+}
+
+impl Read for ByteReader {
+    fn read(&mut self, buffer: &mut [u8]) -> io::Result<usize> {
+        if self.calls_before == 0 {
+            self.calls_before = u32::MAX;
+            return Err(Error::from(self.kind));
+        }
+        self.calls_before -= 1;
+        match self.rest {
+            [byte, rest @ ..] if !buffer.is_empty() => {
+                buffer[0] = *byte;
+                self.rest = rest;
+                Ok(1)
+            }
+            _ => Ok(0),
+        }
+    }
+}
+
+/// Takes one byte a call, and from one call on answers errors, a few or without end.
+#[derive(Drop)]
+struct ByteWriter {
+    taken: Vec<u8>,
+    calls_before: u32,
+    kind: ErrorKind,
+    errors: u32,
+}
+
+impl Write for ByteWriter {
+    fn write(&mut self, bytes: &[u8]) -> io::Result<usize> {
+        if self.calls_before == 0 && self.errors > 0 {
+            self.errors -= 1;
+            return Err(Error::from(self.kind));
+        }
+        self.calls_before = self.calls_before.saturating_sub(1);
+        match bytes {
+            [byte, ..] => {
+                self.taken.push(*byte)?;
+                Ok(1)
+            }
+            [] => Ok(0),
+        }
+    }
+
+    fn flush(&mut self) -> io::Result<()> {
+        Ok(())
+    }
+}
+
+/// Takes no byte.
+#[derive(Drop)]
+struct FullWriter;
+
+impl Write for FullWriter {
+    fn write(&mut self, _bytes: &[u8]) -> io::Result<usize> {
+        Ok(0)
+    }
+
+    fn flush(&mut self) -> io::Result<()> {
+        Ok(())
+    }
+}
+
+#[test]
+fn a_reader_that_fails_at_any_call(rt: HostRuntime) {
+    for calls_before in 0..14 {
+        let mut reader = CountedReader::new(ByteReader {
+            rest: INPUT,
+            calls_before,
+            kind: ErrorKind::UnexpectedEof,
+        });
+        let mut writer = CountedWriter::new(Vec::new(rt.alloc()));
+        let answer = decode_lines(rt.alloc(), &mut reader, &mut writer);
+        assert_eq!(rt; answer, Err(CliFault::Read), "at call {calls_before}");
+        assert_eq!(rt; reader.failures(), 1);
+        assert!(rt; writer.writer().is_empty());
+    }
+}
+
+#[test]
+fn an_interrupted_read_is_tried_again(rt: HostRuntime) {
+    for calls_before in 0..14 {
+        let mut reader = CountedReader::new(ByteReader {
+            rest: INPUT,
+            calls_before,
+            kind: ErrorKind::Interrupted,
+        });
+        let mut writer = CountedWriter::new(Vec::new(rt.alloc()));
+        let answer = decode_lines(rt.alloc(), &mut reader, &mut writer);
+        assert_eq!(rt; answer, Ok(Status::Refused), "at call {calls_before}");
+        assert_eq!(rt; writer.writer().as_slice(), OUTPUT);
+        assert_eq!(rt; reader.calls(), 15);
+    }
+}
+
+/// Is interrupted at each call.
+#[derive(Drop)]
+struct InterruptedReader;
+
+impl Read for InterruptedReader {
+    fn read(&mut self, _buffer: &mut [u8]) -> io::Result<usize> {
+        Err(Error::from(ErrorKind::Interrupted))
+    }
+}
+
+#[test]
+fn reading_ends_at_the_limit_of_calls(rt: HostRuntime) {
+    let mut reader = CountedReader::new(InterruptedReader);
+    let mut writer = CountedWriter::new(Vec::new(rt.alloc()));
+    let answer = decode_lines(rt.alloc(), &mut reader, &mut writer);
+    assert_eq!(rt; answer, Err(CliFault::Read));
+    assert_eq!(rt; reader.calls(), 2_097_152);
+    assert_eq!(rt; reader.failures(), 0);
+    assert!(rt; writer.writer().is_empty());
+}
+
+#[test]
+fn a_writer_that_fails_at_any_call(rt: HostRuntime) {
+    for calls_before in 0..35 {
+        let mut writer = CountedWriter::new(ByteWriter {
+            taken: Vec::new(rt.alloc()),
+            calls_before,
+            kind: ErrorKind::StorageFull,
+            errors: 1,
+        });
+        let answer = decode_lines(rt.alloc(), &mut CountedReader::new(INPUT), &mut writer);
+        assert_eq!(rt; answer, Err(CliFault::Write), "at call {calls_before}");
+        let taken = writer.writer().taken.as_slice();
+        assert_eq!(rt; Some(taken), OUTPUT.get(..calls_before as usize));
+        assert_eq!(rt; writer.failures(), 1);
+    }
+}
+
+#[test]
+fn an_interrupted_write_is_tried_again(rt: HostRuntime) {
+    for (errors, wanted) in [(1000, Ok(Status::Refused)), (1001, Err(CliFault::Write))] {
+        let mut writer = CountedWriter::new(ByteWriter {
+            taken: Vec::new(rt.alloc()),
+            calls_before: 3,
+            kind: ErrorKind::Interrupted,
+            errors,
+        });
+        let answer = decode_lines(rt.alloc(), &mut CountedReader::new(INPUT), &mut writer);
+        assert_eq!(rt; answer, wanted);
+        assert_eq!(rt; writer.interruptions(), u64::from(errors));
+        let length = if answer.is_ok() { OUTPUT.len() } else { 3 };
+        assert_eq!(rt; writer.writer().taken.len(), length);
+    }
+}
+
+#[test]
+fn a_write_that_takes_nothing_is_a_fault(rt: HostRuntime) {
+    let mut writer = CountedWriter::new(FullWriter);
+    let answer = decode_lines(rt.alloc(), &mut CountedReader::new(INPUT), &mut writer);
+    assert_eq!(rt; answer, Err(CliFault::Write));
+    assert_eq!(rt; writer.failures(), 1);
+}
+
+#[test]
+fn an_input_has_a_limit(rt: HostRuntime) -> Result<(), Fail> {
+    for (length, wanted) in [
+        (1_048_576, Ok(Status::Refused)),
+        (1_048_577, Err(CliFault::TooLong)),
+    ] {
+        let input = vec![in rt.alloc(); b' '; length]?;
+        let mut writer = CountedWriter::new(Vec::new(rt.alloc()));
+        let answer = decode_lines(
+            rt.alloc(),
+            &mut CountedReader::new(input.as_slice()),
+            &mut writer,
+        );
+        assert_eq!(rt; answer, wanted);
+        assert_eq!(rt; writer.writer().is_empty(), answer.is_err());
+    }
+    Ok(())
+}

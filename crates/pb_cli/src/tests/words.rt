@@ -1,0 +1,46 @@
+use crate::{Ask, AskFault, ask};
+use std::alloc::{AllocError, Global};
+use std::test::Fail;
+
+/// The program's words, its name first.
+fn words(alloc: Global, line: &str) -> Result<Vec<String>, AllocError> {
+    line.split_whitespace()
+        .map(|word| String::from_str(alloc, word))
+        .try_collect(alloc)
+}
+
+#[test]
+fn decode_is_understood(rt: HostRuntime) -> Result<(), Fail> {
+    let words = words(rt.alloc(), "ringplay decode")?;
+    assert_eq!(rt; ask(rt.alloc(), &words)?, Ask::Decode);
+    Ok(())
+}
+
+#[test]
+fn other_words_get_a_usage_text(rt: HostRuntime) -> Result<(), Fail> {
+    for (line, shown) in [
+        ("ringplay", "Usage: ringplay <COMMAND>"),
+        ("ringplay run ring.toml", "unrecognized subcommand 'run'"),
+        (
+            "ringplay audit ring.toml",
+            "unrecognized subcommand 'audit'",
+        ),
+        ("ringplay decode dc0302", "unexpected argument 'dc0302'"),
+        ("ringplay decode decode", "unexpected argument 'decode'"),
+        (
+            "ringplay --verbose decode",
+            "unexpected argument '--verbose'",
+        ),
+        ("ringplay --help", "a telegram a line"),
+        ("ringplay help", "a telegram a line"),
+        ("ringplay decode --help", "Usage: ringplay decode"),
+    ] {
+        let words = words(rt.alloc(), line)?;
+        let answer = ask(rt.alloc(), &words);
+        let Err(AskFault::Usage(text)) = answer else {
+            return Err(Fail::from("not usage"));
+        };
+        assert!(rt; text.as_str().contains(shown), "{line}: {text}");
+    }
+    Ok(())
+}

@@ -1,0 +1,26 @@
+use std::alloc::AllocError;
+use thiserror::Error;
+
+/// What the program is asked to do.
+#[derive(Clone, Copy, Debug, PartialEq, Eq)]
+pub enum Ask {
+    /// Turn lines of hex on standard input into lines of text.
+    Decode,
+}
+
+/// Why the program's words ask for nothing that it can do.
+#[derive(Debug, Drop, Error)]
+pub enum AskFault {
+    /// The words make no sense, or ask for help: the text that says what to write.
+    #[error("{0}")]
+    Usage(String),
+    /// Memory was refused.
+    #[error("no memory")]
+    NoMemory,
+}
+
+impl From<AllocError> for AskFault {
+    fn from(_refused: AllocError) -> AskFault {
+        AskFault::NoMemory
+    }
+}

@@ -1,0 +1,52 @@
+ghost use Rattle.std.specs.Prelude.{◌≡◌, ◌≢◌, ◌≤◌, ◌<◌, length, take, Err, IfOk, IfErr, OnOk, IsOk, OnErr, IfSome, IsErrOf};
+ghost use Rattle.std.specs.Io.KnownBytes.{Appends, Keeps};
+ghost use Rattle.pb_cli.specs.Counts.{GrowsBy};
+ghost use Rattle.pb_cli.specs.Writing.{AppendsFront, IsWriteCause};
+
+use crate::faults::CliFault;
+use crate::streams::{Sink, WriteFault};
+
+/// How often in a row an interrupted write is tried again.
+pub const RETRIES_IN_A_ROW: u32 = 1000;
+
+/// Writes all of the text.
+///
+/// Fault: `Write` where the writer failed, or was interrupted `RETRIES_IN_A_ROW` + 1 times in a
+/// row; a front of the text was written then.
+pub fn write_out<W: Sink>(writer: &mut W, text: &[u8]) -> Result<(), CliFault>
+    ensures whole { OnOk result (Appends (W.contents writer.old) (W.contents writer.new) text.now) }
+    ensures front { OnErr result (AppendsFront (W.contents writer.old) (W.contents writer.new) text.now) }
+    ensures write { IfErr result (λ fault. fault ≡ CliFault.Write) }
+    ensures cause { OnErr result (IsWriteCause (W.failures writer.old) (W.failures writer.new)
+        (W.interruptions writer.old) (W.interruptions writer.new)) }
+    ensures unfailed { OnOk result (W.failures writer.new ≡ W.failures writer.old) }
+{
+    let mut written = 0;
+    while written < text.len() {
+        written += write_some(writer, &text[written..])?;
+    }
+    Ok(())
+}
+
+/// Writes a front of the bytes, of which there are some, and says how many it took: at least one.
+fn write_some<W: Sink>(writer: &mut W, bytes: &[u8]) -> Result<usize, CliFault>
+    requires { 0 < length bytes.now }
+    ensures some { IfOk result (λ count. 0 < count) }
+    ensures bound { IfOk result (λ count. count ≤ length bytes.now) }
+    ensures front { IfOk result (λ count. Appends (W.contents writer.old) (W.contents writer.new) (take count bytes.now)) }
+    ensures nothing { OnErr result (Keeps (W.contents writer.old) (W.contents writer.new)) }
+    ensures write { IfErr result (λ fault. fault ≡ CliFault.Write) }
+    ensures cause { OnErr result (IsWriteCause (W.failures writer.old) (W.failures writer.new)
+        (W.interruptions writer.old) (W.interruptions writer.new)) }
+    ensures unfailed { OnOk result (W.failures writer.new ≡ W.failures writer.old) }
+    ensures later { GrowsBy 0 (W.interruptions writer.old) (W.interruptions writer.new) }
+{
+    for _interruption in 0..RETRIES_IN_A_ROW + 1 {
+        match writer.write(bytes) {
+            Ok(count) => return Ok(count),
+            Err(WriteFault::Interrupted) => {}
+            Err(WriteFault::Failed) => return Err(CliFault::Write),
+        }
+    }
+    Err(CliFault::Write)
+}

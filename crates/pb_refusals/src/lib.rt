@@ -1,0 +1,21 @@
+//! Ordered refusals: which of several faults a call answers.
+//!
+//! Where several things may be wrong with an input, a definition lists its faults in their order,
+//! each beside the test of its condition on the whole input. The answer is the first fault whose
+//! test holds. This crate has the words for that, and the laws that say what they mean.
+#![tactic(auto)]
+
+ghost use Rattle.std.specs.Prelude.{◌≡◌, Bool, List, Some, None, ◌↔◌};
+ghost use Rattle.pb_refusals.specs.FirstFault.{first_fault, IsFirst, NoneHolds};
+
+/// A fault is the first of the list exactly where its test holds and no test before it does.
+pub fn first_fault_is_first<F>()
+    ensures found { (tests : List (Bool × F)) (fault : F) → first_fault tests ≡ Some fault → IsFirst tests fault }
+    ensures only { (tests : List (Bool × F)) (fault : F) → IsFirst tests fault → first_fault tests ≡ Some fault }
+{}
+
+/// There is no first fault exactly where no test holds.
+pub fn no_fault_means_none_holds<F>()
+    ensures found { (tests : List (Bool × F)) → first_fault tests ≡ None → NoneHolds tests }
+    ensures only { (tests : List (Bool × F)) → NoneHolds tests → first_fault tests ≡ None }
+{}

@@ -1,0 +1,13 @@
+use Rattle.std.proofs.Common.{rules, ◌≡◌, Some}
+use Rattle.std.specs.Prelude.{IfOk, IfErr}
+use Rattle.pb_telegram.specs.Grammar.{Spells}
+use Rattle.pb_telegram.specs.Faults.{fault_of}
+use Rattle.pb_telegram.proofs.Spelled.{spells_from_octets}
+use Rattle.pb_telegram.proofs.OneTelegram.{finds_what_is_spelled}
+use Rattle.pb_telegram.proofs.parsing.parse.Goals as goal
+
+pub returns-clause-spelled : goal.returns-clause-spelled
+returns-clause-spelled c =
+    let right : IfOk c.parse_octets.result (Spells c.args.chars.now) = search (rules, spells_from_octets) in
+    let wrong : IfErr c.parse_octets.result (λ fault. fault_of c.args.chars.now ≡ Some fault) = search rules in
+    finds_what_is_spelled c.args.chars.now c.parse_octets.result right wrong

@@ -1,0 +1,31 @@
+//! Telegrams of the PROFIBUS data link layer (FDL): octets, and what they spell.
+//!
+//! A receiver takes characters off the bus, each good or damaged ([`RxChar`]). Characters spell a
+//! [`Telegram`] when all of them are good and their octets are the telegram's one spelling.
+//! [`parse`] finds that telegram or the first fault, and [`write`] gives the spelling.
+//! No call takes memory.
+#![tactic(auto)]
+
+mod chars;
+mod control;
+mod faults;
+mod laws;
+mod parsing;
+mod telegrams;
+mod writing;
+
+pub use chars::RxChar;
+pub use control::{Fc, fcs};
+pub use faults::TelegramFault;
+pub use laws::{
+    first_fault_comes_first, no_spelling_begins_another, one_telegram_for_octets,
+    what_is_spelled_has_no_fault,
+};
+pub use parsing::parse;
+pub use telegrams::{
+    ACKNOWLEDGEMENT, END, SHORT_START, ShortTelegram, TOKEN_START, Telegram, TokenTelegram,
+};
+pub use writing::write;
+
+#[cfg(test)]
+mod tests;

@@ -1,0 +1,79 @@
+//! `ringplay`: telegrams of the PROFIBUS data link layer (FDL), from hex to text.
+//!
+//! Opens the streams, calls `pb_cli`, and turns its answer into an exit status: 0 done, 1 something
+//! is refused, 2 usage, 3 a read or write fault or too long an input, 4 no memory.
+#![tactic(auto)]
+
+ghost use Rattle.std.specs.Prelude.{◌≡◌};
+ghost use Rattle.ringplay.specs.ExitStatus.{exit_status_of};
+
+use pb_cli::{Ask, AskFault, CliFault, CountedReader, CountedWriter, Status, ask, decode_lines};
+use std::fmt::Display;
+use std::io::ErrorKind;
+use std::process::ExitCode;
+use std::rt::Env;
+use std::{env, io};
+
+const DONE: u8 = 0;
+
+const REFUSED: u8 = 1;
+
+const USAGE: u8 = 2;
+
+const STREAM: u8 = 3;
+
+const MEMORY: u8 = 4;
+
+fn main(rt: HostRuntime) -> ExitCode {
+    let status = match asked(&rt) {
+        Ok(Ask::Decode) => exit_status(&rt, decode(&rt)),
+        Err(AskFault::Usage(text)) => {
+            let _ = rt.eprint(text);
+            USAGE
+        }
+        Err(AskFault::NoMemory) => tell(&rt, CliFault::NoMemory, MEMORY),
+    };
+    ExitCode::from(status)
+}
+
+/// What the program's words ask for; a word that is no text is told as one that makes no sense.
+fn asked(rt: &(impl AllocGlobal + Env)) -> Result<Ask, AskFault> {
+    match env::args(rt) {
+        Ok(words) => {
+            let words: Vec<String> = words.collect(rt.alloc())?;
+            ask(rt.alloc(), &words)
+        }
+        Err(error) if error.kind() == ErrorKind::OutOfMemory => Err(AskFault::NoMemory),
+        Err(_) => {
+            let text = String::from_str(rt.alloc(), "error: a word is no text\n")?;
+            Err(AskFault::Usage(text))
+        }
+    }
+}
+
+/// `ringplay decode`, from standard input to standard output.
+fn decode(rt: &(impl AllocGlobal + Input + Print)) -> Result<Status, CliFault> {
+    let mut reader = CountedReader::new(rt.reader());
+    let mut writer = CountedWriter::new(io::writer(rt));
+    decode_lines(rt.alloc(), &mut reader, &mut writer)
+}
+
+/// The exit status of an answer; a fault's words go to standard error.
+fn exit_status(rt: &impl Eprint, answer: Result<Status, CliFault>) -> u8
+    ensures { result ≡ exit_status_of answer }
+{
+    match answer {
+        Ok(Status::Done) => DONE,
+        Ok(Status::Refused) => REFUSED,
+        Err(CliFault::NoMemory) => tell(rt, CliFault::NoMemory, MEMORY),
+        Err(fault) => tell(rt, fault, STREAM),
+    }
+}
+
+/// Says why there is no full answer, and gives the exit status for it.
+fn tell(rt: &impl Eprint, words: impl Display + Drop, status: u8) -> u8
+    ensures { result ≡ status }
+{
+    let _ = rt.eprintln(words);
+    status
+}
