@@ -1,1 +1,1 @@
-mod FirstFaults
+pub mod FirstFaults

@@ -1,0 +1,9 @@
+pub mod Choices
+pub mod Turns
+pub mod Bursts
+pub mod Sensed
+pub mod Marked
+pub mod Worlds
+pub mod Passes
+pub mod WholeTelegrams
+pub mod Past

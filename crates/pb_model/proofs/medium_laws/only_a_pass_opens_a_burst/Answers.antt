@@ -1,0 +1,8 @@
+use Rattle.pb_model.proofs.Sensed.{open-started, open-with_entry}
+use Rattle.pb_model.proofs.medium_laws.only_a_pass_opens_a_burst.Goals as goal
+
+pub returns-clause-started : goal.returns-clause-started
+returns-clause-started c = open-started
+
+pub returns-clause-begun : goal.returns-clause-begun
+returns-clause-begun c = open-with_entry

@@ -1,0 +1,8 @@
+use Rattle.pb_model.specs.Step.{replay}
+use Rattle.pb_model.proofs.Passes.{pass_tells}
+use Rattle.pb_model.proofs.Worlds.{sound-new_world, sound-replay}
+use Rattle.pb_model.proofs.world_laws.what_a_pass_tells_a_tap.Goals as goal
+
+pub returns : goal.returns
+returns c = λ p specs w events again d tap next reply t none new ok here running.
+    pass_tells (replay w events) next reply d tap t (sound-replay w events (sound-new_world p specs w none new)) ok here running

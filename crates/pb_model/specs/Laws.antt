@@ -1,0 +1,86 @@
+-- What the laws speak of.
+use Rattle.std.specs.Prelude.{◌≡◌, ℕ, ◌<◌, ◌≤◌, Bool, true, false, List, [], ◌∷◌, ◌++◌, slice_get, count_by, Some, IfSome}
+use Rattle.std.specs.List.{list_any}
+use Rattle.pb_telegram.specs.declared.chars.RxChar.{RxChar}
+use Rattle.pb_model.specs.Bus.{Params, Span}
+use Rattle.pb_model.specs.Marks.{Mark, Begin, End, moment_of}
+use Rattle.pb_model.specs.Station.{Station, due_of}
+use Rattle.pb_model.specs.Trace.{Record, Entry, Sent, entry_begin, entry_end, characters_at}
+use Rattle.pb_model.specs.Medium.{Tap, lasts_through, overlaps, hears_from, sends_during, reaches, fills_burst, sensed}
+use Rattle.pb_model.specs.World.{World}
+
+-- ---- stations
+
+-- a station without unread marks is due later than the clock, or not at all
+abbrev pub IsDueLater : Params → Station → ℕ → Type 0
+IsDueLater p s now = IfSome (due_of p s []) (λ due. now < due)
+
+-- ---- bursts
+
+-- a burst is open at a moment: something has begun before it and ends after it
+abbrev pub is_open : List Span → ℕ → Bool
+is_open spans m = list_any (lasts_through m) spans
+
+-- Begins and Ends take turns, from whether a burst is open before to whether one is open after
+abbrev pub Alternates : Bool → List Mark → Bool → Type 0
+Alternates before [] after = before ≡ after
+Alternates true (Begin at seen ∷ ms) after = ⊥
+Alternates false (Begin at seen ∷ ms) after = Alternates true ms after
+Alternates true (End at seen chars ∷ ms) after = Alternates false ms after
+Alternates false (End at seen chars ∷ ms) after = ⊥
+
+-- the marks stand in order of time, from a moment to a moment
+abbrev pub InOrder : ℕ → List Mark → ℕ → Type 0
+InOrder from [] to = from ≤ to
+InOrder from (m ∷ ms) to = (from ≤ moment_of m) × InOrder (moment_of m) ms to
+
+-- what it means that a telegram fills a burst of a tap: it is another's, the tap heard it from its beginning and nothing else meanwhile, and sent nothing
+pub record FillsAlone (p : Params) (tap : ℕ) (t : Tap) (trace : List Entry) (r : Record) : Type 0 where
+  pub another : r.tap ≡ tap → ⊥
+  pub ran : hears_from t (reaches p r).begin ≡ true
+  pub alone : count_by (overlaps (reaches p r)) (sensed p tap t.since trace) ≡ 1
+  pub silent : list_any (sends_during tap (reaches p r)) trace ≡ false
+
+-- a telegram of the trace fills a burst of the tap that ends at a moment, and these are its characters there
+pub record FillsBurst (p : Params) (tap : ℕ) (t : Tap) (trace : List Entry) (m : ℕ) (chars : List RxChar) : Type 0 where
+  pub before : List Entry
+  pub telegram : Record
+  pub after : List Entry
+  pub in_trace : trace ≡ before ++ Sent telegram ∷ after
+  pub fills : fills_burst p tap t trace telegram ≡ true
+  pub ends : (reaches p telegram).end ≡ m
+  pub characters : chars ≡ characters_at tap telegram
+
+-- ---- worlds
+
+-- every entry has begun by a moment, and lasts for some time
+abbrev pub AllBegun : ℕ → List Entry → Type 0
+AllBegun now [] = Unit {0}
+AllBegun now (e ∷ es) = (entry_begin e ≤ now) × (entry_begin e < entry_end e) × AllBegun now es
+
+-- the unread marks of each tap stand in order of time up to the clock, and no tap has started later
+abbrev pub AllInOrder : ℕ → List Tap → Type 0
+AllInOrder now [] = Unit {0}
+AllInOrder now (t ∷ ts) = (t.since ≤ now) × InOrder 0 t.marks now × AllInOrder now ts
+
+-- what holds of a world that events have led to from a new one, on a bus without delay
+pub record IsSound (w : World) : Type 0 where
+  pub no_delay : w.params.ttd ≡ 0
+  pub begun : AllBegun w.now w.trace
+  pub in_order : AllInOrder w.now w.taps
+
+-- A pass gives a running tap the marks of the bursts that begin and end in it: they alternate, from whether a burst is open at the clock to whether one is open at the new clock.
+pub record PassTells (w next : World) (tap : ℕ) (t : Tap) : Type 0 where
+  pub marks : List Mark
+  pub delivered : slice_get next.taps tap ≡ Some (record t { marks = t.marks ++ marks })
+  pub alternate : Alternates (is_open (sensed w.params tap t.since w.trace) w.now) marks (is_open (sensed w.params tap t.since w.trace) next.now)
+
+-- every entry lasts for some time, and has ended by a moment
+abbrev pub AllOver : ℕ → List Entry → Type 0
+AllOver m [] = Unit {0}
+AllOver m (e ∷ es) = (entry_begin e < entry_end e) × (entry_end e ≤ m) × AllOver m es
+
+-- no entry begins before a moment
+abbrev pub AllFrom : ℕ → List Entry → Type 0
+AllFrom m [] = Unit {0}
+AllFrom m (e ∷ es) = (m ≤ entry_begin e) × AllFrom m es

@@ -1,0 +1,36 @@
+-- What a station is told of the bus.
+use Rattle.std.specs.Prelude.{ℕ, if◌then◌else◌, List, slice_index, Option, Some, None}
+use Rattle.pb_telegram.specs.Faults.{octets, is_token, fault_of}
+use Rattle.pb_telegram.specs.declared.chars.RxChar.{RxChar}
+use Rattle.pb_telegram.specs.declared.faults.TelegramFault.{TelegramFault}
+
+-- activity of others begins or ends at a moment; the mark is delivered at the moment `seen`. An end brings the characters.
+pub data Mark : Type 0 where
+  Begin : (at seen : ℕ) → Mark
+  End : (at seen : ℕ) (chars : List RxChar) → Mark
+
+-- the mark's own moment
+abbrev pub moment_of : Mark → ℕ
+moment_of (Begin at seen) = at
+moment_of (End at seen chars) = at
+
+abbrev pub seen_at : Mark → ℕ
+seen_at (Begin at seen) = seen
+seen_at (End at seen chars) = seen
+
+-- what characters bring: a token telegram, another telegram, or none that is whole
+pub data Arrival : Type 0 where
+  Token : (da sa : ℕ) → Arrival
+  Other : Arrival
+  NoTelegram : Arrival
+
+-- what octets without a fault bring
+abbrev pub telegram_arrival : List ℕ → Arrival
+telegram_arrival xs = if is_token xs then Token (slice_index xs 1) (slice_index xs 2) else Other
+
+abbrev pub arrival_unless : Option TelegramFault → List ℕ → Arrival
+arrival_unless (Some fault) xs = NoTelegram
+arrival_unless None xs = telegram_arrival xs
+
+abbrev pub arrival_of : List RxChar → Arrival
+arrival_of chars = arrival_unless (fault_of chars) (octets chars)

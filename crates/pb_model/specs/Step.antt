@@ -1,0 +1,149 @@
+-- The step of the world: an event gives the next world and a reply, or it is refused.
+use Rattle.std.specs.Prelude.{ℕ, ◌+◌, Bool, true, false, if◌then◌else◌, ◌==◌, nat_lt, nat_le, not, ◌&&◌, ◌||◌, List, [], ◌∷◌, ◌++◌, length, map, slice_get, slice_set, find, Option, Some, None, Result, Ok, Err, is_some, is_none, unwrap_or}
+use Rattle.std.specs.List.{list_any}
+use Rattle.pb_model.specs.Bus.{Params, Span, bits}
+use Rattle.pb_model.specs.Station.{Station}
+use Rattle.pb_model.specs.Turn.{turn_of, started}
+use Rattle.pb_model.specs.Trace.{Record, Hit, Entry, Sent, Noise, with_entry, heard_at_first}
+use Rattle.pb_model.specs.Medium.{Tap, at_tap, contains_moment, new_marks, entry_at}
+use Rattle.pb_model.specs.World.{World, Event, Turn, Pass, Damage, Start, Reply, Fault, NoSuchTap, Running, NotRunning, NothingInAir, ZeroTime, TooFar, ClockFull, InboxFull, TraceFull, clock_limit, mark_limit, trace_limit, unless, next_end, is_in_air_by}
+
+-- ---- Turn
+
+-- the new telegram of a tap
+abbrev pub sending : {X : Type 0} → ℕ → List ℕ → ℕ → List X → Record
+sending tap octets now taps = record {
+  tap = tap;
+  octets = octets;
+  begin = now;
+  end = now + bits (length octets);
+  hits = [];
+  heard = heard_at_first tap 0 taps;
+}
+
+abbrev pub with_speech : World → ℕ → Option (List ℕ) → List Entry
+with_speech w tap None = w.trace
+with_speech w tap (Some octets) = with_entry (Sent (sending tap octets w.now w.taps)) w.trace
+
+-- the world after a tap's station and what it says are known
+abbrev pub after_turn : World → ℕ → Tap → Station × Option (List ℕ) → Result (World × Reply) Fault
+after_turn w tap t turn =
+    unless ((not t.running, NotRunning) ∷ (is_some turn.1 && nat_le trace_limit (length w.trace), TraceFull) ∷ []) (
+      record w { trace = with_speech w tap turn.1; taps = slice_set w.taps tap (record t { station = turn.0; marks = [] }) },
+      record { now = w.now; spoke = turn.1 },
+    )
+
+abbrev pub step_turn : Bool → World → ℕ → Option Tap → Result (World × Reply) Fault
+step_turn again w tap None = Err NoSuchTap
+step_turn again w tap (Some t) = after_turn w tap t (turn_of w.params again t.station t.marks w.now)
+
+-- ---- Pass
+
+-- the taps with their new marks, the first of them at a position
+abbrev pub told : Params → List Entry → ℕ → ℕ → ℕ → List Tap → List Tap
+told p trace from to tap [] = []
+told p trace from to tap (t ∷ ts) = record t { marks = t.marks ++ new_marks p tap t trace from to } ∷ told p trace from to (tap + 1) ts
+
+-- the first of some taps that has more unread marks than it may
+abbrev pub first_full : ℕ → List Tap → Option ℕ
+first_full tap [] = None
+first_full tap (t ∷ ts) = if nat_lt mark_limit (length t.marks) then Some tap else first_full (tap + 1) ts
+
+abbrev pub is_past : Option ℕ → ℕ → Bool
+is_past None m = false
+is_past (Some end) m = nat_lt end m
+
+abbrev pub pass_faults : World → ℕ → List Tap → List (Bool × Fault)
+pass_faults w bits taps =
+    (bits == 0, ZeroTime)
+    ∷ (is_past (next_end w) (w.now + bits), TooFar (unwrap_or (next_end w) 0))
+    ∷ (nat_lt clock_limit (w.now + bits), ClockFull)
+    ∷ (is_some (first_full 0 taps), InboxFull (unwrap_or (first_full 0 taps) 0))
+    ∷ []
+
+abbrev pub after_pass : World → ℕ → List Tap → Result (World × Reply) Fault
+after_pass w bits taps =
+    let now = w.now + bits in
+    unless (pass_faults w bits taps) (
+      record w { now = now; taps = taps; trace = map (entry_at w.params w.taps w.trace now) w.trace },
+      record { now = now; spoke = None },
+    )
+
+abbrev pub step_pass : World → ℕ → Result (World × Reply) Fault
+step_pass w bits = after_pass w bits (told w.params w.trace w.now (w.now + bits) 0 w.taps)
+
+-- ---- Damage
+
+abbrev pub with_hit : Hit → Entry → Entry
+with_hit hit (Noise span) = Noise span
+with_hit hit (Sent r) = Sent (record r { hits = hit ∷ r.hits })
+
+-- the first entry that passes the test, changed
+abbrev pub change_first : (Entry → Bool) → (Entry → Entry) → List Entry → List Entry
+change_first test change [] = []
+change_first test change (e ∷ es) = if test e then change e ∷ es else e ∷ change_first test change es
+
+-- whether the place is in the telegram, which has all octets that were meant
+abbrev pub has_place : Option Entry → Option ℕ → Bool
+has_place (Some (Sent r)) (Some place) = nat_lt place (length r.octets)
+has_place (Some entry) place = true
+has_place None place = false
+
+abbrev pub step_damage : World → ℕ → ℕ → Option ℕ → Option Tap → Option Tap → Result (World × Reply) Fault
+step_damage w tap speaker place at from =
+    let in_air = is_in_air_by w.params w.now speaker in
+    unless (
+    (is_none at || is_none from, NoSuchTap)
+    ∷ (tap == speaker || not (has_place (find in_air w.trace) place), NothingInAir)
+    ∷ []
+    ) (
+      record w { trace = change_first in_air (with_hit (record { tap = tap; place = place })) w.trace },
+      record { now = w.now; spoke = None },
+    )
+
+-- ---- Start
+
+abbrev pub is_there : ℕ → Option Span → Bool
+is_there now None = false
+is_there now (Some span) = contains_moment now span
+
+-- whether an entry is reaching the tap now
+abbrev pub reaches_now : Params → ℕ → ℕ → Entry → Bool
+reaches_now p tap now e = is_there now (at_tap p tap e)
+
+abbrev pub started_tap : World → ℕ → Tap → Tap
+started_tap w tap t = record t {
+  running = true;
+  since = w.now;
+  amid = list_any (reaches_now w.params tap w.now) w.trace;
+  station = started t.station t.spec.master w.now;
+  marks = [];
+}
+
+abbrev pub step_start : World → ℕ → Option Tap → Result (World × Reply) Fault
+step_start w tap None = Err NoSuchTap
+step_start w tap (Some t) =
+    unless ((t.running || list_any (is_in_air_by w.params w.now tap) w.trace, Running) ∷ []) (
+      record w { taps = slice_set w.taps tap (started_tap w tap t) },
+      record { now = w.now; spoke = None },
+    )
+
+-- ---- the step
+
+-- an event; the choice says whether a station in Checking passes the token again after a damaged end
+abbrev pub step : Bool → World → Event → Result (World × Reply) Fault
+step again w (Turn tap) = step_turn again w tap (slice_get w.taps tap)
+step again w (Pass bits) = step_pass w bits
+step again w (Damage tap speaker place) = step_damage w tap speaker place (slice_get w.taps tap) (slice_get w.taps speaker)
+step again w (Start tap) = step_start w tap (slice_get w.taps tap)
+
+-- ---- replay
+
+abbrev pub world_after : World → Result (World × Reply) Fault → World
+world_after w (Ok next) = next.0
+world_after w (Err fault) = w
+
+-- the world after a list of events, each with its choice; a refused event changes nothing
+abbrev pub replay : World → List (Bool × Event) → World
+replay w [] = w
+replay w (e ∷ es) = replay (world_after w (step e.0 w e.1)) es

@@ -1,0 +1,78 @@
+-- The trace of the bus: what was sent, and noise.
+use Rattle.std.specs.Prelude.{ℕ, ◌+◌, ◌-◌, ◌/◌, Bool, true, if◌then◌else◌, ◌==◌, nat_lt, ◌||◌, ◌&&◌, List, [], ◌∷◌, take, Option, Some, None}
+use Rattle.std.specs.List.{list_any}
+use Rattle.pb_telegram.specs.declared.chars.RxChar.{RxChar}
+use Rattle.pb_telegram.specs.declared.chars.RxChar.TheVariants.{Good, Bad}
+use Rattle.pb_model.specs.Bus.{Span}
+
+-- how a telegram reached a tap
+pub data Heard : Type 0 where
+  Own : Heard
+  Whole : Heard
+  Damaged : Heard
+  Unheard : Heard
+  Pending : Heard
+
+-- damage at a tap: of the character at a place, or of every character
+pub record Hit : Type 0 where
+  pub tap : ℕ
+  pub place : Option ℕ
+
+-- one sending: all octets that were meant, from when to when it is on the bus, and what becomes of it at each tap
+pub record Record : Type 0 where
+  pub tap : ℕ
+  pub octets : List ℕ
+  pub begin : ℕ
+  pub end : ℕ
+  pub hits : List Hit
+  pub heard : List Heard
+
+pub data Entry : Type 0 where
+  Sent : Record → Entry
+  Noise : Span → Entry
+
+abbrev pub entry_begin : Entry → ℕ
+entry_begin (Sent r) = r.begin
+entry_begin (Noise span) = span.begin
+
+abbrev pub entry_end : Entry → ℕ
+entry_end (Sent r) = r.end
+entry_end (Noise span) = span.end
+
+-- ---- the order of a trace: by begin; at one begin a noise comes first, then records by tap
+
+abbrev pub rank : Entry → ℕ
+rank (Noise span) = 0
+rank (Sent r) = r.tap + 1
+
+abbrev pub goes_before : Entry → Entry → Bool
+goes_before e x = nat_lt (entry_begin e) (entry_begin x) || (entry_begin e == entry_begin x && nat_lt (rank e) (rank x))
+
+-- an entry put into the trace
+abbrev pub with_entry : Entry → List Entry → List Entry
+with_entry e [] = e ∷ []
+with_entry e (x ∷ xs) = if goes_before e x then e ∷ x ∷ xs else x ∷ with_entry e xs
+
+-- what a new telegram is to each of some taps, the first of them at a position: own to its speaker, to the others nothing yet
+abbrev pub heard_at_first : {X : Type 0} → ℕ → ℕ → List X → List Heard
+heard_at_first speaker tap [] = []
+heard_at_first speaker tap (x ∷ xs) = (if tap == speaker then Own else Pending) ∷ heard_at_first speaker (tap + 1) xs
+
+-- ---- the characters of a telegram at a tap
+
+abbrev pub is_place : ℕ → Option ℕ → Bool
+is_place place None = true
+is_place place (Some p) = p == place
+
+abbrev pub hits_place : ℕ → ℕ → Hit → Bool
+hits_place tap place hit = hit.tap == tap && is_place place hit.place
+
+-- the characters of octets, the first of them at a place of the telegram
+abbrev pub characters_from : ℕ → List Hit → ℕ → List ℕ → List RxChar
+characters_from tap hits place [] = []
+characters_from tap hits place (octet ∷ octets) =
+    (if list_any (hits_place tap place) hits then Bad else Good octet) ∷ characters_from tap hits (place + 1) octets
+
+-- the characters that went out, as a tap gets them
+abbrev pub characters_at : ℕ → Record → List RxChar
+characters_at tap r = characters_from tap r.hits 0 (take ((r.end - r.begin) / 11) r.octets)

@@ -1,0 +1,129 @@
+-- The world: taps on one medium, the clock and the trace; its events and their refusals.
+use Rattle.std.specs.Prelude.{ℕ, ◌+◌, Bool, false, if◌then◌else◌, ◌==◌, nat_lt, ◌&&◌, List, [], ◌∷◌, length, map, filter, Option, Some, None, Result, Ok, Err, is_some, unwrap_or}
+use Rattle.pb_refusals.specs.FirstFault.{first_fault}
+use Rattle.pb_model.specs.Bus.{Params}
+use Rattle.pb_model.specs.Station.{Offline, earlier}
+use Rattle.pb_model.specs.Trace.{Entry, Sent, Noise}
+use Rattle.pb_model.specs.Medium.{TapSpec, Tap, reaches}
+
+pub record World : Type 0 where
+  pub params : Params
+  pub now : ℕ
+  pub trace : List Entry
+  pub taps : List Tap
+
+pub data Event : Type 0 where
+  -- a station takes its turn
+  Turn : (tap : ℕ) → Event
+  -- time passes
+  Pass : (bits : ℕ) → Event
+  -- what a tap hears of a speaker's telegram is damaged, at a place or at every character
+  Damage : (tap speaker : ℕ) (place : Option ℕ) → Event
+  -- a station starts
+  Start : (tap : ℕ) → Event
+
+-- the clock after an event, and what a turn said
+pub record Reply : Type 0 where
+  pub now : ℕ
+  pub spoke : Option (List ℕ)
+
+-- why an event is refused, in the order of the numbers 1 to 10
+pub data Fault : Type 0 where
+  NoSuchTap : Fault
+  Running : Fault
+  NotRunning : Fault
+  NothingInAir : Fault
+  ZeroTime : Fault
+  TooFar : (furthest : ℕ) → Fault
+  ClockFull : Fault
+  QueueFull : Fault
+  InboxFull : (tap : ℕ) → Fault
+  TraceFull : Fault
+
+-- why there is no new world
+pub data NewFault : Type 0 where
+  NoTaps : NewFault
+  TooManyTaps : NewFault
+  BadAddress : (tap : ℕ) → NewFault
+
+-- ---- limits
+
+abbrev pub tap_limit : ℕ
+tap_limit = 32
+
+abbrev pub clock_limit : ℕ
+clock_limit = 1000000000000
+
+abbrev pub mark_limit : ℕ
+mark_limit = 64
+
+abbrev pub trace_limit : ℕ
+trace_limit = 100000
+
+-- ---- a call that is refused by the first fault whose test holds, and else gives an outcome
+
+abbrev pub unless_fault : {F X : Type 0} → Option F → X → Result X F
+unless_fault (Some fault) x = Err fault
+unless_fault None x = Ok x
+
+abbrev pub unless : {F X : Type 0} → List (Bool × F) → X → Result X F
+unless tests x = unless_fault (first_fault tests) x
+
+-- ---- a new world
+
+-- the ring of each master: until it learns the ring, it is the set of all master addresses
+abbrev pub master_addresses : List TapSpec → List ℕ
+master_addresses specs = map (λ spec. spec.address) (filter (λ spec. spec.master) specs)
+
+abbrev pub stopped_tap : List ℕ → TapSpec → Tap
+stopped_tap ring spec = record {
+  spec = spec;
+  running = false;
+  since = 0;
+  amid = false;
+  marks = [];
+  station = record { address = spec.address; ring = ring; phase = Offline; busy = false; quiet = 0; own = record { begin = 0; end = 0 } };
+}
+
+abbrev pub has_bad_address : Params → TapSpec → Bool
+has_bad_address p spec = nat_lt (if spec.master then p.hsa else 126) spec.address
+
+-- the first of some taps that has a bad address, the first of them at a position
+abbrev pub first_bad_address : Params → ℕ → List TapSpec → Option ℕ
+first_bad_address p tap [] = None
+first_bad_address p tap (spec ∷ specs) = if has_bad_address p spec then Some tap else first_bad_address p (tap + 1) specs
+
+abbrev pub new_faults : Params → List TapSpec → List (Bool × NewFault)
+new_faults p specs =
+    (length specs == 0, NoTaps)
+    ∷ (nat_lt tap_limit (length specs), TooManyTaps)
+    ∷ (is_some (first_bad_address p 0 specs), BadAddress (unwrap_or (first_bad_address p 0 specs) 0))
+    ∷ []
+
+abbrev pub new_world : Params → List TapSpec → Result World NewFault
+new_world p specs = unless (new_faults p specs) (record { params = p; now = 0; trace = []; taps = map (stopped_tap (master_addresses specs)) specs })
+
+-- ---- what is in the air
+
+-- an end that lies after the clock
+abbrev pub later_end : ℕ → ℕ → Option ℕ
+later_end now m = if nat_lt now m then Some m else None
+
+-- the next end of an entry, at its speaker or at the other taps
+abbrev pub entry_next_end : Params → ℕ → Entry → Option ℕ
+entry_next_end p now (Noise span) = later_end now span.end
+entry_next_end p now (Sent r) = earlier (later_end now r.end) (later_end now (reaches p r).end)
+
+-- the next end of some entries
+abbrev pub next_end_of : Params → ℕ → List Entry → Option ℕ
+next_end_of p now [] = None
+next_end_of p now (e ∷ es) = earlier (entry_next_end p now e) (next_end_of p now es)
+
+-- the next end in the air
+abbrev pub next_end : World → Option ℕ
+next_end w = next_end_of w.params w.now w.trace
+
+-- a telegram of the speaker that has not reached the others yet
+abbrev pub is_in_air_by : Params → ℕ → ℕ → Entry → Bool
+is_in_air_by p now speaker (Noise span) = false
+is_in_air_by p now speaker (Sent r) = r.tap == speaker && nat_lt now (reaches p r).end

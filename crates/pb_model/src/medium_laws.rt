@@ -1,0 +1,58 @@
+ghost use Rattle.std.specs.Prelude.{◌≡◌, ◌≢◌, ◌≤◌, ◌<◌, ℕ, true, false, List, [], ◌∷◌, ◌++◌};
+ghost use Rattle.pb_telegram.specs.declared.chars.RxChar.{RxChar};
+ghost use Rattle.pb_telegram.specs.declared.chars.RxChar.TheVariants.{Bad};
+ghost use Rattle.pb_model.specs.Bus.{Params, Span};
+ghost use Rattle.pb_model.specs.Trace.{Record, Entry, Sent, entry_begin, with_entry};
+ghost use Rattle.pb_model.specs.Medium.{Tap, sensed, burst_begins, burst_ends, fills_burst, burst_characters, is_whole_at, marks_between};
+ghost use Rattle.pb_model.specs.Laws.{is_open, AllFrom, AllOver, FillsBurst, FillsAlone};
+
+/// What a tap sends adds nothing to what it senses.
+pub fn a_tap_does_not_hear_itself()
+    ensures { (p : Params) (tap since : ℕ) (r : Record) (trace : List Entry) → r.tap ≡ tap
+        → sensed p tap since (with_entry (Sent r) trace) ≡ sensed p tap since trace }
+{}
+
+/// Of two stretches that only touch, a burst ends and another begins.
+pub fn stretches_that_touch_stay_apart()
+    ensures { (a b : Span) → a.begin < a.end → b.begin < b.end → a.end ≡ b.begin
+        → (burst_ends (a ∷ b ∷ []) a.end ≡ true) × (burst_begins (a ∷ b ∷ []) b.begin ≡ true) }
+{}
+
+/// Two stretches that overlap are one burst: none begins where the second does, and none ends where
+/// the first does.
+pub fn stretches_that_overlap_are_one_burst()
+    ensures { (a b : Span) → a.begin < b.begin → b.begin < a.end → a.end < b.end
+        → (burst_begins (a ∷ b ∷ []) b.begin ≡ false) × (burst_ends (a ∷ b ∷ []) a.end ≡ false) }
+{}
+
+/// A burst brings the characters of a telegram exactly where one filled it alone, the tap ran all
+/// the while, and sent nothing meanwhile; else it brings one damaged character.
+pub fn whole_telegrams_fill_their_bursts_alone()
+    ensures brought { (p : Params) (tap : ℕ) (t : Tap) (trace : List Entry) (m : ℕ) → burst_characters p tap t trace m ≢ Bad ∷ []
+        → FillsBurst p tap t trace m (burst_characters p tap t trace m) }
+    ensures filled { (p : Params) (tap : ℕ) (t : Tap) (trace : List Entry) (m : ℕ) (chars : List RxChar) → FillsBurst p tap t trace m chars
+        → FillsBurst p tap t trace m (burst_characters p tap t trace m) }
+    ensures alone { (p : Params) (tap : ℕ) (t : Tap) (trace : List Entry) (r : Record) → fills_burst p tap t trace r ≡ true → FillsAlone p tap t trace r }
+{}
+
+/// Two telegrams that begin in one instant don't hear each other.
+pub fn telegrams_of_one_instant_are_not_heard()
+    ensures { (p : Params) (tap : ℕ) (t : Tap) (trace before after : List Entry) (q r : Record) → p.ttd ≡ 0
+        → trace ≡ before ++ Sent q ∷ after → q.tap ≡ tap → q.begin ≡ r.begin → q.begin < q.end → r.begin < r.end
+        → is_whole_at p tap t trace r ≡ false }
+{}
+
+/// Only a pass opens a burst at a tap: nothing is open at its start, and what begins now opens none
+/// yet.
+pub fn only_a_pass_opens_a_burst()
+    ensures started { (p : Params) (tap now : ℕ) (trace : List Entry) → is_open (sensed p tap now trace) now ≡ false }
+    ensures begun { (p : Params) (tap since now : ℕ) (e : Entry) (trace : List Entry) → p.ttd ≡ 0 → entry_begin e ≡ now
+        → is_open (sensed p tap since (with_entry e trace)) now ≡ is_open (sensed p tap since trace) now }
+{}
+
+/// What has ended before everything recent began, and before the clock, matters no more: a tap's
+/// marks are those of the recent entries alone.
+pub fn what_has_ended_matters_no_more()
+    ensures { (p : Params) (tap m from to : ℕ) (t : Tap) (old recent : List Entry) → p.ttd ≡ 0 → AllOver m old → AllFrom m recent → m ≤ from
+        → marks_between p tap t (old ++ recent) from to ≡ marks_between p tap t recent from to }
+{}

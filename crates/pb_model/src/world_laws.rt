@@ -1,0 +1,30 @@
+ghost use Rattle.std.specs.Prelude.{◌≡◌, ◌≤◌, ℕ, Bool, true, List, [], ◌∷◌, Ok, Err, Some, slice_get};
+ghost use Rattle.pb_model.specs.Bus.{Params};
+ghost use Rattle.pb_model.specs.Medium.{TapSpec, Tap};
+ghost use Rattle.pb_model.specs.World.{World, Event, Pass, Reply, Fault, new_world};
+ghost use Rattle.pb_model.specs.Step.{step, replay};
+ghost use Rattle.pb_model.specs.Laws.{AllInOrder, PassTells};
+
+/// The clock never falls, whatever the events.
+pub fn the_clock_never_falls()
+    ensures { (w : World) (events : List (Bool × Event)) → w.now ≤ (replay w events).now }
+{}
+
+/// A refused event changes nothing.
+pub fn a_refused_event_changes_nothing()
+    ensures { (again : Bool) (w : World) (event : Event) (fault : Fault) → step again w event ≡ Err fault → replay w ((again, event) ∷ []) ≡ w }
+{}
+
+/// The unread marks of every tap stand in order of time, up to the clock.
+pub fn marks_stand_in_order_of_time()
+    ensures { (p : Params) (specs : List TapSpec) (w : World) (events : List (Bool × Event)) → p.ttd ≡ 0 → new_world p specs ≡ Ok w
+        → AllInOrder (replay w events).now (replay w events).taps }
+{}
+
+/// A pass tells a running tap, behind its unread marks, of the bursts that begin and end in it:
+/// Begins and Ends alternate, from whether a burst is open to whether one is open afterwards.
+pub fn what_a_pass_tells_a_tap()
+    ensures { (p : Params) (specs : List TapSpec) (w : World) (events : List (Bool × Event)) (again : Bool) (d tap : ℕ) (next : World) (reply : Reply) (t : Tap)
+        → p.ttd ≡ 0 → new_world p specs ≡ Ok w → step again (replay w events) (Pass d) ≡ Ok (next, reply)
+        → slice_get (replay w events).taps tap ≡ Some t → t.running ≡ true → PassTells (replay w events) next tap t }
+{}

@@ -1,0 +1,3 @@
+pub mod ParamRules
+pub mod ParamViews
+pub mod Phases

@@ -1,0 +1,157 @@
+use super::*;
+use pb_telegram::{Telegram, TokenTelegram};
+use std::test::Fail;
+
+/// Slot time, idle times 1 and 2, reply delay, lag, rotation, GAP factor, highest address, retries.
+type Numbers = [u32; 9];
+
+const USUAL: Numbers = [100, 37, 60, 11, 0, 10_000, 10, 5, 1];
+
+/// The usual numbers with one other.
+fn with(place: usize, number: u32) -> Numbers {
+    let mut numbers = USUAL;
+    if let Some(cell) = numbers.get_mut(place) {
+        *cell = number;
+    }
+    numbers
+}
+
+fn params(numbers: Numbers) -> Result<BusParams, ParamFault> {
+    let [tsl, tid1, tid2, tsdr, lag, ttr, gap, hsa, retries] = numbers;
+    BusParams::new(tsl, tid1, tid2, tsdr, lag, ttr, gap, hsa, retries)
+}
+
+#[test]
+fn each_rule_has_its_fault(rt: HostRuntime) {
+    for (place, number, fault) in [
+        (0, 99, ParamFault::Slot),
+        (0, 16_384, ParamFault::Slot),
+        (1, 32, ParamFault::IdleShort),
+        (2, 36, ParamFault::IdleOrder),
+        (3, 10, ParamFault::ReplyShort),
+        (5, 255, ParamFault::Rotation),
+        (5, 16_777_216, ParamFault::Rotation),
+        (6, 0, ParamFault::GapFactor),
+        (6, 101, ParamFault::GapFactor),
+        (7, 1, ParamFault::Highest),
+        (7, 127, ParamFault::Highest),
+        (8, 8, ParamFault::Retries),
+        (4, 40, ParamFault::TakeLate),
+        (4, 4_294_967_295, ParamFault::TakeLate),
+    ] {
+        assert_eq!(rt;
+            params(with(place, number)).err(),
+            Some(fault),
+            "{place}: {number}"
+        );
+    }
+    let late_reply = [100, 37, 60, 61, 39, 10_000, 10, 5, 1];
+    assert_eq!(rt; params(late_reply).err(), Some(ParamFault::ReplyLate));
+    let short_slot = [99, 37, 60, 11, 40, 10_000, 10, 5, 1];
+    assert_eq!(rt; params(short_slot).err(), Some(ParamFault::Slot));
+}
+
+#[test]
+fn parameters_are_read_back(rt: HostRuntime) -> Result<(), Fail> {
+    let bus = params(with(4, 39))?;
+    assert_eq!(rt;
+        [bus.tsl(), bus.tid1(), bus.tid2(), bus.tsdr(), bus.lag()],
+        [100, 37, 60, 11, 39]
+    );
+    assert_eq!(rt;
+        [bus.ttr(), bus.gap(), bus.hsa(), bus.retries()],
+        [10_000, 10, 5, 1]
+    );
+    assert_eq!(rt; bus.tto(1), 800);
+    assert_eq!(rt; bus.tto(2), 1000);
+    assert_eq!(rt; params(with(0, 16_383))?.tto(126), 4_226_814);
+    Ok(())
+}
+
+/// A station with address 1 and no other in its ring claims the token and keeps it.
+#[test]
+fn a_lone_station_claims_and_keeps_the_token(rt: HostRuntime) {
+    let claim = Idle::new().on_timeout(800);
+    let token = Telegram::Token(TokenTelegram { da: 1, sa: 1 });
+    assert_eq!(rt; claim.initiate(&token).as_slice(), [0xdc, 1, 1].as_slice());
+    let phase = claim.on_sent(870);
+    assert!(rt; phase.may_initiate());
+    assert_eq!(rt; phase.name(), "Claim");
+    let Phase::Claim(claim) = phase else {
+        return leave(phase);
+    };
+    let phase = claim.on_sent(940);
+    assert_eq!(rt; phase.name(), "Use");
+    let Phase::Use(holder) = phase else {
+        return leave(phase);
+    };
+    let phase = holder.done().on_sent(1, 1, 1010);
+    assert_eq!(rt; phase.name(), "Use");
+    leave(phase);
+}
+
+/// A station with address 1 and the previous station 3 takes a token from it, and one from another
+/// station only when that offers it again.
+#[test]
+fn a_token_is_taken_from_the_previous_station(rt: HostRuntime) {
+    let from_three = TokenTelegram { da: 1, sa: 3 };
+    let from_two = TokenTelegram { da: 1, sa: 2 };
+    let to_two = TokenTelegram { da: 2, sa: 3 };
+    let phase = Idle::new().hear_token(&to_two, 1, 3, 100);
+    assert_eq!(rt; phase.name(), "Idle");
+    assert!(rt; !phase.may_initiate());
+    leave(phase);
+    let phase = Idle::new().hear_token(&from_three, 1, 3, 100);
+    assert_eq!(rt; phase.name(), "Use");
+    leave(phase);
+    let phase = Idle::new().hear_token(&from_two, 1, 3, 100);
+    let Phase::Idle(idle) = phase else {
+        return leave(phase);
+    };
+    assert_eq!(rt; idle.refused, Some(2));
+    let phase = idle.hear_token(&from_two, 1, 3, 200);
+    assert_eq!(rt; phase.name(), "Use");
+    leave(phase);
+}
+
+/// After its token a station that hears nothing passes it again, and one that has heard a whole
+/// telegram does not.
+#[test]
+fn a_token_is_passed_again_only_without_a_sign(rt: HostRuntime) {
+    let phase = (Checking { noted: false })
+        .on_silence(1073)
+        .on_sent(2, 1, 1143);
+    assert_eq!(rt; phase.name(), "Checking");
+    leave(phase);
+    let phase = (Checking { noted: false }).on_damaged(1043, 1073);
+    assert_eq!(rt; phase.name(), "Pass");
+    leave(phase);
+    let phase = (Checking { noted: false })
+        .noted_whole()
+        .on_damaged(1043, 1073);
+    assert_eq!(rt; phase.name(), "Idle");
+    leave(phase);
+}
+
+/// Takes a phase apart at a test's end, since it can't be let go.
+fn leave(phase: Phase) {
+    match phase {
+        Phase::Offline(offline) => {
+            let Offline = offline;
+        }
+        Phase::PassiveIdle(passive) => {
+            let PassiveIdle = passive;
+        }
+        Phase::Idle(idle) => leave_idle(idle),
+        Phase::Checking(checking) => {
+            let Checking { noted: _ } = checking;
+        }
+        Phase::Claim(holder) => leave_idle(holder.on_foreign()),
+        Phase::Use(holder) => leave_idle(holder.on_foreign()),
+        Phase::Pass(holder) => leave_idle(holder.on_foreign()),
+    }
+}
+
+fn leave_idle(idle: Idle) {
+    let Idle { refused: _ } = idle;
+}
