@@ -27,10 +27,8 @@ pub use counted_writer::CountedWriter;
 pub use decoding::decode_lines;
 pub use faults::{CliFault, Status};
 pub use laws::spelled_text_is_the_telegrams;
-pub use reading::{INPUT_LIMIT, READ_CALLS};
 pub use streams::{ReadFault, Sink, Source, WriteFault};
 pub use words::{Ask, AskFault};
-pub use writing::RETRIES_IN_A_ROW;
 
 #[cfg(test)]
 mod tests;

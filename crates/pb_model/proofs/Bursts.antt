@@ -1,12 +1,15 @@
 -- Begins and Ends of the bursts of a tap take turns.
-use Rattle.std.proofs.Common.{◌≡◌, ℕ, ◌<◌, ◌≤◌, List, [], ◌∷◌, ◌++◌, Bool, true, false, cond, not, ◌==◌, ◌&&◌, ◌||◌, refl, ap, sym, ◌∙◌, arith, Option, Some, None}
-use Rattle.std.specs.Prelude.{nat_lt, nat_le, is_some, find}
+use Rattle.std.proofs.Common.{◌≡◌, ℕ, ◌<◌, ◌≤◌, List, [], ◌∷◌, ◌++◌, Bool, true, false, cond, if◌then◌else◌, not, ◌==◌, ◌&&◌, ◌||◌, refl, ap, sym, ◌∙◌, arith, Option, Some, None}
+use Rattle.std.specs.Prelude.{nat_lt, nat_le, is_some, find, IfSome}
 use Rattle.std.specs.List.{list_any}
+use Rattle.std.proofs.lemmas.Bool.{and_parts, leb-true, ltb-true, ne_eqb}
 use Rattle.std.proofs.lemmas.Bool.Decides.{nat_tests}
 use Rattle.pb_model.specs.Bus.{Params, Span}
+use Rattle.pb_model.specs.Marks.{Mark, Begin, End}
 use Rattle.pb_model.specs.Trace.{Entry}
-use Rattle.pb_model.specs.Medium.{Tap, begins_at, ends_at, lasts_through, burst_begins, burst_ends, begins_in, ends_in, begin_mark, end_mark}
-use Rattle.pb_model.specs.Laws.{is_open, Alternates}
+use Rattle.pb_model.specs.Medium.{Tap, sensed, begins_at, ends_at, lasts_through, burst_begins, burst_ends, burst_characters, begins_in, ends_in, begin_mark, end_mark, marks_between}
+use Rattle.pb_model.specs.Laws.{is_open, Alternates, marks_of_pass}
+use Rattle.pb_model.proofs.Cases.{by_test}
 
 -- ---- tests over a list
 
@@ -116,19 +119,87 @@ alternates_by p tap t trace u (Some x) (Some y) false begins false true a b c = 
 
 -- ---- a window of spans
 
+begins-found : (from to : ℕ) (spans : List Span) → from < to → AllReady from to spans → is_some (find (begins_in spans from to) spans) ≡ burst_begins spans from
+begins-found from to spans later ready =
+    is_some-find (begins_in spans from to) spans
+    ∙ agree from to (begins_in spans from to) (λ x. begins_at from x && burst_begins spans from) (begins_in-ready from to later spans) spans ready
+    ∙ list_any-and (begins_at from) (burst_begins spans from) spans
+    ∙ and_again (list_any (begins_at from) spans) (not (list_any (lasts_through from) spans))
+
+ends-found : (from to : ℕ) (spans : List Span) → from < to → AllReady from to spans → is_some (find (ends_in spans from to) spans) ≡ burst_ends spans to
+ends-found from to spans later ready =
+    is_some-find (ends_in spans from to) spans
+    ∙ agree from to (ends_in spans from to) (λ x. ends_at to x && burst_ends spans to) (ends_in-ready from to later spans) spans ready
+    ∙ list_any-and (ends_at to) (burst_ends spans to) spans
+    ∙ and_again (list_any (ends_at to) spans) (not (list_any (lasts_through to) spans))
+
 pub alternates-spans : (p : Params) (tap : ℕ) (t : Tap) (trace : List Entry) (from to : ℕ) (spans : List Span) → from < to → AllReady from to spans
     → Alternates (is_open spans from) (begin_mark to (find (begins_in spans from to) spans) ++ end_mark p tap t trace to (find (ends_in spans from to) spans)) (is_open spans to)
 alternates-spans p tap t trace from to spans later ready =
     alternates_by p tap t trace to (find (begins_in spans from to) spans) (find (ends_in spans from to) spans)
     (list_any (lasts_through from) spans) (list_any (begins_at from) spans) (list_any (ends_at to) spans) (list_any (lasts_through to) spans)
-    (is_some-find (begins_in spans from to) spans
-    ∙ agree from to (begins_in spans from to) (λ x. begins_at from x && burst_begins spans from) (begins_in-ready from to later spans) spans ready
-    ∙ list_any-and (begins_at from) (burst_begins spans from) spans
-    ∙ and_again (list_any (begins_at from) spans) (not (list_any (lasts_through from) spans)))
-    (is_some-find (ends_in spans from to) spans
-    ∙ agree from to (ends_in spans from to) (λ x. ends_at to x && burst_ends spans to) (ends_in-ready from to later spans) spans ready
-    ∙ list_any-and (ends_at to) (burst_ends spans to) spans
-    ∙ and_again (list_any (ends_at to) spans) (not (list_any (lasts_through to) spans)))
+    (begins-found from to spans later ready) (ends-found from to spans later ready)
     (list_any-or (lasts_through from) (begins_at from) spans
     ∙ agree from to (λ x. lasts_through from x || begins_at from x) (λ x. ends_at to x || lasts_through to x) (there_alike from to later) spans ready
     ∙ sym (list_any-or (ends_at to) (lasts_through to) spans))
+
+-- ---- the marks of a window, exactly
+
+-- a stretch that a search finds stands among those that are ready
+pub found_ready : (t u : ℕ) (test : Span → Bool) (xs : List Span) → AllReady t u xs
+    → IfSome (find test xs) (λ x. (test x ≡ true) × (x.begin ≤ t) × (t < x.end → u ≤ x.end))
+found_ready t u test [] ready = tt
+found_ready t u test (x ∷ xs) ready =
+    by_test (λ (o : Option Span). IfSome o (λ x. (test x ≡ true) × (x.begin ≤ t) × (t < x.end → u ≤ x.end))) (test x) (Some x) (find test xs)
+    (λ passes. (passes, ready.0, ready.2)) (λ _. found_ready t u test xs ready.3)
+
+begin_mark-exact : (from to : ℕ) (spans : List Span) (o : Option Span) (b : Bool) → is_some o ≡ b
+    → IfSome o (λ x. (begins_in spans from to x ≡ true) × (x.begin ≤ from) × (from < x.end → to ≤ x.end))
+    → begin_mark to o ≡ (if b then Begin from to ∷ [] else [])
+begin_mark-exact from to spans None true e found = absurd cc
+begin_mark-exact from to spans None false e found = refl
+begin_mark-exact from to spans (Some x) true e found =
+    let both = and_parts (nat_le from x.begin && nat_lt x.begin to) (burst_begins spans x.begin) found.0 in
+    let window = and_parts (nat_le from x.begin) (nat_lt x.begin to) both.0 in
+    let same : x.begin ≡ from = omega (arith, leb-true from x.begin window.0, found.1) in
+    ap (λ (m : ℕ). Begin m to ∷ []) same
+begin_mark-exact from to spans (Some x) false e found = absurd cc
+
+end_mark-exact : (p : Params) (tap : ℕ) (t : Tap) (trace : List Entry) (from to : ℕ) (spans : List Span) (o : Option Span) (b : Bool) → is_some o ≡ b
+    → IfSome o (λ x. (ends_in spans from to x ≡ true) × (x.begin ≤ from) × (from < x.end → to ≤ x.end))
+    → end_mark p tap t trace to o ≡ (if b then End to to (burst_characters p tap t trace to) ∷ [] else [])
+end_mark-exact p tap t trace from to spans None true e found = absurd cc
+end_mark-exact p tap t trace from to spans None false e found = refl
+end_mark-exact p tap t trace from to spans (Some x) true e found =
+    let both = and_parts (nat_lt from x.end && nat_le x.end to) (burst_ends spans x.end) found.0 in
+    let window = and_parts (nat_lt from x.end) (nat_le x.end to) both.0 in
+    let after : from < x.end = ltb-true from x.end window.0 in
+    let same : x.end ≡ to = omega (arith, leb-true x.end to window.1, found.2 after) in
+    ap (λ (m : ℕ). End m to (burst_characters p tap t trace m) ∷ []) same
+end_mark-exact p tap t trace from to spans (Some x) false e found = absurd cc
+
+pub marks_between-exact : (p : Params) (tap : ℕ) (t : Tap) (trace : List Entry) (from to : ℕ) → from < to → AllReady from to (sensed p tap t.since trace)
+    → marks_between p tap t trace from to ≡ marks_of_pass p tap t trace from to
+marks_between-exact p tap t trace from to later ready =
+    let spans = sensed p tap t.since trace in
+    ap (λ (ms : List Mark). ms ++ end_mark p tap t trace to (find (ends_in spans from to) spans))
+    (begin_mark-exact from to spans (find (begins_in spans from to) spans) (burst_begins spans from) (begins-found from to spans later ready) (found_ready from to (begins_in spans from to) spans ready))
+    ∙ ap (λ (ms : List Mark). (if burst_begins spans from then Begin from to ∷ [] else []) ++ ms)
+    (end_mark-exact p tap t trace from to spans (find (ends_in spans from to) spans) (burst_ends spans to) (ends-found from to spans later ready) (found_ready from to (ends_in spans from to) spans ready))
+
+-- ---- between the clocks
+
+any_none : (t u : ℕ) (f : Span → Bool) → ((x : Span) → x.begin ≤ t → x.begin < x.end → (t < x.end → u ≤ x.end) → f x ≡ false) → (xs : List Span) → AllReady t u xs
+    → list_any f xs ≡ false
+any_none t u f fails [] ready = refl
+any_none t u f fails (x ∷ xs) ready = ap (λ (b : Bool). b || list_any f xs) (fails x ready.0 ready.1 ready.2) ∙ any_none t u f fails xs ready.3
+
+pub begins-none : (from to : ℕ) (spans : List Span) → AllReady from to spans → (m : ℕ) → from < m → burst_begins spans m ≡ false
+begins-none from to spans ready m later =
+    ap (λ (b : Bool). b && not (list_any (lasts_through m) spans))
+    (any_none from to (begins_at m) (λ x begun some ends. ne_eqb x.begin m (λ (e : x.begin ≡ m). omega arith)) spans ready)
+
+pub ends-none : (from to : ℕ) (spans : List Span) → AllReady from to spans → (m : ℕ) → from < m → m < to → burst_ends spans m ≡ false
+ends-none from to spans ready m later before =
+    ap (λ (b : Bool). b && not (list_any (lasts_through m) spans))
+    (any_none from to (ends_at m) (λ x begun some ends. ne_eqb x.end m (λ (e : x.end ≡ m). omega (arith, ends (omega arith)))) spans ready)

@@ -1,4 +1,4 @@
-pub mod Choices
+pub mod Cases
 pub mod Turns
 pub mod Bursts
 pub mod Sensed
@@ -7,3 +7,4 @@ pub mod Worlds
 pub mod Passes
 pub mod WholeTelegrams
 pub mod Past
+pub mod Choice

@@ -1,5 +1,5 @@
 -- The marks of a tap stand in order of time.
-use Rattle.std.proofs.Common.{◌≡◌, ℕ, ◌+◌, ◌<◌, ◌≤◌, List, [], ◌∷◌, ◌++◌, Bool, true, false, ◌&&◌, arith, Option, Some, None}
+use Rattle.std.proofs.Common.{◌≡◌, ℕ, ◌+◌, ◌<◌, ◌≤◌, List, [], ◌∷◌, ◌++◌, true, false, ◌&&◌, arith, Option, Some, None}
 use Rattle.std.specs.Prelude.{nat_lt, nat_le, find, IfSome}
 use Rattle.std.proofs.lemmas.Bool.{ltb-true, leb-true, and_parts}
 use Rattle.pb_model.specs.Bus.{Params, Span}
@@ -9,19 +9,12 @@ use Rattle.pb_model.specs.Medium.{Tap, burst_begins, burst_ends, begins_in, ends
 use Rattle.pb_model.specs.World.{next_end_of}
 use Rattle.pb_model.specs.Step.{is_past, told}
 use Rattle.pb_model.specs.Laws.{InOrder, AllInOrder, AllBegun}
-use Rattle.pb_model.proofs.Choices.{by_test}
-use Rattle.pb_model.proofs.Bursts.{AllReady}
+use Rattle.pb_model.proofs.Cases.{by_test}
+use Rattle.pb_model.proofs.Bursts.{AllReady, found_ready}
 use Rattle.pb_model.proofs.Sensed.{ready-sensed}
 
--- what a search finds passes the test, and has begun
-found_ready : (t u : ℕ) (test : Span → Bool) (xs : List Span) → AllReady t u xs → IfSome (find test xs) (λ x. (test x ≡ true) × (x.begin ≤ t))
-found_ready t u test [] ready = tt
-found_ready t u test (x ∷ xs) ready =
-    by_test (λ (o : Option Span). IfSome o (λ x. (test x ≡ true) × (x.begin ≤ t))) (test x) (Some x) (find test xs)
-    (λ passes. (passes, ready.0)) (λ _. found_ready t u test xs ready.3)
-
 in_order-marks : (p : Params) (tap : ℕ) (t : Tap) (trace : List Entry) (from to : ℕ) (spans : List Span) (begun ended : Option Span) → from < to
-    → IfSome begun (λ x. (begins_in spans from to x ≡ true) × (x.begin ≤ from)) → IfSome ended (λ x. (ends_in spans from to x ≡ true) × (x.begin ≤ from))
+    → IfSome begun (λ x. (begins_in spans from to x ≡ true) × (x.begin ≤ from) × (from < x.end → to ≤ x.end)) → IfSome ended (λ x. (ends_in spans from to x ≡ true) × (x.begin ≤ from) × (from < x.end → to ≤ x.end))
     → InOrder from (begin_mark to begun ++ end_mark p tap t trace to ended) to
 in_order-marks p tap t trace from to spans None None later b e = omega arith
 in_order-marks p tap t trace from to spans None (Some y) later b e =

@@ -9,8 +9,8 @@ use Rattle.pb_model.specs.Trace.{Entry}
 use Rattle.pb_model.specs.Medium.{Tap, sensed, marks_between, new_marks, entry_at}
 use Rattle.pb_model.specs.World.{World, Reply}
 use Rattle.pb_model.specs.Step.{told, pass_faults, step_pass}
-use Rattle.pb_model.specs.Laws.{AllInOrder, IsSound, PassTells}
-use Rattle.pb_model.proofs.Bursts.{alternates-spans}
+use Rattle.pb_model.specs.Laws.{is_open, Alternates, AllInOrder, IsSound, PassTells}
+use Rattle.pb_model.proofs.Bursts.{alternates-spans, marks_between-exact, begins-none, ends-none}
 use Rattle.pb_model.proofs.Sensed.{ready-sensed}
 use Rattle.pb_model.proofs.Worlds.{unless-Ok}
 
@@ -47,10 +47,12 @@ pass_tells w next reply d i t sound ok here running =
     let ready = ready-sensed w.params i w.now to t.since w.trace sound.no_delay (started-at w.now w.taps i t sound.in_order here) sound.begun both.0.1.0 in
     let runs : new_marks w.params i t w.trace w.now to ≡ marks_between w.params i t w.trace w.now to =
     ap (λ (b : Bool). if b then marks_between w.params i t w.trace w.now to else []) running in
+    let exact = marks_between-exact w.params i t w.trace w.now to later ready in
     subst (λ (x : World). PassTells w x i t) same (record {
-      marks = marks_between w.params i t w.trace w.now to;
       delivered = told-at w.params w.trace w.now to 0 w.taps i t here
           ∙ ap (λ (n : ℕ). Some (record t { marks = t.marks ++ new_marks w.params n t w.trace w.now to })) (let z : 0 + i ≡ i = omega arith in z)
-          ∙ ap (λ (ms : List Mark). Some (record t { marks = t.marks ++ ms })) runs;
-      alternate = alternates-spans w.params i t w.trace w.now to spans later ready;
+          ∙ ap (λ (ms : List Mark). Some (record t { marks = t.marks ++ ms })) (runs ∙ exact);
+      begins_none = begins-none w.now to spans ready;
+      ends_none = ends-none w.now to spans ready;
+      alternate = subst (λ (ms : List Mark). Alternates (is_open spans w.now) ms (is_open spans to)) exact (alternates-spans w.params i t w.trace w.now to spans later ready);
     })

@@ -1,18 +1,21 @@
 -- What has ended before everything recent began matters no more.
-use Rattle.std.proofs.Common.{◌≡◌, ℕ, ◌+◌, ◌<◌, ◌≤◌, List, [], ◌∷◌, ◌++◌, Bool, true, false, cond, not, ◌&&◌, ◌||◌, ◌==◌, refl, ap, ◌∙◌, subst, arith, Option, Some, None}
+use Rattle.std.proofs.Common.{◌≡◌, ℕ, ◌+◌, ◌<◌, ◌≤◌, List, [], ◌∷◌, ◌++◌, Bool, true, false, cond, if◌then◌else◌, not, length, map, ◌&&◌, ◌||◌, ◌==◌, refl, ap, ◌∙◌, subst, arith, Option, Some, None}
 use Rattle.std.specs.Prelude.{nat_lt, nat_le, max, slice_get, find, count_by}
-use Rattle.std.specs.List.{list_any, cons_option}
+use Rattle.std.specs.List.{list_any, list_all, cons_option}
 use Rattle.std.specs.Option.{option_and_then}
 use Rattle.std.proofs.lemmas.Bool.{ltb-true, leb-true, le-ltb, lt-leb, ne_eqb, and_parts}
 use Rattle.std.proofs.lemmas.List.Elements.{filter_map-append}
 use Rattle.std.proofs.lemmas.List.Sums.{sum_by-cons}
 use Rattle.std.proofs.lemmas.Bool.Decides.{nat_tests}
+use Rattle.pb_telegram.specs.Faults.{is_bad}
 use Rattle.pb_model.specs.Bus.{Params, Span}
 use Rattle.pb_model.specs.Marks.{Mark, End}
-use Rattle.pb_model.specs.Trace.{Record, Entry, Sent, Noise}
-use Rattle.pb_model.specs.Medium.{Tap, begins_at, ends_at, lasts_through, overlaps, part_after, reaches, is_unheard, at_tap, sensed, burst_begins, burst_ends, hears_from, sends_during, fills_burst, fills_burst_to, entry_characters, begins_in, ends_in, begin_mark, end_mark, marks_between}
+use Rattle.pb_model.specs.Trace.{Heard, Record, Entry, Sent, Noise, characters_at}
+use Rattle.pb_model.specs.Medium.{Tap, begins_at, ends_at, lasts_through, overlaps, part_after, reaches, is_unheard, at_tap, sensed, burst_begins, burst_ends, hears_from, sends_during, fills_burst, fills_burst_to, entry_characters, begins_in, ends_in, begin_mark, end_mark, marks_between, is_whole_at, heard_in_the_end, heard_by, entry_at}
+use Rattle.pb_model.specs.Station.{earlier}
+use Rattle.pb_model.specs.World.{later_end, next_end_of}
 use Rattle.pb_model.specs.Laws.{AllOver, AllFrom}
-use Rattle.pb_model.proofs.Choices.{by_test}
+use Rattle.pb_model.proofs.Cases.{by_test}
 
 -- ---- lists whose front fails a test
 
@@ -194,3 +197,41 @@ marks_between-skip p tap m from to t old recent none over begun later =
     ∙ ap (λ (o : Option Span). begin_mark to (find (begins_in ys from to) ys) ++ end_mark p tap t (old ++ recent) to o) (find_end-skip m from to xs ys ended later)
     ∙ ap (λ (ms : List Mark). begin_mark to (find (begins_in ys from to) ys) ++ ms)
     (end_mark-skip p tap m from to t old recent ys none over begun later (find (ends_in ys from to) ys) refl)
+
+-- ---- ends, and what telegrams were
+
+-- the next end is one of a recent entry
+pub next_end_of-skip : (p : Params) (m now : ℕ) (old recent : List Entry) → p.ttd ≡ 0 → AllOver m old → m ≤ now
+    → next_end_of p now (old ++ recent) ≡ next_end_of p now recent
+next_end_of-skip p m now [] recent none over later = refl
+next_end_of-skip p m now (Noise span ∷ old) recent none over later =
+    ap (λ (b : Bool). earlier (if b then Some span.end else None) (next_end_of p now (old ++ recent))) (le-ltb now span.end (omega (arith, over.1)))
+    ∙ next_end_of-skip p m now old recent none over.2 later
+next_end_of-skip p m now (Sent r ∷ old) recent none over later =
+    ap (λ (b : Bool). earlier (earlier (if b then Some r.end else None) (later_end now (reaches p r).end)) (next_end_of p now (old ++ recent))) (le-ltb now r.end (omega (arith, over.1)))
+    ∙ ap (λ (b : Bool). earlier (earlier None (if b then Some (reaches p r).end else None)) (next_end_of p now (old ++ recent))) (le-ltb now (reaches p r).end (omega (arith, none, over.1)))
+    ∙ next_end_of-skip p m now old recent none over.2 later
+
+is_whole_at-skip : (p : Params) (tap m : ℕ) (t : Tap) (old recent : List Entry) (r : Record) → p.ttd ≡ 0 → AllOver m old → m ≤ r.begin
+    → is_whole_at p tap t (old ++ recent) r ≡ is_whole_at p tap t recent r
+is_whole_at-skip p tap m t old recent r none over later =
+    ap (λ (b : Bool). ((t.running && b) && length (characters_at tap r) == length r.octets) && list_all (λ char. not (is_bad char)) (characters_at tap r))
+    (fills_burst-skip p tap m t old recent r none over later)
+
+heard_by-skip : (p : Params) (m : ℕ) (old recent : List Entry) (r : Record) (tap : ℕ) (ts : List Tap) (hs : List Heard) → p.ttd ≡ 0 → AllOver m old → m ≤ r.begin
+    → heard_by p (old ++ recent) r tap ts hs ≡ heard_by p recent r tap ts hs
+heard_by-skip p m old recent r tap [] hs none over later = refl
+heard_by-skip p m old recent r tap (t ∷ ts) [] none over later = refl
+heard_by-skip p m old recent r tap (t ∷ ts) (h ∷ hs) none over later =
+    ap (λ (b : Bool). heard_in_the_end b h ∷ heard_by p (old ++ recent) r (tap + 1) ts hs) (is_whole_at-skip p tap m t old recent r none over later)
+    ∙ ap (λ (rest : List Heard). heard_in_the_end (is_whole_at p tap t recent r) h ∷ rest) (heard_by-skip p m old recent r (tap + 1) ts hs none over later)
+
+-- what recent telegrams were at the taps is told by the recent entries alone
+pub entries_at-skip : (p : Params) (m now : ℕ) (taps : List Tap) (old recent es : List Entry) → p.ttd ≡ 0 → AllOver m old → AllFrom m es
+    → map (entry_at p taps (old ++ recent) now) es ≡ map (entry_at p taps recent now) es
+entries_at-skip p m now taps old recent [] none over from = refl
+entries_at-skip p m now taps old recent (Noise span ∷ es) none over from = ap (λ (rest : List Entry). Noise span ∷ rest) (entries_at-skip p m now taps old recent es none over from.1)
+entries_at-skip p m now taps old recent (Sent r ∷ es) none over from =
+    ap (λ (hs : List Heard). (if nat_le (reaches p r).end now then Sent (record r { heard = hs }) else Sent r) ∷ map (entry_at p taps (old ++ recent) now) es)
+    (heard_by-skip p m old recent r 0 taps r.heard none over from.0)
+    ∙ ap (λ (rest : List Entry). entry_at p taps recent now (Sent r) ∷ rest) (entries_at-skip p m now taps old recent es none over from.1)

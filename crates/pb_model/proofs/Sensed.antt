@@ -11,7 +11,7 @@ use Rattle.pb_model.specs.Medium.{lasts_through, part_after, reaches, is_unheard
 use Rattle.pb_model.specs.World.{later_end, entry_next_end, next_end_of}
 use Rattle.pb_model.specs.Step.{is_past}
 use Rattle.pb_model.specs.Laws.{AllBegun, is_open}
-use Rattle.pb_model.proofs.Choices.{by_test}
+use Rattle.pb_model.proofs.Cases.{by_test}
 use Rattle.pb_model.proofs.Bursts.{AllReady}
 
 -- ---- the next end

@@ -1,7 +1,7 @@
 -- What a turn does to the moments at which a station acts.
 use Rattle.std.proofs.Common.{◌≡◌, ℕ, ◌+◌, ◌<◌, ◌≤◌, List, [], ◌∷◌, length, Bool, true, false, if◌then◌else◌, ◌==◌, refl, ap, sym, ◌∙◌, subst, arith, Option, Some, None}
 use Rattle.std.specs.Prelude.{IfSome, nat_lt, nat_le, max}
-use Rattle.std.proofs.lemmas.Bool.{ltb-false, leb-false, le-ltb, lt-ltb, lt-leb}
+use Rattle.std.proofs.lemmas.Bool.{ltb-false, leb-false, le-ltb, lt-ltb, lt-leb, le-leb}
 use Rattle.std.proofs.lemmas.Option.{none-some, same_Some}
 use Rattle.pb_model.specs.Bus.{Params, bits}
 use Rattle.pb_model.specs.Ring.{next_station}
@@ -9,7 +9,7 @@ use Rattle.pb_model.specs.Marks.{Mark, Begin, End, moment_of}
 use Rattle.pb_model.specs.Station.{Phase, Offline, PassiveIdle, Idle, Claim, Use, Pass, Checking, Station, phase_timer, timer_of, phase_speaks, speaks_at, earlier, due_of}
 use Rattle.pb_model.specs.Turn.{phase_timed_out, timed_out, after_timer, after_mark, after_marks, settled, phase_says, phase_spoke, spoken, speech, turn_of}
 use Rattle.pb_model.specs.Laws.{IsDueLater}
-use Rattle.pb_model.proofs.Choices.{by_test, earlier-later, later-earlier}
+use Rattle.pb_model.proofs.Cases.{by_test, earlier-later, later-earlier}
 
 -- ---- timers
 
@@ -204,7 +204,7 @@ own_end-speech p s (Some moment) now octets =
     (λ _ said. ap (λ (xs : List ℕ). now + bits (length xs)) (same_Some (phase_says s s.phase) octets said))
     (λ _ said. absurd (none-some octets said))
 
--- a station that has passed the token waits for a sign of life until a slot after the token's end
+-- a station that has passed the token waits for activity until a slot after the token's end
 pub due-token_passed : (p : Params) (again : Bool) (s : Station) (marks : List Mark) (now : ℕ) (octets : List ℕ)
     → (turn_of p again s marks now).1 ≡ Some octets → (turn_of p again s marks now).0.phase ≡ Checking → (turn_of p again s marks now).0.busy ≡ false
     → due_of p (turn_of p again s marks now).0 [] ≡ Some (now + bits (length octets) + p.tsl)
@@ -212,3 +212,18 @@ due-token_passed p again s marks now octets said checking idle =
     let x = settled p again s marks now in
     due_in_checking p (turn_of p again s marks now).0 idle checking
     ∙ ap (λ (end : ℕ). Some (end + p.tsl)) (own_end-speech p x (speaks_at x) now octets said)
+
+-- a station whose speaking moment has come, once it has read all, speaks
+pub turn_of-due : (p : Params) (again : Bool) (s : Station) (marks : List Mark) (now moment : ℕ) → speaks_at (settled p again s marks now) ≡ Some moment → moment ≤ now
+    → (turn_of p again s marks now).1 ≡ Some (phase_says (settled p again s marks now) (settled p again s marks now).phase)
+turn_of-due p again s marks now moment e due =
+    let x = settled p again s marks now in
+    ap (λ (o : Option ℕ). (speech p x o now).1) e
+    ∙ ap (λ (b : Bool). (if b then spoken p x now (phase_says x x.phase) else (x, None)).1) (le-leb moment now due)
+
+-- and one whose speaking moment has not come, or that has none, says nothing
+pub turn_of-not_due : (p : Params) (again : Bool) (s : Station) (marks : List Mark) (now : ℕ) → IfSome (speaks_at (settled p again s marks now)) (λ moment. now < moment)
+    → (turn_of p again s marks now).1 ≡ None
+turn_of-not_due p again s marks now later =
+    let x = settled p again s marks now in
+    ap (λ (turn : Station × Option (List ℕ)). turn.1) (speech-later p x (speaks_at x) now later)

@@ -1,17 +1,16 @@
 -- Which telegram a tap hears whole.
-use Rattle.std.proofs.Common.{◌≡◌, ℕ, ◌+◌, ◌<◌, List, [], ◌∷◌, ◌++◌, length, Bool, true, false, not, ◌||◌, ◌&&◌, ◌==◌, refl, ap, sym, ◌∙◌, subst, arith, Option, Some, None}
+use Rattle.std.proofs.Common.{◌≡◌, ℕ, ◌+◌, ◌<◌, List, [], ◌∷◌, ◌++◌, Bool, true, false, not, ◌||◌, ◌&&◌, ◌==◌, refl, ap, sym, ◌∙◌, subst, arith, Option, Some, None}
 use Rattle.std.specs.Prelude.{nat_lt, slice_get, find, count_by}
-use Rattle.std.specs.List.{list_any, list_all}
-use Rattle.std.proofs.lemmas.Bool.{and_parts, eqb-true, eq-eqb, lt-ltb, both_ways}
+use Rattle.std.specs.List.{list_any}
+use Rattle.std.proofs.lemmas.Bool.{and_parts, or_parts, ne_eqb, eqb-true, eq-eqb, lt-ltb, both_ways}
 use Rattle.std.proofs.lemmas.Bool.Decides.{nat_tests}
-use Rattle.pb_telegram.specs.Faults.{is_bad}
 use Rattle.pb_telegram.specs.declared.chars.RxChar.{RxChar}
 use Rattle.pb_telegram.specs.declared.chars.RxChar.TheVariants.{Bad}
 use Rattle.pb_model.specs.Bus.{Params, Span}
-use Rattle.pb_model.specs.Trace.{Record, Entry, Sent, Noise, characters_at}
-use Rattle.pb_model.specs.Medium.{Tap, overlaps, reaches, is_unheard, sensed, hears_from, sends_during, fills_burst, fills_burst_to, entry_characters, burst_characters, burst_begins, burst_ends, is_whole_at}
+use Rattle.pb_model.specs.Trace.{Record, Entry, Sent, Noise}
+use Rattle.pb_model.specs.Medium.{Tap, overlaps, reaches, is_unheard, sensed, hears_from, sends_during, fills_burst, fills_burst_to, entry_characters, burst_characters, burst_begins, burst_ends}
 use Rattle.pb_model.specs.Laws.{FillsBurst, FillsAlone}
-use Rattle.pb_model.proofs.Choices.{by_test}
+use Rattle.pb_model.proofs.Cases.{by_test}
 
 -- ---- what fills a burst
 
@@ -29,6 +28,7 @@ fills_alone p tap t trace r e =
     let lone = and_parts (not others && hears_from t span.begin) alone silent.0 in
     let ran = and_parts (not others) (hears_from t span.begin) lone.0 in
     record {
+      reached = (or_parts (r.tap == tap) (is_unheard (slice_get r.heard tap)) (not_true others ran.0)).1;
       another = λ own. both_ways others (not_true others ran.0) (ap (λ (b : Bool). b || is_unheard (slice_get r.heard tap)) (eq-eqb r.tap tap own));
       ran = ran.1;
       alone = eqb-true (count_by (overlaps span) (sensed p tap t.since trace)) 1 lone.1;
@@ -101,31 +101,39 @@ true_among {X} test (y ∷ before) x after passes = ap (λ (b : Bool). test y ||
     or_true true = refl
     or_true false = refl
 
--- a tap that sends while a telegram reaches it does not hear that telegram whole
-pub is_whole_at-sending : (p : Params) (tap : ℕ) (t : Tap) (trace before after : List Entry) (q r : Record) → trace ≡ before ++ Sent q ∷ after → q.tap ≡ tap
-    → overlaps (record { begin = q.begin; end = q.end }) (reaches p r) ≡ true → is_whole_at p tap t trace r ≡ false
-is_whole_at-sending p tap t trace before after q r in_trace own overlap = by_case (is_whole_at p tap t trace r) refl
+-- a telegram that reaches a tap while that sends fills no burst of it
+fills_burst-sending : (p : Params) (tap : ℕ) (t : Tap) (trace before after : List Entry) (q r : Record) → trace ≡ before ++ Sent q ∷ after → q.tap ≡ tap
+    → overlaps (record { begin = q.begin; end = q.end }) (reaches p r) ≡ true → fills_burst p tap t trace r ≡ false
+fills_burst-sending p tap t trace before after q r in_trace own overlap = by_case (fills_burst p tap t trace r) refl
   where
     sends : list_any (sends_during tap (reaches p r)) trace ≡ true
     sends = ap (list_any (sends_during tap (reaches p r))) in_trace
         ∙ true_among (sends_during tap (reaches p r)) before (Sent q) after
         (ap (λ (b : Bool). b && overlaps (record { begin = q.begin; end = q.end }) (reaches p r)) (eq-eqb q.tap tap own) ∙ overlap)
 
-    by_case : (b : Bool) → is_whole_at p tap t trace r ≡ b → b ≡ false
+    by_case : (b : Bool) → fills_burst p tap t trace r ≡ b → b ≡ false
     by_case false e = refl
-    by_case true e =
-        let good = and_parts (t.running && fills_burst p tap t trace r && length (characters_at tap r) == length r.octets) (list_all (λ char. not (is_bad char)) (characters_at tap r)) e in
-        let whole = and_parts (t.running && fills_burst p tap t trace r) (length (characters_at tap r) == length r.octets) good.0 in
-        let fills = and_parts t.running (fills_burst p tap t trace r) whole.0 in
-        absurd (both_ways (list_any (sends_during tap (reaches p r)) trace) (fills_alone p tap t trace r fills.1).silent sends)
+    by_case true e = absurd (both_ways (list_any (sends_during tap (reaches p r)) trace) (fills_alone p tap t trace r e).silent sends)
 
-pub is_whole_at-one_instant : (p : Params) (tap : ℕ) (t : Tap) (trace before after : List Entry) (q r : Record) → p.ttd ≡ 0 → trace ≡ before ++ Sent q ∷ after → q.tap ≡ tap
-    → q.begin ≡ r.begin → q.begin < q.end → r.begin < r.end → is_whole_at p tap t trace r ≡ false
-is_whole_at-one_instant p tap t trace before after q r none in_trace own same some some' =
-    is_whole_at-sending p tap t trace before after q r in_trace own
+pub fills_burst-one_instant : (p : Params) (tap : ℕ) (t : Tap) (trace before after : List Entry) (q r : Record) → p.ttd ≡ 0 → trace ≡ before ++ Sent q ∷ after → q.tap ≡ tap
+    → q.begin ≡ r.begin → q.begin < q.end → r.begin < r.end → fills_burst p tap t trace r ≡ false
+fills_burst-one_instant p tap t trace before after q r none in_trace own same some some' =
+    fills_burst-sending p tap t trace before after q r in_trace own
     (ap (λ (b : Bool). b && nat_lt (r.begin + p.ttd) q.end) (lt-ltb q.begin (r.end + p.ttd) (omega arith)) ∙ lt-ltb (r.begin + p.ttd) q.end (omega arith))
 
--- ---- touching and overlapping
+-- ---- what fills a burst, the other way
+
+-- a telegram of another that reaches the tap from its beginning, alone, while the tap is silent, fills a burst
+pub fills_burst-alone : (p : Params) (tap : ℕ) (t : Tap) (trace : List Entry) (r : Record) → FillsAlone p tap t trace r → fills_burst p tap t trace r ≡ true
+fills_burst-alone p tap t trace r alone =
+    let span = reaches p r in
+    let n = count_by (overlaps span) (sensed p tap t.since trace) in
+    let sends : Bool = list_any (sends_during tap span) trace in
+    ap (λ (b : Bool). ((not (b || is_unheard (slice_get r.heard tap)) && hears_from t span.begin) && n == 1) && not sends) (ne_eqb r.tap tap alone.another)
+    ∙ ap (λ (b : Bool). ((not (false || b) && hears_from t span.begin) && n == 1) && not sends) alone.reached
+    ∙ ap (λ (b : Bool). (b && n == 1) && not sends) alone.ran
+    ∙ ap (λ (b : Bool). b && not sends) (eq-eqb n 1 alone.alone)
+    ∙ ap not alone.silent
 
 ends_at_touch : (a b c d : ℕ) → a < b → c < d → b ≡ c
     → ((b == b || (d == b || false)) && not ((nat_lt a b && nat_lt b b) || ((nat_lt c b && nat_lt b d) || false))) ≡ true
@@ -146,6 +154,17 @@ no_begin_within a b c d later within = grind (arith, nat_tests)
 
 no_end_within : (a b c d : ℕ) → c < b → b < d → ((b == b || (d == b || false)) && not ((nat_lt a b && nat_lt b b) || ((nat_lt c b && nat_lt b d) || false))) ≡ false
 no_end_within a b c d within later = grind (arith, nat_tests)
+
+begins_first : (a b c d : ℕ) → a < c → ((a == a || (c == a || false)) && not ((nat_lt a a && nat_lt a b) || ((nat_lt c a && nat_lt a d) || false))) ≡ true
+begins_first a b c d first = grind (arith, nat_tests)
+
+ends_last : (a b c d : ℕ) → b < d → ((b == d || (d == d || false)) && not ((nat_lt a d && nat_lt d b) || ((nat_lt c d && nat_lt d d) || false))) ≡ true
+ends_last a b c d later = grind (arith, nat_tests)
+
+-- the burst of both begins with the first and ends with the second
+pub overlapping_ends : (a b : Span) → a.begin < b.begin → b.begin < a.end → a.end < b.end
+    → (burst_begins (a ∷ b ∷ []) a.begin ≡ true) × (burst_ends (a ∷ b ∷ []) b.end ≡ true)
+overlapping_ends a b first within later = (begins_first a.begin a.end b.begin b.end first, ends_last a.begin a.end b.begin b.end later)
 
 -- two stretches that overlap are one burst: none begins where the second does, and none ends where the first does
 pub overlapping_joined : (a b : Span) → a.begin < b.begin → b.begin < a.end → a.end < b.end

@@ -14,7 +14,7 @@ use Rattle.pb_model.specs.Medium.{TapSpec, Tap, reaches, entry_at, heard_by}
 use Rattle.pb_model.specs.World.{World, Event, Turn, Pass, Damage, Start, Reply, Fault, NoSuchTap, Running, NotRunning, NothingInAir, TraceFull, trace_limit, unless, unless_fault, is_in_air_by, new_world, stopped_tap, master_addresses, new_faults}
 use Rattle.pb_model.specs.Step.{sending, with_speech, step_turn, told, pass_faults, step_pass, with_hit, change_first, has_place, step_damage, started_tap, step_start, step, world_after, replay}
 use Rattle.pb_model.specs.Laws.{AllBegun, AllInOrder, InOrder, IsSound}
-use Rattle.pb_model.proofs.Choices.{by_test}
+use Rattle.pb_model.proofs.Cases.{by_test}
 use Rattle.pb_model.proofs.Turns.{length-phase_says}
 use Rattle.pb_model.proofs.Marked.{in_order-told}
 

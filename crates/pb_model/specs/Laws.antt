@@ -1,12 +1,12 @@
 -- What the laws speak of.
-use Rattle.std.specs.Prelude.{◌≡◌, ℕ, ◌<◌, ◌≤◌, Bool, true, false, List, [], ◌∷◌, ◌++◌, slice_get, count_by, Some, IfSome}
+use Rattle.std.specs.Prelude.{◌≡◌, ℕ, ◌<◌, ◌≤◌, Bool, true, false, List, [], ◌∷◌, ◌++◌, if◌then◌else◌, slice_get, count_by, Some, IfSome}
 use Rattle.std.specs.List.{list_any}
 use Rattle.pb_telegram.specs.declared.chars.RxChar.{RxChar}
 use Rattle.pb_model.specs.Bus.{Params, Span}
 use Rattle.pb_model.specs.Marks.{Mark, Begin, End, moment_of}
-use Rattle.pb_model.specs.Station.{Station, due_of}
+use Rattle.pb_model.specs.Station.{Phase, Checking, Station, due_of}
 use Rattle.pb_model.specs.Trace.{Record, Entry, Sent, entry_begin, entry_end, characters_at}
-use Rattle.pb_model.specs.Medium.{Tap, lasts_through, overlaps, hears_from, sends_during, reaches, fills_burst, sensed}
+use Rattle.pb_model.specs.Medium.{Tap, lasts_through, overlaps, hears_from, sends_during, reaches, is_unheard, burst_begins, burst_ends, burst_characters, fills_burst, sensed}
 use Rattle.pb_model.specs.World.{World}
 
 -- ---- stations
@@ -14,6 +14,10 @@ use Rattle.pb_model.specs.World.{World}
 -- a station without unread marks is due later than the clock, or not at all
 abbrev pub IsDueLater : Params → Station → ℕ → Type 0
 IsDueLater p s now = IfSome (due_of p s []) (λ due. now < due)
+
+abbrev pub is_checking : Phase → Bool
+is_checking Checking = true
+is_checking phase = false
 
 -- ---- bursts
 
@@ -34,9 +38,10 @@ abbrev pub InOrder : ℕ → List Mark → ℕ → Type 0
 InOrder from [] to = from ≤ to
 InOrder from (m ∷ ms) to = (from ≤ moment_of m) × InOrder (moment_of m) ms to
 
--- what it means that a telegram fills a burst of a tap: it is another's, the tap heard it from its beginning and nothing else meanwhile, and sent nothing
+-- what it means that a telegram fills a burst of a tap: it is another's and not unheard there, the tap heard it from its beginning and nothing else meanwhile, and sent nothing
 pub record FillsAlone (p : Params) (tap : ℕ) (t : Tap) (trace : List Entry) (r : Record) : Type 0 where
   pub another : r.tap ≡ tap → ⊥
+  pub reached : is_unheard (slice_get r.heard tap) ≡ false
   pub ran : hears_from t (reaches p r).begin ≡ true
   pub alone : count_by (overlaps (reaches p r)) (sensed p tap t.since trace) ≡ 1
   pub silent : list_any (sends_during tap (reaches p r)) trace ≡ false
@@ -69,11 +74,20 @@ pub record IsSound (w : World) : Type 0 where
   pub begun : AllBegun w.now w.trace
   pub in_order : AllInOrder w.now w.taps
 
--- A pass gives a running tap the marks of the bursts that begin and end in it: they alternate, from whether a burst is open at the clock to whether one is open at the new clock.
+-- the marks of a pass: a Begin exactly where a burst begins at the clock, and an End, with the burst's characters, exactly where one ends at the new clock
+abbrev pub marks_of_pass : Params → ℕ → Tap → List Entry → ℕ → ℕ → List Mark
+marks_of_pass p tap t trace from to =
+    let spans = sensed p tap t.since trace in
+    (if burst_begins spans from then Begin from to ∷ [] else [])
+    ++ (if burst_ends spans to then End to to (burst_characters p tap t trace to) ∷ [] else [])
+
+-- What a pass does to a running tap: the marks of the pass stand behind its unread ones. No burst begins or ends between the two clocks, and Begins and Ends alternate.
 pub record PassTells (w next : World) (tap : ℕ) (t : Tap) : Type 0 where
-  pub marks : List Mark
-  pub delivered : slice_get next.taps tap ≡ Some (record t { marks = t.marks ++ marks })
-  pub alternate : Alternates (is_open (sensed w.params tap t.since w.trace) w.now) marks (is_open (sensed w.params tap t.since w.trace) next.now)
+  pub delivered : slice_get next.taps tap ≡ Some (record t { marks = t.marks ++ marks_of_pass w.params tap t w.trace w.now next.now })
+  pub begins_none : (m : ℕ) → w.now < m → burst_begins (sensed w.params tap t.since w.trace) m ≡ false
+  pub ends_none : (m : ℕ) → w.now < m → m < next.now → burst_ends (sensed w.params tap t.since w.trace) m ≡ false
+  pub alternate : Alternates (is_open (sensed w.params tap t.since w.trace) w.now) (marks_of_pass w.params tap t w.trace w.now next.now)
+      (is_open (sensed w.params tap t.since w.trace) next.now)
 
 -- every entry lasts for some time, and has ended by a moment
 abbrev pub AllOver : ℕ → List Entry → Type 0

@@ -3,7 +3,7 @@ use Rattle.std.specs.Prelude.{ℕ, ◌+◌, Bool, true, false, if◌then◌else�
 use Rattle.pb_model.specs.Bus.{Params, Span, tto}
 use Rattle.pb_model.specs.Marks.{Mark, seen_at}
 
--- The phases. A holder's `ready` is the moment at which it speaks.
+-- The phases. A holder's `ready` is the earliest moment at which it speaks.
 pub data Phase : Type 0 where
   Offline : Phase
   PassiveIdle : Phase

@@ -18,7 +18,8 @@ pub use medium_laws::{
 };
 pub use turn_laws::{
     a_busy_station_waits, a_mark_comes_before_a_timer_at_its_moment, a_slot_counts_from_the_end,
-    a_turn_leaves_the_due_later, nothing_due_changes_nothing, who_says_nothing,
+    a_station_that_is_due_speaks, a_turn_leaves_the_due_later, nothing_due_changes_nothing,
+    the_choice_is_asked_at_most_once, who_says_nothing,
 };
 pub use world_laws::{
     a_refused_event_changes_nothing, marks_stand_in_order_of_time, the_clock_never_falls,

@@ -1,9 +1,10 @@
-ghost use Rattle.std.specs.Prelude.{◌≡◌, ◌≢◌, ◌≤◌, ◌<◌, ℕ, true, false, List, [], ◌∷◌, ◌++◌};
+ghost use Rattle.std.specs.Prelude.{◌≡◌, ◌≢◌, ◌≤◌, ◌<◌, ℕ, true, false, List, [], ◌∷◌, ◌++◌, map};
 ghost use Rattle.pb_telegram.specs.declared.chars.RxChar.{RxChar};
 ghost use Rattle.pb_telegram.specs.declared.chars.RxChar.TheVariants.{Bad};
 ghost use Rattle.pb_model.specs.Bus.{Params, Span};
 ghost use Rattle.pb_model.specs.Trace.{Record, Entry, Sent, entry_begin, with_entry};
-ghost use Rattle.pb_model.specs.Medium.{Tap, sensed, burst_begins, burst_ends, fills_burst, burst_characters, is_whole_at, marks_between};
+ghost use Rattle.pb_model.specs.Medium.{Tap, sensed, burst_begins, burst_ends, fills_burst, burst_characters, is_whole_at, marks_between, entry_at};
+ghost use Rattle.pb_model.specs.World.{next_end_of};
 ghost use Rattle.pb_model.specs.Laws.{is_open, AllFrom, AllOver, FillsBurst, FillsAlone};
 
 /// What a tap sends adds nothing to what it senses.
@@ -18,28 +19,32 @@ pub fn stretches_that_touch_stay_apart()
         → (burst_ends (a ∷ b ∷ []) a.end ≡ true) × (burst_begins (a ∷ b ∷ []) b.begin ≡ true) }
 {}
 
-/// Two stretches that overlap are one burst: none begins where the second does, and none ends where
-/// the first does.
+/// Two stretches that overlap are one burst, from the first's begin to the second's end: none begins
+/// where the second does, and none ends where the first does.
 pub fn stretches_that_overlap_are_one_burst()
-    ensures { (a b : Span) → a.begin < b.begin → b.begin < a.end → a.end < b.end
+    ensures ends { (a b : Span) → a.begin < b.begin → b.begin < a.end → a.end < b.end
+        → (burst_begins (a ∷ b ∷ []) a.begin ≡ true) × (burst_ends (a ∷ b ∷ []) b.end ≡ true) }
+    ensures within { (a b : Span) → a.begin < b.begin → b.begin < a.end → a.end < b.end
         → (burst_begins (a ∷ b ∷ []) b.begin ≡ false) × (burst_ends (a ∷ b ∷ []) a.end ≡ false) }
 {}
 
-/// A burst brings the characters of a telegram exactly where one filled it alone, the tap ran all
-/// the while, and sent nothing meanwhile; else it brings one damaged character.
+/// A burst brings the characters of a telegram exactly where one filled it alone, which the tap heard
+/// from its beginning, sending nothing meanwhile; else it brings one damaged character.
 pub fn whole_telegrams_fill_their_bursts_alone()
     ensures brought { (p : Params) (tap : ℕ) (t : Tap) (trace : List Entry) (m : ℕ) → burst_characters p tap t trace m ≢ Bad ∷ []
         → FillsBurst p tap t trace m (burst_characters p tap t trace m) }
     ensures filled { (p : Params) (tap : ℕ) (t : Tap) (trace : List Entry) (m : ℕ) (chars : List RxChar) → FillsBurst p tap t trace m chars
         → FillsBurst p tap t trace m (burst_characters p tap t trace m) }
     ensures alone { (p : Params) (tap : ℕ) (t : Tap) (trace : List Entry) (r : Record) → fills_burst p tap t trace r ≡ true → FillsAlone p tap t trace r }
+    ensures lone { (p : Params) (tap : ℕ) (t : Tap) (trace : List Entry) (r : Record) → FillsAlone p tap t trace r → fills_burst p tap t trace r ≡ true }
 {}
 
-/// Two telegrams that begin in one instant don't hear each other.
+/// Two telegrams that begin in one instant don't hear each other: neither fills a burst at the tap
+/// that sends the other.
 pub fn telegrams_of_one_instant_are_not_heard()
     ensures { (p : Params) (tap : ℕ) (t : Tap) (trace before after : List Entry) (q r : Record) → p.ttd ≡ 0
         → trace ≡ before ++ Sent q ∷ after → q.tap ≡ tap → q.begin ≡ r.begin → q.begin < q.end → r.begin < r.end
-        → is_whole_at p tap t trace r ≡ false }
+        → fills_burst p tap t trace r ≡ false }
 {}
 
 /// Only a pass opens a burst at a tap: nothing is open at its start, and what begins now opens none
@@ -51,8 +56,12 @@ pub fn only_a_pass_opens_a_burst()
 {}
 
 /// What has ended before everything recent began, and before the clock, matters no more: a tap's
-/// marks are those of the recent entries alone.
+/// marks, the next end, and what recent telegrams are at the taps come from the recent entries alone.
 pub fn what_has_ended_matters_no_more()
-    ensures { (p : Params) (tap m from to : ℕ) (t : Tap) (old recent : List Entry) → p.ttd ≡ 0 → AllOver m old → AllFrom m recent → m ≤ from
+    ensures ends { (p : Params) (m now : ℕ) (old recent : List Entry) → p.ttd ≡ 0 → AllOver m old → m ≤ now
+        → next_end_of p now (old ++ recent) ≡ next_end_of p now recent }
+    ensures telegrams { (p : Params) (m now : ℕ) (taps : List Tap) (old recent : List Entry) → p.ttd ≡ 0 → AllOver m old → AllFrom m recent
+        → map (entry_at p taps (old ++ recent) now) recent ≡ map (entry_at p taps recent now) recent }
+    ensures marks { (p : Params) (tap m from to : ℕ) (t : Tap) (old recent : List Entry) → p.ttd ≡ 0 → AllOver m old → AllFrom m recent → m ≤ from
         → marks_between p tap t (old ++ recent) from to ≡ marks_between p tap t recent from to }
 {}

@@ -1,3 +1,4 @@
 pub mod FaultWords
 pub mod Faults
 pub mod Grammar
+pub mod Initiators

@@ -22,9 +22,7 @@ pub use laws::{
     what_is_spelled_has_no_fault,
 };
 pub use parsing::parse;
-pub use telegrams::{
-    ACKNOWLEDGEMENT, END, SHORT_START, ShortTelegram, TOKEN_START, Telegram, TokenTelegram,
-};
+pub use telegrams::{ShortTelegram, Telegram, TokenTelegram};
 pub use writing::write;
 
 #[cfg(test)]

@@ -1,4 +1,5 @@
 ghost use Rattle.std.specs.Prelude.{◌≡◌};
+ghost use Rattle.pb_model.specs.Station as model;
 ghost use Rattle.pb_model.specs.Station.{may_initiate};
 ghost use Rattle.pb_tokenfsm.specs.Phases.{phase_of, name_of};
 
@@ -44,6 +45,21 @@ impl Phase {
             Phase::Use(_) => "Use",
             Phase::Pass(_) => "Pass",
             Phase::Checking(_) => "Checking",
+        }
+    }
+
+    /// The station stops, in whatever phase it is.
+    pub fn stop(self) -> Offline
+        ensures { phase_of (Phase.Offline result) ≡ model.Offline }
+    {
+        match self {
+            Phase::Offline(offline) => offline,
+            Phase::PassiveIdle(passive) => passive.stop(),
+            Phase::Idle(idle) => idle.stop(),
+            Phase::Claim(holder) => holder.on_foreign().stop(),
+            Phase::Use(holder) => holder.on_foreign().stop(),
+            Phase::Pass(holder) => holder.on_foreign().stop(),
+            Phase::Checking(checking) => checking.stop(),
         }
     }
 }

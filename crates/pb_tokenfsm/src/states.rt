@@ -1,14 +1,16 @@
 ghost use Rattle.std.specs.Prelude.{◌≡◌, true, false, max, Some, None};
 ghost use Rattle.pb_telegram.specs.Grammar.{spelling};
+ghost use Rattle.pb_telegram.specs.Initiators.{IsInitiator};
+ghost use Rattle.pb_model.specs.Station as model;
 ghost use Rattle.pb_model.specs.Turn.{token_heard, claim_sent, token_sent};
-ghost use Rattle.pb_tokenfsm.specs.Phases.{phase_of, MayFollowDamage};
+ghost use Rattle.pb_tokenfsm.specs.Phases.{phase_of, refused_by, ready_of, claims_sent, is_noted, MayFollowDamage};
 
 use crate::phases::Phase;
 use arrayvec::ArrayVec;
 use pb_telegram::{Telegram, TokenTelegram, write};
 
-/// The station does not run.
-#[derive(Debug)]
+/// The station does not run. Of all states this one may be let go.
+#[derive(Debug, Drop)]
 pub struct Offline;
 
 /// A passive station, which says nothing as an initiator.
@@ -19,30 +21,30 @@ pub struct PassiveIdle;
 #[derive(Debug)]
 pub struct Idle {
     /// The station whose token to this one was not accepted, if any.
-    pub refused: Option<u8>,
+    refused: Option<u8>,
 }
 
 /// The token has been passed, and the station waits for a sign that it was taken.
 #[derive(Debug)]
 pub struct Checking {
     /// Whether a whole telegram came in the slot.
-    pub noted: bool,
+    noted: bool,
 }
 
-/// A station that may initiate, and the moment at which it speaks.
+/// A station that may initiate, and the earliest moment at which it speaks.
 #[derive(Debug)]
 pub struct Holding<S> {
     /// The moment at which it speaks, in bit times.
-    pub ready: u64,
+    ready: u64,
     /// What it is about.
-    pub state: S,
+    state: S,
 }
 
 /// It claims the token, with two token telegrams to its own address.
 #[derive(Debug, Drop)]
 pub struct Claim {
     /// How many of the two are sent.
-    pub sent: u8,
+    sent: u8,
 }
 
 /// It uses the token.
@@ -53,10 +55,22 @@ pub struct Use;
 #[derive(Debug, Drop)]
 pub struct Pass;
 
+impl PassiveIdle {
+    pub(crate) fn stop(self) -> Offline {
+        let PassiveIdle = self;
+        Offline
+    }
+}
+
 impl Idle {
+    pub(crate) fn stop(self) -> Offline {
+        let Idle { refused: _ } = self;
+        Offline
+    }
+
     /// A station that has refused nobody's token.
     pub fn new() -> Idle
-        ensures { result ≡ record { refused = None } }
+        ensures { phase_of (Phase.Idle result) ≡ model.Idle None }
     {
         Idle { refused: None }
     }
@@ -66,7 +80,7 @@ impl Idle {
     /// (EN 50170-2, token passing); the station speaks at `ready` then. From another station it is
     /// not accepted, and that station is remembered.
     pub fn hear_token(self, token: &TokenTelegram, ts: u8, ps: u8, ready: u64) -> Phase
-        ensures { phase_of result ≡ token_heard self.refused token.now.da token.now.sa ts ps ready }
+        ensures { phase_of result ≡ token_heard (refused_by self) token.now.da token.now.sa ts ps ready }
     {
         if token.da != ts {
             return Phase::Idle(self);
@@ -82,7 +96,7 @@ impl Idle {
 
     /// The time-out has ended: the station claims the token at `ready`.
     pub fn on_timeout(self, ready: u64) -> Holding<Claim>
-        ensures { result ≡ record { ready = ready; state = record { sent = 0 } } }
+        ensures { phase_of (Phase.Claim result) ≡ model.Claim 0 ready }
     {
         let Idle { refused: _ } = self;
         Holding {
@@ -93,8 +107,16 @@ impl Idle {
 }
 
 impl<S: Drop> Holding<S> {
-    /// The octets of a token or a request that the station says.
+    /// The moment at which the station speaks, in bit times.
+    pub fn ready(&self) -> u64
+        ensures { result ≡ ready_of self.now }
+    {
+        self.ready
+    }
+
+    /// The octets of a telegram that the station says: a token or a request, the caller's condition.
     pub fn initiate(&self, telegram: &Telegram) -> ArrayVec<u8, 255>
+        requires { IsInitiator telegram.now }
         ensures { result.items ≡ spelling telegram.now }
     {
         write(telegram)
@@ -102,7 +124,7 @@ impl<S: Drop> Holding<S> {
 
     /// Another station is heard: the token is lost.
     pub fn on_foreign(self) -> Idle
-        ensures { result ≡ record { refused = None } }
+        ensures { phase_of (Phase.Idle result) ≡ model.Idle None }
     {
         let Holding { ready: _, state: _ } = self;
         Idle { refused: None }
@@ -113,7 +135,7 @@ impl Holding<Claim> {
     /// A claim token is sent, and the station speaks again at `ready`: its second claim token after
     /// the first, and then as it uses the token.
     pub fn on_sent(self, ready: u64) -> Phase
-        ensures { phase_of result ≡ claim_sent self.state.sent ready }
+        ensures { phase_of result ≡ claim_sent (claims_sent self) ready }
     {
         let Holding {
             ready: _,
@@ -133,7 +155,7 @@ impl Holding<Use> {
     /// Nothing is left to say but the token: it is passed at the moment at which the station was to
     /// speak.
     pub fn done(self) -> Holding<Pass>
-        ensures { result.ready ≡ self.ready }
+        ensures { ready_of result ≡ ready_of self }
     {
         let Holding { ready, state: Use } = self;
         Holding { ready, state: Pass }
@@ -144,7 +166,8 @@ impl Holding<Pass> {
     /// The token is sent from `ts` to the next station `ns`. A token to the own address is a
     /// receipt, and the station speaks at `ready`.
     pub fn on_sent(self, ns: u8, ts: u8, ready: u64) -> Phase
-        ensures { phase_of result ≡ token_sent ns ts ready }
+        ensures phase { phase_of result ≡ token_sent ns ts ready }
+        ensures fresh { is_noted result ≡ false }
     {
         let Holding {
             ready: _,
@@ -158,9 +181,14 @@ impl Holding<Pass> {
 }
 
 impl Checking {
+    pub(crate) fn stop(self) -> Offline {
+        let Checking { noted: _ } = self;
+        Offline
+    }
+
     /// A whole telegram came in the slot.
     pub fn noted_whole(self) -> Checking
-        ensures { result ≡ record { noted = true } }
+        ensures { is_noted (Phase.Checking result) ≡ true }
     {
         let Checking { noted: _ } = self;
         Checking { noted: true }
@@ -169,7 +197,7 @@ impl Checking {
     /// An end came in the slot at `at`, whose slot ends at `slot_end`. The station may pass the
     /// token again only where no whole telegram was noted.
     pub fn on_damaged(self, at: u64, slot_end: u64) -> Phase
-        ensures { MayFollowDamage self.noted (max at slot_end) result }
+        ensures { MayFollowDamage (is_noted (Phase.Checking self)) (max at slot_end) result }
     {
         let Checking { noted } = self;
         if noted {
@@ -183,7 +211,7 @@ impl Checking {
 
     /// The slot ended in silence: the token is passed again at `ready`.
     pub fn on_silence(self, ready: u64) -> Holding<Pass>
-        ensures { result.ready ≡ ready }
+        ensures { ready_of result ≡ ready }
     {
         let Checking { noted: _ } = self;
         Holding { ready, state: Pass }

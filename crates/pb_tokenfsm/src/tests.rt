@@ -108,50 +108,55 @@ fn a_token_is_taken_from_the_previous_station(rt: HostRuntime) {
     let Phase::Idle(idle) = phase else {
         return leave(phase);
     };
-    assert_eq!(rt; idle.refused, Some(2));
     let phase = idle.hear_token(&from_two, 1, 3, 200);
     assert_eq!(rt; phase.name(), "Use");
     leave(phase);
+}
+
+/// A station with address 1 that has taken the token from station 3 and passed it to station 2.
+fn checking() -> Option<Checking> {
+    let token = TokenTelegram { da: 1, sa: 3 };
+    match Idle::new().hear_token(&token, 1, 3, 900) {
+        Phase::Use(holder) => match holder.done().on_sent(2, 1, 1010) {
+            Phase::Checking(checking) => Some(checking),
+            other => {
+                leave(other);
+                None
+            }
+        },
+        other => {
+            leave(other);
+            None
+        }
+    }
 }
 
 /// After its token a station that hears nothing passes it again, and one that has heard a whole
 /// telegram does not.
 #[test]
 fn a_token_is_passed_again_only_without_a_sign(rt: HostRuntime) {
-    let phase = (Checking { noted: false })
-        .on_silence(1073)
-        .on_sent(2, 1, 1143);
-    assert_eq!(rt; phase.name(), "Checking");
-    leave(phase);
-    let phase = (Checking { noted: false }).on_damaged(1043, 1073);
-    assert_eq!(rt; phase.name(), "Pass");
-    leave(phase);
-    let phase = (Checking { noted: false })
-        .noted_whole()
-        .on_damaged(1043, 1073);
+    if let Some(silent) = checking() {
+        let again = silent.on_silence(1073);
+        assert_eq!(rt; again.ready(), 1073);
+        let phase = again.on_sent(2, 1, 1143);
+        assert_eq!(rt; phase.name(), "Checking");
+        leave(phase);
+    }
+    if let Some(damaged) = checking() {
+        let phase = damaged.on_damaged(1043, 1073);
+        assert_eq!(rt; phase.name(), "Pass");
+        leave(phase);
+    }
+    let Some(taken) = checking() else {
+        assert!(rt; false, "no check of the token pass");
+        return;
+    };
+    let phase = taken.noted_whole().on_damaged(1043, 1073);
     assert_eq!(rt; phase.name(), "Idle");
     leave(phase);
 }
 
-/// Takes a phase apart at a test's end, since it can't be let go.
+/// Stops a station at a test's end, since its phase can't be let go.
 fn leave(phase: Phase) {
-    match phase {
-        Phase::Offline(offline) => {
-            let Offline = offline;
-        }
-        Phase::PassiveIdle(passive) => {
-            let PassiveIdle = passive;
-        }
-        Phase::Idle(idle) => leave_idle(idle),
-        Phase::Checking(checking) => {
-            let Checking { noted: _ } = checking;
-        }
-        Phase::Claim(holder) => leave_idle(holder.on_foreign()),
-        Phase::Use(holder) => leave_idle(holder.on_foreign()),
-        Phase::Pass(holder) => leave_idle(holder.on_foreign()),
-    }
-}
-
-fn leave_idle(idle: Idle) {
-    let Idle { refused: _ } = idle;
+    let _stopped = phase.stop();
 }
