@@ -127,7 +127,7 @@ impl<S: Drop> Holding<S> {
         ensures { phase_of (Phase.Idle result) ≡ model.Idle None }
     {
         let Holding { ready: _, state: _ } = self;
-        Idle { refused: None }
+        Idle::new()
     }
 }
 
@@ -158,7 +158,8 @@ impl Holding<Use> {
         ensures { ready_of result ≡ ready_of self }
     {
         let Holding { ready, state: Use } = self;
-        Holding { ready, state: Pass }
+        let state = Pass;
+        Holding { ready, state }
     }
 }
 
@@ -201,7 +202,7 @@ impl Checking {
     {
         let Checking { noted } = self;
         if noted {
-            return Phase::Idle(Idle { refused: None });
+            return Phase::Idle(Idle::new());
         }
         Phase::Pass(Holding {
             ready: at.max(slot_end),

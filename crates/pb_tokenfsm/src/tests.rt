@@ -113,6 +113,15 @@ fn a_token_is_taken_from_the_previous_station(rt: HostRuntime) {
     leave(phase);
 }
 
+/// A holder that hears another station gives the token up.
+#[test]
+fn a_holder_gives_way(rt: HostRuntime) {
+    let phase = Phase::Idle(Idle::new().on_timeout(800).on_foreign());
+    assert!(rt; !phase.may_initiate());
+    assert_eq!(rt; phase.name(), "Idle");
+    leave(phase);
+}
+
 /// A station with address 1 that has taken the token from station 3 and passed it to station 2.
 fn checking() -> Option<Checking> {
     let token = TokenTelegram { da: 1, sa: 3 };
