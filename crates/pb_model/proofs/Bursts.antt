@@ -4,7 +4,7 @@ use Rattle.std.specs.Prelude.{nat_lt, nat_le, is_some, find, IfSome}
 use Rattle.std.specs.List.{list_any}
 use Rattle.std.proofs.lemmas.Bool.{and_parts, leb-true, ltb-true, ne_eqb}
 use Rattle.std.proofs.lemmas.Bool.Decides.{nat_tests}
-use Rattle.pb_model.specs.Bus.{Params, Span}
+use Rattle.pb_model.specs.Bus.{Span}
 use Rattle.pb_model.specs.Marks.{Mark, Begin, End}
 use Rattle.pb_model.specs.Trace.{Entry}
 use Rattle.pb_model.specs.Medium.{Tap, sensed, begins_at, ends_at, lasts_through, burst_begins, burst_ends, burst_characters, begins_in, ends_in, begin_mark, end_mark, marks_between}
@@ -89,33 +89,33 @@ ends_in-ready t u later spans x begun some ready = ends_in_numbers t u x.end lat
 -- ---- the marks of a window
 
 -- whether there is a Begin and an End, by what lasts and begins at t, and ends and lasts at u
-alternates_by : (p : Params) (tap : ℕ) (t : Tap) (trace : List Entry) (u : ℕ) (begun ended : Option Span) (lasted begins ends lasts : Bool)
+alternates_by : (delay : ℕ) (tap : ℕ) (t : Tap) (trace : List Entry) (u : ℕ) (begun ended : Option Span) (lasted begins ends lasts : Bool)
     → is_some begun ≡ (begins && not lasted) → is_some ended ≡ (ends && not lasts) → (lasted || begins) ≡ (ends || lasts)
-    → Alternates lasted (begin_mark u begun ++ end_mark p tap t trace u ended) lasts
-alternates_by p tap t trace u None None true begins ends true a b c = refl
-alternates_by p tap t trace u None None true begins true false a b c = absurd cc
-alternates_by p tap t trace u None None true begins false false a b c = absurd cc
-alternates_by p tap t trace u None None false begins ends false a b c = refl
-alternates_by p tap t trace u None None false true ends true a b c = absurd cc
-alternates_by p tap t trace u None None false false true true a b c = absurd cc
-alternates_by p tap t trace u None None false false false true a b c = absurd cc
-alternates_by p tap t trace u (Some x) None true true ends lasts a b c = absurd cc
-alternates_by p tap t trace u (Some x) None true false ends lasts a b c = absurd cc
-alternates_by p tap t trace u (Some x) None false begins ends true a b c = refl
-alternates_by p tap t trace u (Some x) None false begins true false a b c = absurd cc
-alternates_by p tap t trace u (Some x) None false true false false a b c = absurd cc
-alternates_by p tap t trace u (Some x) None false false false false a b c = absurd cc
-alternates_by p tap t trace u None (Some y) true begins ends false a b c = refl
-alternates_by p tap t trace u None (Some y) true begins true true a b c = absurd cc
-alternates_by p tap t trace u None (Some y) true begins false true a b c = absurd cc
-alternates_by p tap t trace u None (Some y) false true ends lasts a b c = absurd cc
-alternates_by p tap t trace u None (Some y) false false true lasts a b c = absurd cc
-alternates_by p tap t trace u None (Some y) false false false lasts a b c = absurd cc
-alternates_by p tap t trace u (Some x) (Some y) true true ends lasts a b c = absurd cc
-alternates_by p tap t trace u (Some x) (Some y) true false ends lasts a b c = absurd cc
-alternates_by p tap t trace u (Some x) (Some y) false begins ends false a b c = refl
-alternates_by p tap t trace u (Some x) (Some y) false begins true true a b c = absurd cc
-alternates_by p tap t trace u (Some x) (Some y) false begins false true a b c = absurd cc
+    → Alternates lasted (begin_mark u begun ++ end_mark delay tap t trace u ended) lasts
+alternates_by delay tap t trace u None None true begins ends true a b c = refl
+alternates_by delay tap t trace u None None true begins true false a b c = absurd cc
+alternates_by delay tap t trace u None None true begins false false a b c = absurd cc
+alternates_by delay tap t trace u None None false begins ends false a b c = refl
+alternates_by delay tap t trace u None None false true ends true a b c = absurd cc
+alternates_by delay tap t trace u None None false false true true a b c = absurd cc
+alternates_by delay tap t trace u None None false false false true a b c = absurd cc
+alternates_by delay tap t trace u (Some x) None true true ends lasts a b c = absurd cc
+alternates_by delay tap t trace u (Some x) None true false ends lasts a b c = absurd cc
+alternates_by delay tap t trace u (Some x) None false begins ends true a b c = refl
+alternates_by delay tap t trace u (Some x) None false begins true false a b c = absurd cc
+alternates_by delay tap t trace u (Some x) None false true false false a b c = absurd cc
+alternates_by delay tap t trace u (Some x) None false false false false a b c = absurd cc
+alternates_by delay tap t trace u None (Some y) true begins ends false a b c = refl
+alternates_by delay tap t trace u None (Some y) true begins true true a b c = absurd cc
+alternates_by delay tap t trace u None (Some y) true begins false true a b c = absurd cc
+alternates_by delay tap t trace u None (Some y) false true ends lasts a b c = absurd cc
+alternates_by delay tap t trace u None (Some y) false false true lasts a b c = absurd cc
+alternates_by delay tap t trace u None (Some y) false false false lasts a b c = absurd cc
+alternates_by delay tap t trace u (Some x) (Some y) true true ends lasts a b c = absurd cc
+alternates_by delay tap t trace u (Some x) (Some y) true false ends lasts a b c = absurd cc
+alternates_by delay tap t trace u (Some x) (Some y) false begins ends false a b c = refl
+alternates_by delay tap t trace u (Some x) (Some y) false begins true true a b c = absurd cc
+alternates_by delay tap t trace u (Some x) (Some y) false begins false true a b c = absurd cc
 
 -- ---- a window of spans
 
@@ -133,10 +133,10 @@ ends-found from to spans later ready =
     ∙ list_any-and (ends_at to) (burst_ends spans to) spans
     ∙ and_again (list_any (ends_at to) spans) (not (list_any (lasts_through to) spans))
 
-pub alternates-spans : (p : Params) (tap : ℕ) (t : Tap) (trace : List Entry) (from to : ℕ) (spans : List Span) → from < to → AllReady from to spans
-    → Alternates (is_open spans from) (begin_mark to (find (begins_in spans from to) spans) ++ end_mark p tap t trace to (find (ends_in spans from to) spans)) (is_open spans to)
-alternates-spans p tap t trace from to spans later ready =
-    alternates_by p tap t trace to (find (begins_in spans from to) spans) (find (ends_in spans from to) spans)
+pub alternates-spans : (delay : ℕ) (tap : ℕ) (t : Tap) (trace : List Entry) (from to : ℕ) (spans : List Span) → from < to → AllReady from to spans
+    → Alternates (is_open spans from) (begin_mark to (find (begins_in spans from to) spans) ++ end_mark delay tap t trace to (find (ends_in spans from to) spans)) (is_open spans to)
+alternates-spans delay tap t trace from to spans later ready =
+    alternates_by delay tap t trace to (find (begins_in spans from to) spans) (find (ends_in spans from to) spans)
     (list_any (lasts_through from) spans) (list_any (begins_at from) spans) (list_any (ends_at to) spans) (list_any (lasts_through to) spans)
     (begins-found from to spans later ready) (ends-found from to spans later ready)
     (list_any-or (lasts_through from) (begins_at from) spans
@@ -165,27 +165,27 @@ begin_mark-exact from to spans (Some x) true e found =
     ap (λ (m : ℕ). Begin m to ∷ []) same
 begin_mark-exact from to spans (Some x) false e found = absurd cc
 
-end_mark-exact : (p : Params) (tap : ℕ) (t : Tap) (trace : List Entry) (from to : ℕ) (spans : List Span) (o : Option Span) (b : Bool) → is_some o ≡ b
+end_mark-exact : (delay : ℕ) (tap : ℕ) (t : Tap) (trace : List Entry) (from to : ℕ) (spans : List Span) (o : Option Span) (b : Bool) → is_some o ≡ b
     → IfSome o (λ x. (ends_in spans from to x ≡ true) × (x.begin ≤ from) × (from < x.end → to ≤ x.end))
-    → end_mark p tap t trace to o ≡ (if b then End to to (burst_characters p tap t trace to) ∷ [] else [])
-end_mark-exact p tap t trace from to spans None true e found = absurd cc
-end_mark-exact p tap t trace from to spans None false e found = refl
-end_mark-exact p tap t trace from to spans (Some x) true e found =
+    → end_mark delay tap t trace to o ≡ (if b then End to to (burst_characters delay tap t trace to) ∷ [] else [])
+end_mark-exact delay tap t trace from to spans None true e found = absurd cc
+end_mark-exact delay tap t trace from to spans None false e found = refl
+end_mark-exact delay tap t trace from to spans (Some x) true e found =
     let both = and_parts (nat_lt from x.end && nat_le x.end to) (burst_ends spans x.end) found.0 in
     let window = and_parts (nat_lt from x.end) (nat_le x.end to) both.0 in
     let after : from < x.end = ltb-true from x.end window.0 in
     let same : x.end ≡ to = omega (arith, leb-true x.end to window.1, found.2 after) in
-    ap (λ (m : ℕ). End m to (burst_characters p tap t trace m) ∷ []) same
-end_mark-exact p tap t trace from to spans (Some x) false e found = absurd cc
+    ap (λ (m : ℕ). End m to (burst_characters delay tap t trace m) ∷ []) same
+end_mark-exact delay tap t trace from to spans (Some x) false e found = absurd cc
 
-pub marks_between-exact : (p : Params) (tap : ℕ) (t : Tap) (trace : List Entry) (from to : ℕ) → from < to → AllReady from to (sensed p tap t.since trace)
-    → marks_between p tap t trace from to ≡ marks_of_pass p tap t trace from to
-marks_between-exact p tap t trace from to later ready =
-    let spans = sensed p tap t.since trace in
-    ap (λ (ms : List Mark). ms ++ end_mark p tap t trace to (find (ends_in spans from to) spans))
+pub marks_between-exact : (delay : ℕ) (tap : ℕ) (t : Tap) (trace : List Entry) (from to : ℕ) → from < to → AllReady from to (sensed delay tap t.since trace)
+    → marks_between delay tap t trace from to ≡ marks_of_pass delay tap t trace from to
+marks_between-exact delay tap t trace from to later ready =
+    let spans = sensed delay tap t.since trace in
+    ap (λ (ms : List Mark). ms ++ end_mark delay tap t trace to (find (ends_in spans from to) spans))
     (begin_mark-exact from to spans (find (begins_in spans from to) spans) (burst_begins spans from) (begins-found from to spans later ready) (found_ready from to (begins_in spans from to) spans ready))
     ∙ ap (λ (ms : List Mark). (if burst_begins spans from then Begin from to ∷ [] else []) ++ ms)
-    (end_mark-exact p tap t trace from to spans (find (ends_in spans from to) spans) (burst_ends spans to) (ends-found from to spans later ready) (found_ready from to (ends_in spans from to) spans ready))
+    (end_mark-exact delay tap t trace from to spans (find (ends_in spans from to) spans) (burst_ends spans to) (ends-found from to spans later ready) (found_ready from to (ends_in spans from to) spans ready))
 
 -- ---- between the clocks
 

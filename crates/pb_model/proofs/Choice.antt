@@ -91,7 +91,8 @@ heard-either p a b s (Begin at seen) e = refl
 heard-either p a b s (End at seen chars) e =
     ap (λ (ph : Phase). record s { busy = false; quiet = max s.quiet at; phase = ph }) (ended-either p a b s s.phase at (arrival_of chars) e)
 
-after_mark-either : (p : Params) (a b : Bool) (s : Station) (m : Mark) → is_checking s.phase ≡ false → after_mark p a s m ≡ after_mark p b s m
+-- nor at a mark
+pub after_mark-either : (p : Params) (a b : Bool) (s : Station) (m : Mark) → is_checking s.phase ≡ false → after_mark p a s m ≡ after_mark p b s m
 after_mark-either p a b s m e = ap (λ (x : Station). if is_offline s.phase then s else x) (heard-either p a b s m e)
 
 -- a station that is not in Checking never asks for the choice

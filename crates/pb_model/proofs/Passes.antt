@@ -3,7 +3,6 @@ use Rattle.std.proofs.Common.{◌≡◌, ℕ, ◌+◌, ◌<◌, ◌≤◌, List,
 use Rattle.std.specs.Prelude.{slice_get}
 use Rattle.std.proofs.lemmas.Bool.{eqb-false}
 use Rattle.std.proofs.lemmas.Option.{none-some, same_Some}
-use Rattle.pb_model.specs.Bus.{Params}
 use Rattle.pb_model.specs.Marks.{Mark}
 use Rattle.pb_model.specs.Trace.{Entry}
 use Rattle.pb_model.specs.Medium.{Tap, sensed, marks_between, new_marks, entry_at}
@@ -15,17 +14,17 @@ use Rattle.pb_model.proofs.Sensed.{ready-sensed}
 use Rattle.pb_model.proofs.Worlds.{unless-Ok}
 
 -- a tap that was there has its new marks behind those it had
-told-at : (p : Params) (trace : List Entry) (from to k : ℕ) (ts : List Tap) (i : ℕ) (t : Tap) → slice_get ts i ≡ Some t
-    → slice_get (told p trace from to k ts) i ≡ Some (record t { marks = t.marks ++ new_marks p (k + i) t trace from to })
-told-at p trace from to k [] i t e = absurd (none-some t e)
-told-at p trace from to k (x ∷ ts) zero t e =
+told-at : (delay : ℕ) (trace : List Entry) (from to k : ℕ) (ts : List Tap) (i : ℕ) (t : Tap) → slice_get ts i ≡ Some t
+    → slice_get (told delay trace from to k ts) i ≡ Some (record t { marks = t.marks ++ new_marks delay (k + i) t trace from to })
+told-at delay trace from to k [] i t e = absurd (none-some t e)
+told-at delay trace from to k (x ∷ ts) zero t e =
     let same : x ≡ t = same_Some x t e in
     let place : k ≡ k + 0 = omega arith in
-    ap (λ (y : Tap). Some (record y { marks = y.marks ++ new_marks p k y trace from to })) same
-    ∙ ap (λ (n : ℕ). Some (record t { marks = t.marks ++ new_marks p n t trace from to })) place
-told-at p trace from to k (x ∷ ts) (suc i) t e =
+    ap (λ (y : Tap). Some (record y { marks = y.marks ++ new_marks delay k y trace from to })) same
+    ∙ ap (λ (n : ℕ). Some (record t { marks = t.marks ++ new_marks delay n t trace from to })) place
+told-at delay trace from to k (x ∷ ts) (suc i) t e =
     let place : (k + 1) + i ≡ k + suc i = omega arith in
-    told-at p trace from to (k + 1) ts i t e ∙ ap (λ (n : ℕ). Some (record t { marks = t.marks ++ new_marks p n t trace from to })) place
+    told-at delay trace from to (k + 1) ts i t e ∙ ap (λ (n : ℕ). Some (record t { marks = t.marks ++ new_marks delay n t trace from to })) place
 
 started-at : (now : ℕ) (ts : List Tap) (i : ℕ) (t : Tap) → AllInOrder now ts → slice_get ts i ≡ Some t → t.since ≤ now
 started-at now [] i t all e = absurd (none-some t e)
@@ -36,23 +35,23 @@ pub pass_tells : (w next : World) (reply : Reply) (d i : ℕ) (t : Tap) → IsSo
     → PassTells w next i t
 pass_tells w next reply d i t sound ok here running =
     let to = w.now + d in
-    let taps = told w.params w.trace w.now to 0 w.taps in
-    let moved : World = record w { now = to; taps = taps; trace = map (entry_at w.params w.taps w.trace to) w.trace } in
+    let taps = told w.params.ttd w.trace w.now to 0 w.taps in
+    let moved : World = record w { now = to; taps = taps; trace = map (entry_at w.params.ttd w.taps w.trace w.now to) w.trace } in
     let answer : Reply = record { now = to; spoke = None } in
     let both = unless-Ok (pass_faults w d taps) (moved, answer) (next, reply) ok in
     let same : moved ≡ next = ap (λ (pair : World × Reply). pair.0) both.1 in
     let some : d ≡ 0 → ⊥ = eqb-false d 0 both.0.0 in
     let later : w.now < to = grind (arith, some) in
-    let spans = sensed w.params i t.since w.trace in
-    let ready = ready-sensed w.params i w.now to t.since w.trace sound.no_delay (started-at w.now w.taps i t sound.in_order here) sound.begun both.0.1.0 in
-    let runs : new_marks w.params i t w.trace w.now to ≡ marks_between w.params i t w.trace w.now to =
-    ap (λ (b : Bool). if b then marks_between w.params i t w.trace w.now to else []) running in
-    let exact = marks_between-exact w.params i t w.trace w.now to later ready in
+    let spans = sensed w.params.ttd i t.since w.trace in
+    let ready = ready-sensed w.params.ttd i w.now to t.since w.trace sound.no_delay (started-at w.now w.taps i t sound.in_order here) sound.begun both.0.1.0 in
+    let runs : new_marks w.params.ttd i t w.trace w.now to ≡ marks_between w.params.ttd i t w.trace w.now to =
+    ap (λ (b : Bool). if b then marks_between w.params.ttd i t w.trace w.now to else []) running in
+    let exact = marks_between-exact w.params.ttd i t w.trace w.now to later ready in
     subst (λ (x : World). PassTells w x i t) same (record {
-      delivered = told-at w.params w.trace w.now to 0 w.taps i t here
-          ∙ ap (λ (n : ℕ). Some (record t { marks = t.marks ++ new_marks w.params n t w.trace w.now to })) (let z : 0 + i ≡ i = omega arith in z)
+      delivered = told-at w.params.ttd w.trace w.now to 0 w.taps i t here
+          ∙ ap (λ (n : ℕ). Some (record t { marks = t.marks ++ new_marks w.params.ttd n t w.trace w.now to })) (let z : 0 + i ≡ i = omega arith in z)
           ∙ ap (λ (ms : List Mark). Some (record t { marks = t.marks ++ ms })) (runs ∙ exact);
       begins_none = begins-none w.now to spans ready;
       ends_none = ends-none w.now to spans ready;
-      alternate = subst (λ (ms : List Mark). Alternates (is_open spans w.now) ms (is_open spans to)) exact (alternates-spans w.params i t w.trace w.now to spans later ready);
+      alternate = subst (λ (ms : List Mark). Alternates (is_open spans w.now) ms (is_open spans to)) exact (alternates-spans w.params.ttd i t w.trace w.now to spans later ready);
     })

@@ -4,7 +4,7 @@ use Rattle.std.specs.Prelude.{nat_lt, max, min, slice_get}
 use Rattle.std.specs.List.{cons_option}
 use Rattle.std.specs.Option.{option_and_then}
 use Rattle.std.proofs.lemmas.Bool.{ltb-true, ltb-false, le-ltb, eq-eqb}
-use Rattle.pb_model.specs.Bus.{Params, Span}
+use Rattle.pb_model.specs.Bus.{Span}
 use Rattle.pb_model.specs.Station.{earlier}
 use Rattle.pb_model.specs.Trace.{Record, Entry, Sent, Noise, entry_begin, goes_before, with_entry}
 use Rattle.pb_model.specs.Medium.{lasts_through, part_after, reaches, is_unheard, at_tap, sensed}
@@ -39,35 +39,35 @@ ready-part_after t u since span rest started begun some ends ready =
     (λ after. (omega arith, omega (arith, ltb-true since span.end after), ends, ready))
     (λ _. ready)
 
-pub ready-sensed : (p : Params) (tap t u since : ℕ) (trace : List Entry) → p.ttd ≡ 0 → since ≤ t → AllBegun t trace → is_past (next_end_of p t trace) u ≡ false
-    → AllReady t u (sensed p tap since trace)
-ready-sensed p tap t u since [] none started begun past = tt
-ready-sensed p tap t u since (Noise span ∷ es) none started begun past =
-    let ends = is_past-earlier (later_end t span.end) (next_end_of p t es) u past in
-    ready-part_after t u since span (sensed p tap since es) started begun.0 begun.1 (later_end-bound t span.end u ends.0)
-    (ready-sensed p tap t u since es none started begun.2 ends.1)
-ready-sensed p tap t u since (Sent r ∷ es) none started begun past =
-    let ends = is_past-earlier (entry_next_end p t (Sent r)) (next_end_of p t es) u past in
-    let own = is_past-earlier (later_end t r.end) (later_end t (reaches p r).end) u ends.0 in
-    let rest : AllReady t u (sensed p tap since es) = ready-sensed p tap t u since es none started begun.2 ends.1 in
-    by_test (λ (o : Option Span). AllReady t u (cons_option (option_and_then (part_after since) o) (sensed p tap since es)))
-    (r.tap == tap || is_unheard (slice_get r.heard tap)) None (Some (reaches p r))
+pub ready-sensed : (delay : ℕ) (tap t u since : ℕ) (trace : List Entry) → delay ≡ 0 → since ≤ t → AllBegun t trace → is_past (next_end_of delay t trace) u ≡ false
+    → AllReady t u (sensed delay tap since trace)
+ready-sensed delay tap t u since [] none started begun past = tt
+ready-sensed delay tap t u since (Noise span ∷ es) none started begun past =
+    let ends = is_past-earlier (later_end t span.end) (next_end_of delay t es) u past in
+    ready-part_after t u since span (sensed delay tap since es) started begun.0 begun.1 (later_end-bound t span.end u ends.0)
+    (ready-sensed delay tap t u since es none started begun.2 ends.1)
+ready-sensed delay tap t u since (Sent r ∷ es) none started begun past =
+    let ends = is_past-earlier (entry_next_end delay t (Sent r)) (next_end_of delay t es) u past in
+    let own = is_past-earlier (later_end t r.end) (later_end t (reaches delay r).end) u ends.0 in
+    let rest : AllReady t u (sensed delay tap since es) = ready-sensed delay tap t u since es none started begun.2 ends.1 in
+    by_test (λ (o : Option Span). AllReady t u (cons_option (option_and_then (part_after since) o) (sensed delay tap since es)))
+    (r.tap == tap || is_unheard (slice_get r.heard tap)) None (Some (reaches delay r))
     (λ _. rest)
-    (λ _. ready-part_after t u since (reaches p r) (sensed p tap since es) started
-    (omega (arith, none, begun.0)) (omega (arith, begun.1)) (later_end-bound t (reaches p r).end u own.1) rest)
+    (λ _. ready-part_after t u since (reaches delay r) (sensed delay tap since es) started
+    (omega (arith, none, begun.0)) (omega (arith, begun.1)) (later_end-bound t (reaches delay r).end u own.1) rest)
 
 -- ---- the own telegram
 
-at_tap-own : (p : Params) (tap : ℕ) (r : Record) → r.tap ≡ tap → at_tap p tap (Sent r) ≡ None
-at_tap-own p tap r own = ap (λ (b : Bool). if b || is_unheard (slice_get r.heard tap) then None else Some (reaches p r)) (eq-eqb r.tap tap own)
+at_tap-own : (delay : ℕ) (tap : ℕ) (r : Record) → r.tap ≡ tap → at_tap delay tap (Sent r) ≡ None
+at_tap-own delay tap r own = ap (λ (b : Bool). if b || is_unheard (slice_get r.heard tap) then None else Some (reaches delay r)) (eq-eqb r.tap tap own)
 
 -- a tap does not sense what it sends
-pub sensed-own : (p : Params) (tap since : ℕ) (r : Record) (trace : List Entry) → r.tap ≡ tap → sensed p tap since (with_entry (Sent r) trace) ≡ sensed p tap since trace
-sensed-own p tap since r [] own = ap (λ (o : Option Span). cons_option (option_and_then (part_after since) o) []) (at_tap-own p tap r own)
-sensed-own p tap since r (e ∷ es) own =
-    by_test (λ (xs : List Entry). sensed p tap since xs ≡ sensed p tap since (e ∷ es)) (goes_before (Sent r) e) (Sent r ∷ e ∷ es) (e ∷ with_entry (Sent r) es)
-    (λ _. ap (λ (o : Option Span). cons_option (option_and_then (part_after since) o) (sensed p tap since (e ∷ es))) (at_tap-own p tap r own))
-    (λ _. ap (λ (xs : List Span). cons_option (option_and_then (part_after since) (at_tap p tap e)) xs) (sensed-own p tap since r es own))
+pub sensed-own : (delay : ℕ) (tap since : ℕ) (r : Record) (trace : List Entry) → r.tap ≡ tap → sensed delay tap since (with_entry (Sent r) trace) ≡ sensed delay tap since trace
+sensed-own delay tap since r [] own = ap (λ (o : Option Span). cons_option (option_and_then (part_after since) o) []) (at_tap-own delay tap r own)
+sensed-own delay tap since r (e ∷ es) own =
+    by_test (λ (xs : List Entry). sensed delay tap since xs ≡ sensed delay tap since (e ∷ es)) (goes_before (Sent r) e) (Sent r ∷ e ∷ es) (e ∷ with_entry (Sent r) es)
+    (λ _. ap (λ (o : Option Span). cons_option (option_and_then (part_after since) o) (sensed delay tap since (e ∷ es))) (at_tap-own delay tap r own))
+    (λ _. ap (λ (xs : List Span). cons_option (option_and_then (part_after since) (at_tap delay tap e)) xs) (sensed-own delay tap since r es own))
 
 -- ---- what is open
 
@@ -79,32 +79,32 @@ open-part_after now since span rest late =
     (λ _. refl)
 
 -- an entry that begins now opens no burst yet
-open-entry : (p : Params) (tap since now : ℕ) (e : Entry) (rest : List Span) → p.ttd ≡ 0 → entry_begin e ≡ now
-    → is_open (cons_option (option_and_then (part_after since) (at_tap p tap e)) rest) now ≡ is_open rest now
-open-entry p tap since now (Noise span) rest none begun = open-part_after now since span rest (omega arith)
-open-entry p tap since now (Sent r) rest none begun =
+open-entry : (delay : ℕ) (tap since now : ℕ) (e : Entry) (rest : List Span) → delay ≡ 0 → entry_begin e ≡ now
+    → is_open (cons_option (option_and_then (part_after since) (at_tap delay tap e)) rest) now ≡ is_open rest now
+open-entry delay tap since now (Noise span) rest none begun = open-part_after now since span rest (omega arith)
+open-entry delay tap since now (Sent r) rest none begun =
     by_test (λ (o : Option Span). is_open (cons_option (option_and_then (part_after since) o) rest) now ≡ is_open rest now)
-    (r.tap == tap || is_unheard (slice_get r.heard tap)) None (Some (reaches p r))
-    (λ _. refl) (λ _. open-part_after now since (reaches p r) rest (omega (arith, none, begun)))
+    (r.tap == tap || is_unheard (slice_get r.heard tap)) None (Some (reaches delay r))
+    (λ _. refl) (λ _. open-part_after now since (reaches delay r) rest (omega (arith, none, begun)))
 
 open-behind : (now : ℕ) (o : Option Span) (xs ys : List Span) → is_open xs now ≡ is_open ys now → is_open (cons_option o xs) now ≡ is_open (cons_option o ys) now
 open-behind now None xs ys same = same
 open-behind now (Some span) xs ys same = ap (λ (b : Bool). lasts_through now span || b) same
 
-pub open-with_entry : (p : Params) (tap since now : ℕ) (e : Entry) (trace : List Entry) → p.ttd ≡ 0 → entry_begin e ≡ now
-    → is_open (sensed p tap since (with_entry e trace)) now ≡ is_open (sensed p tap since trace) now
-open-with_entry p tap since now e [] none begun = open-entry p tap since now e [] none begun
-open-with_entry p tap since now e (x ∷ xs) none begun =
-    by_test (λ (es : List Entry). is_open (sensed p tap since es) now ≡ is_open (sensed p tap since (x ∷ xs)) now) (goes_before e x) (e ∷ x ∷ xs) (x ∷ with_entry e xs)
-    (λ _. open-entry p tap since now e (sensed p tap since (x ∷ xs)) none begun)
-    (λ _. open-behind now (option_and_then (part_after since) (at_tap p tap x)) (sensed p tap since (with_entry e xs)) (sensed p tap since xs)
-    (open-with_entry p tap since now e xs none begun))
+pub open-with_entry : (delay : ℕ) (tap since now : ℕ) (e : Entry) (trace : List Entry) → delay ≡ 0 → entry_begin e ≡ now
+    → is_open (sensed delay tap since (with_entry e trace)) now ≡ is_open (sensed delay tap since trace) now
+open-with_entry delay tap since now e [] none begun = open-entry delay tap since now e [] none begun
+open-with_entry delay tap since now e (x ∷ xs) none begun =
+    by_test (λ (es : List Entry). is_open (sensed delay tap since es) now ≡ is_open (sensed delay tap since (x ∷ xs)) now) (goes_before e x) (e ∷ x ∷ xs) (x ∷ with_entry e xs)
+    (λ _. open-entry delay tap since now e (sensed delay tap since (x ∷ xs)) none begun)
+    (λ _. open-behind now (option_and_then (part_after since) (at_tap delay tap x)) (sensed delay tap since (with_entry e xs)) (sensed delay tap since xs)
+    (open-with_entry delay tap since now e xs none begun))
 
 -- at its start nothing is open at a tap
-pub open-started : (p : Params) (tap now : ℕ) (trace : List Entry) → is_open (sensed p tap now trace) now ≡ false
-open-started p tap now [] = refl
-open-started p tap now (Noise span ∷ es) = open-part_after now now span (sensed p tap now es) (omega arith) ∙ open-started p tap now es
-open-started p tap now (Sent r ∷ es) =
-    by_test (λ (o : Option Span). is_open (cons_option (option_and_then (part_after now) o) (sensed p tap now es)) now ≡ false)
-    (r.tap == tap || is_unheard (slice_get r.heard tap)) None (Some (reaches p r))
-    (λ _. open-started p tap now es) (λ _. open-part_after now now (reaches p r) (sensed p tap now es) (omega arith) ∙ open-started p tap now es)
+pub open-started : (delay : ℕ) (tap now : ℕ) (trace : List Entry) → is_open (sensed delay tap now trace) now ≡ false
+open-started delay tap now [] = refl
+open-started delay tap now (Noise span ∷ es) = open-part_after now now span (sensed delay tap now es) (omega arith) ∙ open-started delay tap now es
+open-started delay tap now (Sent r ∷ es) =
+    by_test (λ (o : Option Span). is_open (cons_option (option_and_then (part_after now) o) (sensed delay tap now es)) now ≡ false)
+    (r.tap == tap || is_unheard (slice_get r.heard tap)) None (Some (reaches delay r))
+    (λ _. open-started delay tap now es) (λ _. open-part_after now now (reaches delay r) (sensed delay tap now es) (omega arith) ∙ open-started delay tap now es)

@@ -6,7 +6,7 @@ use Rattle.std.proofs.lemmas.Bool.{and_parts, or_parts, ne_eqb, eqb-true, eq-eqb
 use Rattle.std.proofs.lemmas.Bool.Decides.{nat_tests}
 use Rattle.pb_telegram.specs.declared.chars.RxChar.{RxChar}
 use Rattle.pb_telegram.specs.declared.chars.RxChar.TheVariants.{Bad}
-use Rattle.pb_model.specs.Bus.{Params, Span}
+use Rattle.pb_model.specs.Bus.{Span}
 use Rattle.pb_model.specs.Trace.{Record, Entry, Sent, Noise}
 use Rattle.pb_model.specs.Medium.{Tap, overlaps, reaches, is_unheard, sensed, hears_from, sends_during, fills_burst, fills_burst_to, entry_characters, burst_characters, burst_begins, burst_ends}
 use Rattle.pb_model.specs.Laws.{FillsBurst, FillsAlone}
@@ -18,11 +18,11 @@ not_true : (b : Bool) → not b ≡ true → b ≡ false
 not_true true e = cc
 not_true false e = refl
 
-pub fills_alone : (p : Params) (tap : ℕ) (t : Tap) (trace : List Entry) (r : Record) → fills_burst p tap t trace r ≡ true → FillsAlone p tap t trace r
-fills_alone p tap t trace r e =
-    let span = reaches p r in
+pub fills_alone : (delay : ℕ) (tap : ℕ) (t : Tap) (trace : List Entry) (r : Record) → fills_burst delay tap t trace r ≡ true → FillsAlone delay tap t trace r
+fills_alone delay tap t trace r e =
+    let span = reaches delay r in
     let others : Bool = r.tap == tap || is_unheard (slice_get r.heard tap) in
-    let alone : Bool = count_by (overlaps span) (sensed p tap t.since trace) == 1 in
+    let alone : Bool = count_by (overlaps span) (sensed delay tap t.since trace) == 1 in
     let sends : Bool = list_any (sends_during tap span) trace in
     let silent = and_parts (not others && hears_from t span.begin && alone) (not sends) e in
     let lone = and_parts (not others && hears_from t span.begin) alone silent.0 in
@@ -31,7 +31,7 @@ fills_alone p tap t trace r e =
       reached = (or_parts (r.tap == tap) (is_unheard (slice_get r.heard tap)) (not_true others ran.0)).1;
       another = λ own. both_ways others (not_true others ran.0) (ap (λ (b : Bool). b || is_unheard (slice_get r.heard tap)) (eq-eqb r.tap tap own));
       ran = ran.1;
-      alone = eqb-true (count_by (overlaps span) (sensed p tap t.since trace)) 1 lone.1;
+      alone = eqb-true (count_by (overlaps span) (sensed delay tap t.since trace)) 1 lone.1;
       silent = not_true sends silent.1;
     }
 
@@ -52,18 +52,18 @@ found_in {X} test (y ∷ xs) x =
     (λ _ e. let rest = found_in test xs x e in record { before = y ∷ rest.before; after = rest.after; stands = ap (λ (zs : List X). y ∷ zs) rest.stands; passes = rest.passes })
 
 -- the burst's characters, by what was found: one damaged character, or those of a telegram that fills it
-by_found : (p : Params) (tap : ℕ) (t : Tap) (trace : List Entry) (m : ℕ) (o : Option Entry) → find (fills_burst_to p tap t trace m) trace ≡ o
-    → (entry_characters tap o ≡ Bad ∷ [] → ⊥) → FillsBurst p tap t trace m (entry_characters tap o)
-by_found p tap t trace m None e good = absurd (good refl)
-by_found p tap t trace m (Some (Noise span)) e good = absurd (good refl)
-by_found p tap t trace m (Some (Sent r)) e good =
-    let found = found_in (fills_burst_to p tap t trace m) trace (Sent r) e in
-    let both = and_parts ((reaches p r).end == m) (fills_burst p tap t trace r) found.passes in
-    record { before = found.before; telegram = r; after = found.after; in_trace = found.stands; fills = both.1; ends = eqb-true (reaches p r).end m both.0; characters = refl }
+by_found : (delay : ℕ) (tap : ℕ) (t : Tap) (trace : List Entry) (m : ℕ) (o : Option Entry) → find (fills_burst_to delay tap t trace m) trace ≡ o
+    → (entry_characters tap o ≡ Bad ∷ [] → ⊥) → FillsBurst delay tap t trace m (entry_characters tap o)
+by_found delay tap t trace m None e good = absurd (good refl)
+by_found delay tap t trace m (Some (Noise span)) e good = absurd (good refl)
+by_found delay tap t trace m (Some (Sent r)) e good =
+    let found = found_in (fills_burst_to delay tap t trace m) trace (Sent r) e in
+    let both = and_parts ((reaches delay r).end == m) (fills_burst delay tap t trace r) found.passes in
+    record { before = found.before; telegram = r; after = found.after; in_trace = found.stands; fills = both.1; ends = eqb-true (reaches delay r).end m both.0; characters = refl }
 
-pub fills-burst_characters : (p : Params) (tap : ℕ) (t : Tap) (trace : List Entry) (m : ℕ) → (burst_characters p tap t trace m ≡ Bad ∷ [] → ⊥)
-    → FillsBurst p tap t trace m (burst_characters p tap t trace m)
-fills-burst_characters p tap t trace m good = by_found p tap t trace m (find (fills_burst_to p tap t trace m) trace) refl good
+pub fills-burst_characters : (delay : ℕ) (tap : ℕ) (t : Tap) (trace : List Entry) (m : ℕ) → (burst_characters delay tap t trace m ≡ Bad ∷ [] → ⊥)
+    → FillsBurst delay tap t trace m (burst_characters delay tap t trace m)
+fills-burst_characters delay tap t trace m good = by_found delay tap t trace m (find (fills_burst_to delay tap t trace m) trace) refl good
 
 -- an element that passes the test is found, it or one before it
 some_found : {X : Type 0} (test : X → Bool) (before : List X) (x : X) (after : List X) → test x ≡ true → find test (before ++ x ∷ after) ≡ None → ⊥
@@ -72,23 +72,23 @@ some_found {X} test (y ∷ before) x after passes =
     by_test (λ (o : Option X). o ≡ None → ⊥) (test y) (Some y) (find test (before ++ x ∷ after)) (λ _ e. cc) (λ _. some_found test before x after passes)
 
 -- a telegram that fills a burst alone gives its characters: it, or one that fills the same burst
-by_filled : (p : Params) (tap : ℕ) (t : Tap) (trace : List Entry) (m : ℕ) (o : Option Entry) → find (fills_burst_to p tap t trace m) trace ≡ o
-    → (o ≡ None → ⊥) → FillsBurst p tap t trace m (entry_characters tap o)
-by_filled p tap t trace m None e some = absurd (some refl)
-by_filled p tap t trace m (Some (Noise span)) e some =
-    absurd (let wrong : false ≡ true = (found_in (fills_burst_to p tap t trace m) trace (Noise span) e).passes in cc)
-by_filled p tap t trace m (Some (Sent r)) e some =
-    let found = found_in (fills_burst_to p tap t trace m) trace (Sent r) e in
-    let both = and_parts ((reaches p r).end == m) (fills_burst p tap t trace r) found.passes in
-    record { before = found.before; telegram = r; after = found.after; in_trace = found.stands; fills = both.1; ends = eqb-true (reaches p r).end m both.0; characters = refl }
+by_filled : (delay : ℕ) (tap : ℕ) (t : Tap) (trace : List Entry) (m : ℕ) (o : Option Entry) → find (fills_burst_to delay tap t trace m) trace ≡ o
+    → (o ≡ None → ⊥) → FillsBurst delay tap t trace m (entry_characters tap o)
+by_filled delay tap t trace m None e some = absurd (some refl)
+by_filled delay tap t trace m (Some (Noise span)) e some =
+    absurd (let wrong : false ≡ true = (found_in (fills_burst_to delay tap t trace m) trace (Noise span) e).passes in cc)
+by_filled delay tap t trace m (Some (Sent r)) e some =
+    let found = found_in (fills_burst_to delay tap t trace m) trace (Sent r) e in
+    let both = and_parts ((reaches delay r).end == m) (fills_burst delay tap t trace r) found.passes in
+    record { before = found.before; telegram = r; after = found.after; in_trace = found.stands; fills = both.1; ends = eqb-true (reaches delay r).end m both.0; characters = refl }
 
-pub burst_characters-filled : (p : Params) (tap : ℕ) (t : Tap) (trace : List Entry) (m : ℕ) (chars : List RxChar) → FillsBurst p tap t trace m chars
-    → FillsBurst p tap t trace m (burst_characters p tap t trace m)
-burst_characters-filled p tap t trace m chars filled =
-    let test = fills_burst_to p tap t trace m in
+pub burst_characters-filled : (delay : ℕ) (tap : ℕ) (t : Tap) (trace : List Entry) (m : ℕ) (chars : List RxChar) → FillsBurst delay tap t trace m chars
+    → FillsBurst delay tap t trace m (burst_characters delay tap t trace m)
+burst_characters-filled delay tap t trace m chars filled =
+    let test = fills_burst_to delay tap t trace m in
     let passes : test (Sent filled.telegram) ≡ true =
-    ap (λ (b : Bool). b && fills_burst p tap t trace filled.telegram) (eq-eqb (reaches p filled.telegram).end m filled.ends) ∙ filled.fills in
-    by_filled p tap t trace m (find test trace) refl
+    ap (λ (b : Bool). b && fills_burst delay tap t trace filled.telegram) (eq-eqb (reaches delay filled.telegram).end m filled.ends) ∙ filled.fills in
+    by_filled delay tap t trace m (find test trace) refl
     (λ none. some_found test filled.before (Sent filled.telegram) filled.after passes (ap (find test) (sym filled.in_trace) ∙ none))
 
 -- ---- two telegrams of one instant
@@ -102,32 +102,32 @@ true_among {X} test (y ∷ before) x after passes = ap (λ (b : Bool). test y ||
     or_true false = refl
 
 -- a telegram that reaches a tap while that sends fills no burst of it
-fills_burst-sending : (p : Params) (tap : ℕ) (t : Tap) (trace before after : List Entry) (q r : Record) → trace ≡ before ++ Sent q ∷ after → q.tap ≡ tap
-    → overlaps (record { begin = q.begin; end = q.end }) (reaches p r) ≡ true → fills_burst p tap t trace r ≡ false
-fills_burst-sending p tap t trace before after q r in_trace own overlap = by_case (fills_burst p tap t trace r) refl
+fills_burst-sending : (delay : ℕ) (tap : ℕ) (t : Tap) (trace before after : List Entry) (q r : Record) → trace ≡ before ++ Sent q ∷ after → q.tap ≡ tap
+    → overlaps (record { begin = q.begin; end = q.end }) (reaches delay r) ≡ true → fills_burst delay tap t trace r ≡ false
+fills_burst-sending delay tap t trace before after q r in_trace own overlap = by_case (fills_burst delay tap t trace r) refl
   where
-    sends : list_any (sends_during tap (reaches p r)) trace ≡ true
-    sends = ap (list_any (sends_during tap (reaches p r))) in_trace
-        ∙ true_among (sends_during tap (reaches p r)) before (Sent q) after
-        (ap (λ (b : Bool). b && overlaps (record { begin = q.begin; end = q.end }) (reaches p r)) (eq-eqb q.tap tap own) ∙ overlap)
+    sends : list_any (sends_during tap (reaches delay r)) trace ≡ true
+    sends = ap (list_any (sends_during tap (reaches delay r))) in_trace
+        ∙ true_among (sends_during tap (reaches delay r)) before (Sent q) after
+        (ap (λ (b : Bool). b && overlaps (record { begin = q.begin; end = q.end }) (reaches delay r)) (eq-eqb q.tap tap own) ∙ overlap)
 
-    by_case : (b : Bool) → fills_burst p tap t trace r ≡ b → b ≡ false
+    by_case : (b : Bool) → fills_burst delay tap t trace r ≡ b → b ≡ false
     by_case false e = refl
-    by_case true e = absurd (both_ways (list_any (sends_during tap (reaches p r)) trace) (fills_alone p tap t trace r e).silent sends)
+    by_case true e = absurd (both_ways (list_any (sends_during tap (reaches delay r)) trace) (fills_alone delay tap t trace r e).silent sends)
 
-pub fills_burst-one_instant : (p : Params) (tap : ℕ) (t : Tap) (trace before after : List Entry) (q r : Record) → p.ttd ≡ 0 → trace ≡ before ++ Sent q ∷ after → q.tap ≡ tap
-    → q.begin ≡ r.begin → q.begin < q.end → r.begin < r.end → fills_burst p tap t trace r ≡ false
-fills_burst-one_instant p tap t trace before after q r none in_trace own same some some' =
-    fills_burst-sending p tap t trace before after q r in_trace own
-    (ap (λ (b : Bool). b && nat_lt (r.begin + p.ttd) q.end) (lt-ltb q.begin (r.end + p.ttd) (omega arith)) ∙ lt-ltb (r.begin + p.ttd) q.end (omega arith))
+pub fills_burst-one_instant : (delay : ℕ) (tap : ℕ) (t : Tap) (trace before after : List Entry) (q r : Record) → delay ≡ 0 → trace ≡ before ++ Sent q ∷ after → q.tap ≡ tap
+    → q.begin ≡ r.begin → q.begin < q.end → r.begin < r.end → fills_burst delay tap t trace r ≡ false
+fills_burst-one_instant delay tap t trace before after q r none in_trace own same some some' =
+    fills_burst-sending delay tap t trace before after q r in_trace own
+    (ap (λ (b : Bool). b && nat_lt (r.begin + delay) q.end) (lt-ltb q.begin (r.end + delay) (omega arith)) ∙ lt-ltb (r.begin + delay) q.end (omega arith))
 
 -- ---- what fills a burst, the other way
 
 -- a telegram of another that reaches the tap from its beginning, alone, while the tap is silent, fills a burst
-pub fills_burst-alone : (p : Params) (tap : ℕ) (t : Tap) (trace : List Entry) (r : Record) → FillsAlone p tap t trace r → fills_burst p tap t trace r ≡ true
-fills_burst-alone p tap t trace r alone =
-    let span = reaches p r in
-    let n = count_by (overlaps span) (sensed p tap t.since trace) in
+pub fills_burst-alone : (delay : ℕ) (tap : ℕ) (t : Tap) (trace : List Entry) (r : Record) → FillsAlone delay tap t trace r → fills_burst delay tap t trace r ≡ true
+fills_burst-alone delay tap t trace r alone =
+    let span = reaches delay r in
+    let n = count_by (overlaps span) (sensed delay tap t.since trace) in
     let sends : Bool = list_any (sends_during tap span) trace in
     ap (λ (b : Bool). ((not (b || is_unheard (slice_get r.heard tap)) && hears_from t span.begin) && n == 1) && not sends) (ne_eqb r.tap tap alone.another)
     ∙ ap (λ (b : Bool). ((not (false || b) && hears_from t span.begin) && n == 1) && not sends) alone.reached

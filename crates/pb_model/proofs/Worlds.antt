@@ -10,7 +10,7 @@ use Rattle.pb_model.specs.Bus.{Params}
 use Rattle.pb_model.specs.Station.{Station, speaks_at}
 use Rattle.pb_model.specs.Turn.{turn_of, settled, speech, spoken, phase_says}
 use Rattle.pb_model.specs.Trace.{Hit, Entry, Sent, Noise, entry_begin, entry_end, goes_before, with_entry}
-use Rattle.pb_model.specs.Medium.{TapSpec, Tap, reaches, entry_at, heard_by}
+use Rattle.pb_model.specs.Medium.{TapSpec, Tap, reaches, ends_between, entry_at, heard_by}
 use Rattle.pb_model.specs.World.{World, Event, Turn, Pass, Damage, Start, Reply, Fault, NoSuchTap, Running, NotRunning, NothingInAir, TraceFull, trace_limit, unless, unless_fault, is_in_air_by, new_world, stopped_tap, master_addresses, new_faults}
 use Rattle.pb_model.specs.Step.{sending, with_speech, step_turn, told, pass_faults, step_pass, with_hit, change_first, has_place, step_damage, started_tap, step_start, step, world_after, replay}
 use Rattle.pb_model.specs.Laws.{AllBegun, AllInOrder, InOrder, IsSound}
@@ -37,15 +37,15 @@ begun-with_entry now e (x ∷ xs) begun some all =
     by_test (λ (es : List Entry). AllBegun now es) (goes_before e x) (e ∷ x ∷ xs) (x ∷ with_entry e xs)
     (λ _. (begun, some, all)) (λ _. (all.0, all.1, begun-with_entry now e xs begun some all.2))
 
-begun-entry_at : (p : Params) (taps : List Tap) (trace : List Entry) (now later : ℕ) (es : List Entry) → now ≤ later → AllBegun now es
-    → AllBegun later (map (entry_at p taps trace later) es)
-begun-entry_at p taps trace now later [] le all = tt
-begun-entry_at p taps trace now later (Noise span ∷ es) le all = (omega (arith, all.0), all.1, begun-entry_at p taps trace now later es le all.2)
-begun-entry_at p taps trace now later (Sent r ∷ es) le all =
-    by_test (λ (e : Entry). AllBegun later (e ∷ map (entry_at p taps trace later) es)) (nat_le (reaches p r).end later)
-    (Sent (record r { heard = heard_by p trace r 0 taps r.heard })) (Sent r)
-    (λ _. (omega (arith, all.0), all.1, begun-entry_at p taps trace now later es le all.2))
-    (λ _. (omega (arith, all.0), all.1, begun-entry_at p taps trace now later es le all.2))
+begun-entry_at : (delay : ℕ) (taps : List Tap) (trace : List Entry) (now later : ℕ) (es : List Entry) → now ≤ later → AllBegun now es
+    → AllBegun later (map (entry_at delay taps trace now later) es)
+begun-entry_at delay taps trace now later [] le all = tt
+begun-entry_at delay taps trace now later (Noise span ∷ es) le all = (omega (arith, all.0), all.1, begun-entry_at delay taps trace now later es le all.2)
+begun-entry_at delay taps trace now later (Sent r ∷ es) le all =
+    by_test (λ (e : Entry). AllBegun later (e ∷ map (entry_at delay taps trace now later) es)) (ends_between now later (reaches delay r))
+    (Sent (record r { heard = heard_by delay trace r 0 taps r.heard })) (Sent r)
+    (λ _. (omega (arith, all.0), all.1, begun-entry_at delay taps trace now later es le all.2))
+    (λ _. (omega (arith, all.0), all.1, begun-entry_at delay taps trace now later es le all.2))
 
 begun-with_hit : (now : ℕ) (hit : Hit) (e : Entry) (es : List Entry) → AllBegun now (e ∷ es) → AllBegun now (with_hit hit e ∷ es)
 begun-with_hit now hit (Noise span) es all = all
@@ -105,13 +105,13 @@ sound-turn again w tap (Some t) e sound =
 sound-pass : (w : World) (d : ℕ) → IsSound w → IsSound (world_after w (step_pass w d))
 sound-pass w d sound =
     let now = w.now + d in
-    let taps = told w.params w.trace w.now now 0 w.taps in
-    world_after-unless IsSound w (record w { now = now; taps = taps; trace = map (entry_at w.params w.taps w.trace now) w.trace }) (record { now = now; spoke = None })
+    let taps = told w.params.ttd w.trace w.now now 0 w.taps in
+    world_after-unless IsSound w (record w { now = now; taps = taps; trace = map (entry_at w.params.ttd w.taps w.trace w.now now) w.trace }) (record { now = now; spoke = None })
     (pass_faults w d taps) sound
     (λ none. record {
       no_delay = sound.no_delay;
-      begun = begun-entry_at w.params w.taps w.trace w.now now w.trace (omega arith) sound.begun;
-      in_order = in_order-told w.params w.trace w.now now 0 w.taps sound.no_delay
+      begun = begun-entry_at w.params.ttd w.taps w.trace w.now now w.trace (omega arith) sound.begun;
+      in_order = in_order-told w.params.ttd w.trace w.now now 0 w.taps sound.no_delay
           (let some : d ≡ 0 → ⊥ = eqb-false d 0 none.0 in grind (arith, some)) sound.begun none.1.0 sound.in_order;
     })
 
@@ -119,7 +119,7 @@ sound-pass w d sound =
 
 sound-damage : (w : World) (tap speaker : ℕ) (place : Option ℕ) (at from : Option Tap) → IsSound w → IsSound (world_after w (step_damage w tap speaker place at from))
 sound-damage w tap speaker place at from sound =
-    let in_air = is_in_air_by w.params w.now speaker in
+    let in_air = is_in_air_by w.params.ttd w.now speaker in
     let hit : Hit = record { tap = tap; place = place } in
     world_after-unless IsSound w (record w { trace = change_first in_air (with_hit hit) w.trace }) (record { now = w.now; spoke = None })
     ((is_none at || is_none from, NoSuchTap) ∷ (tap == speaker || not (has_place (find in_air w.trace) place), NothingInAir) ∷ [])
@@ -130,7 +130,7 @@ sound-start : (w : World) (tap : ℕ) (o : Option Tap) → IsSound w → IsSound
 sound-start w tap None sound = sound
 sound-start w tap (Some t) sound =
     world_after-unless IsSound w (record w { taps = slice_set w.taps tap (started_tap w tap t) }) (record { now = w.now; spoke = None })
-    ((t.running || list_any (is_in_air_by w.params w.now tap) w.trace, Running) ∷ [])
+    ((t.running || list_any (is_in_air_by w.params.ttd w.now tap) w.trace, Running) ∷ [])
     sound
     (λ _. record {
       no_delay = sound.no_delay;
@@ -140,7 +140,7 @@ sound-start w tap (Some t) sound =
 
 -- ---- every event
 
-sound-step : (again : Bool) (w : World) (e : Event) → IsSound w → IsSound (world_after w (step again w e))
+pub sound-step : (again : Bool) (w : World) (e : Event) → IsSound w → IsSound (world_after w (step again w e))
 sound-step again w (Turn tap) sound = sound-turn again w tap (slice_get w.taps tap) refl sound
 sound-step again w (Pass d) sound = sound-pass w d sound
 sound-step again w (Damage tap speaker place) sound = sound-damage w tap speaker place (slice_get w.taps tap) (slice_get w.taps speaker) sound
@@ -185,13 +185,13 @@ later-turn again w tap (Some t) =
 later-pass : (w : World) (d : ℕ) → w.now ≤ (world_after w (step_pass w d)).now
 later-pass w d =
     let now = w.now + d in
-    let taps = told w.params w.trace w.now now 0 w.taps in
-    world_after-unless (λ (x : World). w.now ≤ x.now) w (record w { now = now; taps = taps; trace = map (entry_at w.params w.taps w.trace now) w.trace })
+    let taps = told w.params.ttd w.trace w.now now 0 w.taps in
+    world_after-unless (λ (x : World). w.now ≤ x.now) w (record w { now = now; taps = taps; trace = map (entry_at w.params.ttd w.taps w.trace w.now now) w.trace })
     (record { now = now; spoke = None }) (pass_faults w d taps) (omega arith) (λ _. omega arith)
 
 later-damage : (w : World) (tap speaker : ℕ) (place : Option ℕ) (at from : Option Tap) → w.now ≤ (world_after w (step_damage w tap speaker place at from)).now
 later-damage w tap speaker place at from =
-    let in_air = is_in_air_by w.params w.now speaker in
+    let in_air = is_in_air_by w.params.ttd w.now speaker in
     let hit : Hit = record { tap = tap; place = place } in
     world_after-unless (λ (x : World). w.now ≤ x.now) w (record w { trace = change_first in_air (with_hit hit) w.trace }) (record { now = w.now; spoke = None })
     ((is_none at || is_none from, NoSuchTap) ∷ (tap == speaker || not (has_place (find in_air w.trace) place), NothingInAir) ∷ [])
@@ -201,7 +201,7 @@ later-start : (w : World) (tap : ℕ) (o : Option Tap) → w.now ≤ (world_afte
 later-start w tap None = omega arith
 later-start w tap (Some t) =
     world_after-unless (λ (x : World). w.now ≤ x.now) w (record w { taps = slice_set w.taps tap (started_tap w tap t) }) (record { now = w.now; spoke = None })
-    ((t.running || list_any (is_in_air_by w.params w.now tap) w.trace, Running) ∷ [])
+    ((t.running || list_any (is_in_air_by w.params.ttd w.now tap) w.trace, Running) ∷ [])
     (omega arith) (λ _. omega arith)
 
 later-step : (again : Bool) (w : World) (e : Event) → w.now ≤ (world_after w (step again w e)).now

@@ -39,21 +39,21 @@ InOrder from [] to = from ≤ to
 InOrder from (m ∷ ms) to = (from ≤ moment_of m) × InOrder (moment_of m) ms to
 
 -- what it means that a telegram fills a burst of a tap: it is another's and not unheard there, the tap heard it from its beginning and nothing else meanwhile, and sent nothing
-pub record FillsAlone (p : Params) (tap : ℕ) (t : Tap) (trace : List Entry) (r : Record) : Type 0 where
+pub record FillsAlone (delay : ℕ) (tap : ℕ) (t : Tap) (trace : List Entry) (r : Record) : Type 0 where
   pub another : r.tap ≡ tap → ⊥
   pub reached : is_unheard (slice_get r.heard tap) ≡ false
-  pub ran : hears_from t (reaches p r).begin ≡ true
-  pub alone : count_by (overlaps (reaches p r)) (sensed p tap t.since trace) ≡ 1
-  pub silent : list_any (sends_during tap (reaches p r)) trace ≡ false
+  pub ran : hears_from t (reaches delay r).begin ≡ true
+  pub alone : count_by (overlaps (reaches delay r)) (sensed delay tap t.since trace) ≡ 1
+  pub silent : list_any (sends_during tap (reaches delay r)) trace ≡ false
 
 -- a telegram of the trace fills a burst of the tap that ends at a moment, and these are its characters there
-pub record FillsBurst (p : Params) (tap : ℕ) (t : Tap) (trace : List Entry) (m : ℕ) (chars : List RxChar) : Type 0 where
+pub record FillsBurst (delay : ℕ) (tap : ℕ) (t : Tap) (trace : List Entry) (m : ℕ) (chars : List RxChar) : Type 0 where
   pub before : List Entry
   pub telegram : Record
   pub after : List Entry
   pub in_trace : trace ≡ before ++ Sent telegram ∷ after
-  pub fills : fills_burst p tap t trace telegram ≡ true
-  pub ends : (reaches p telegram).end ≡ m
+  pub fills : fills_burst delay tap t trace telegram ≡ true
+  pub ends : (reaches delay telegram).end ≡ m
   pub characters : chars ≡ characters_at tap telegram
 
 -- ---- worlds
@@ -75,19 +75,19 @@ pub record IsSound (w : World) : Type 0 where
   pub in_order : AllInOrder w.now w.taps
 
 -- the marks of a pass: a Begin exactly where a burst begins at the clock, and an End, with the burst's characters, exactly where one ends at the new clock
-abbrev pub marks_of_pass : Params → ℕ → Tap → List Entry → ℕ → ℕ → List Mark
-marks_of_pass p tap t trace from to =
-    let spans = sensed p tap t.since trace in
+abbrev pub marks_of_pass : ℕ → ℕ → Tap → List Entry → ℕ → ℕ → List Mark
+marks_of_pass delay tap t trace from to =
+    let spans = sensed delay tap t.since trace in
     (if burst_begins spans from then Begin from to ∷ [] else [])
-    ++ (if burst_ends spans to then End to to (burst_characters p tap t trace to) ∷ [] else [])
+    ++ (if burst_ends spans to then End to to (burst_characters delay tap t trace to) ∷ [] else [])
 
 -- What a pass does to a running tap: the marks of the pass stand behind its unread ones. No burst begins or ends between the two clocks, and Begins and Ends alternate.
 pub record PassTells (w next : World) (tap : ℕ) (t : Tap) : Type 0 where
-  pub delivered : slice_get next.taps tap ≡ Some (record t { marks = t.marks ++ marks_of_pass w.params tap t w.trace w.now next.now })
-  pub begins_none : (m : ℕ) → w.now < m → burst_begins (sensed w.params tap t.since w.trace) m ≡ false
-  pub ends_none : (m : ℕ) → w.now < m → m < next.now → burst_ends (sensed w.params tap t.since w.trace) m ≡ false
-  pub alternate : Alternates (is_open (sensed w.params tap t.since w.trace) w.now) (marks_of_pass w.params tap t w.trace w.now next.now)
-      (is_open (sensed w.params tap t.since w.trace) next.now)
+  pub delivered : slice_get next.taps tap ≡ Some (record t { marks = t.marks ++ marks_of_pass w.params.ttd tap t w.trace w.now next.now })
+  pub begins_none : (m : ℕ) → w.now < m → burst_begins (sensed w.params.ttd tap t.since w.trace) m ≡ false
+  pub ends_none : (m : ℕ) → w.now < m → m < next.now → burst_ends (sensed w.params.ttd tap t.since w.trace) m ≡ false
+  pub alternate : Alternates (is_open (sensed w.params.ttd tap t.since w.trace) w.now) (marks_of_pass w.params.ttd tap t w.trace w.now next.now)
+      (is_open (sensed w.params.ttd tap t.since w.trace) next.now)
 
 -- every entry lasts for some time, and has ended by a moment
 abbrev pub AllOver : ℕ → List Entry → Type 0

@@ -5,7 +5,7 @@ use Rattle.std.specs.Option.{option_and_then}
 use Rattle.pb_telegram.specs.Faults.{is_bad}
 use Rattle.pb_telegram.specs.declared.chars.RxChar.{RxChar}
 use Rattle.pb_telegram.specs.declared.chars.RxChar.TheVariants.{Bad}
-use Rattle.pb_model.specs.Bus.{Params, Span}
+use Rattle.pb_model.specs.Bus.{Span}
 use Rattle.pb_model.specs.Marks.{Mark, Begin, End}
 use Rattle.pb_model.specs.Station.{Station}
 use Rattle.pb_model.specs.Trace.{Heard, Whole, Damaged, Unheard, Pending, Record, Entry, Sent, Noise, characters_at}
@@ -49,24 +49,24 @@ overlaps a b = nat_lt a.begin b.end && nat_lt b.begin a.end
 abbrev pub part_after : ℕ → Span → Option Span
 part_after m span = if nat_lt m span.end then Some (record { begin = max span.begin m; end = span.end }) else None
 
--- ---- what a tap senses
+-- ---- what a tap senses, on a bus with a cable delay
 
 -- when a telegram is at the taps of others
-abbrev pub reaches : Params → Record → Span
-reaches p r = record { begin = r.begin + p.ttd; end = r.end + p.ttd }
+abbrev pub reaches : ℕ → Record → Span
+reaches delay r = record { begin = r.begin + delay; end = r.end + delay }
 
 abbrev pub is_unheard : Option Heard → Bool
 is_unheard (Some Unheard) = true
 is_unheard h = false
 
 -- an entry at a tap: noise, and what other taps send, save what is unheard there
-abbrev pub at_tap : Params → ℕ → Entry → Option Span
-at_tap p tap (Noise span) = Some span
-at_tap p tap (Sent r) = if r.tap == tap || is_unheard (slice_get r.heard tap) then None else Some (reaches p r)
+abbrev pub at_tap : ℕ → ℕ → Entry → Option Span
+at_tap delay tap (Noise span) = Some span
+at_tap delay tap (Sent r) = if r.tap == tap || is_unheard (slice_get r.heard tap) then None else Some (reaches delay r)
 
 -- what a tap has sensed since a moment
-abbrev pub sensed : Params → ℕ → ℕ → List Entry → List Span
-sensed p tap since trace = filter_map (λ e. option_and_then (part_after since) (at_tap p tap e)) trace
+abbrev pub sensed : ℕ → ℕ → ℕ → List Entry → List Span
+sensed delay tap since trace = filter_map (λ e. option_and_then (part_after since) (at_tap delay tap e)) trace
 
 -- ---- bursts: unions of what overlaps; what only touches stays apart
 
@@ -86,18 +86,18 @@ sends_during tap span (Noise n) = false
 sends_during tap span (Sent r) = r.tap == tap && overlaps (record { begin = r.begin; end = r.end }) span
 
 -- the telegram fills a burst of the tap alone: the tap heard it from its beginning, with nothing else, and sent nothing meanwhile
-abbrev pub fills_burst : Params → ℕ → Tap → List Entry → Record → Bool
-fills_burst p tap t trace r =
+abbrev pub fills_burst : ℕ → ℕ → Tap → List Entry → Record → Bool
+fills_burst delay tap t trace r =
     not (r.tap == tap || is_unheard (slice_get r.heard tap))
-    && hears_from t (reaches p r).begin
-    && count_by (overlaps (reaches p r)) (sensed p tap t.since trace) == 1
-    && not (list_any (sends_during tap (reaches p r)) trace)
+    && hears_from t (reaches delay r).begin
+    && count_by (overlaps (reaches delay r)) (sensed delay tap t.since trace) == 1
+    && not (list_any (sends_during tap (reaches delay r)) trace)
 
 -- ---- marks
 
-abbrev pub fills_burst_to : Params → ℕ → Tap → List Entry → ℕ → Entry → Bool
-fills_burst_to p tap t trace m (Noise span) = false
-fills_burst_to p tap t trace m (Sent r) = (reaches p r).end == m && fills_burst p tap t trace r
+abbrev pub fills_burst_to : ℕ → ℕ → Tap → List Entry → ℕ → Entry → Bool
+fills_burst_to delay tap t trace m (Noise span) = false
+fills_burst_to delay tap t trace m (Sent r) = (reaches delay r).end == m && fills_burst delay tap t trace r
 
 abbrev pub entry_characters : ℕ → Option Entry → List RxChar
 entry_characters tap (Some (Sent r)) = characters_at tap r
@@ -105,8 +105,8 @@ entry_characters tap (Some (Noise span)) = Bad ∷ []
 entry_characters tap None = Bad ∷ []
 
 -- the characters of the burst that ends at a moment: those of the telegram that fills it alone, else one damaged character
-abbrev pub burst_characters : Params → ℕ → Tap → List Entry → ℕ → List RxChar
-burst_characters p tap t trace m = entry_characters tap (find (fills_burst_to p tap t trace m) trace)
+abbrev pub burst_characters : ℕ → ℕ → Tap → List Entry → ℕ → List RxChar
+burst_characters delay tap t trace m = entry_characters tap (find (fills_burst_to delay tap t trace m) trace)
 
 -- the burst begins from the moment t on, before u
 abbrev pub begins_in : List Span → ℕ → ℕ → Span → Bool
@@ -120,25 +120,25 @@ abbrev pub begin_mark : ℕ → Option Span → List Mark
 begin_mark seen None = []
 begin_mark seen (Some span) = Begin span.begin seen ∷ []
 
-abbrev pub end_mark : Params → ℕ → Tap → List Entry → ℕ → Option Span → List Mark
-end_mark p tap t trace seen None = []
-end_mark p tap t trace seen (Some span) = End span.end seen (burst_characters p tap t trace span.end) ∷ []
+abbrev pub end_mark : ℕ → ℕ → Tap → List Entry → ℕ → Option Span → List Mark
+end_mark delay tap t trace seen None = []
+end_mark delay tap t trace seen (Some span) = End span.end seen (burst_characters delay tap t trace span.end) ∷ []
 
 -- The marks of a tap as time passes from t to u. As a pass never goes past an end in the air, a burst begins at most once in it, and one ends at most at u.
-abbrev pub marks_between : Params → ℕ → Tap → List Entry → ℕ → ℕ → List Mark
-marks_between p tap t trace from to =
-    let spans = sensed p tap t.since trace in
-    begin_mark to (find (begins_in spans from to) spans) ++ end_mark p tap t trace to (find (ends_in spans from to) spans)
+abbrev pub marks_between : ℕ → ℕ → Tap → List Entry → ℕ → ℕ → List Mark
+marks_between delay tap t trace from to =
+    let spans = sensed delay tap t.since trace in
+    begin_mark to (find (begins_in spans from to) spans) ++ end_mark delay tap t trace to (find (ends_in spans from to) spans)
 
-abbrev pub new_marks : Params → ℕ → Tap → List Entry → ℕ → ℕ → List Mark
-new_marks p tap t trace from to = if t.running then marks_between p tap t trace from to else []
+abbrev pub new_marks : ℕ → ℕ → Tap → List Entry → ℕ → ℕ → List Mark
+new_marks delay tap t trace from to = if t.running then marks_between delay tap t trace from to else []
 
 -- ---- what a telegram was at a tap, once it has ended there
 
 -- it ran, and every character reached it good in a burst of that telegram alone
-abbrev pub is_whole_at : Params → ℕ → Tap → List Entry → Record → Bool
-is_whole_at p tap t trace r =
-    t.running && fills_burst p tap t trace r
+abbrev pub is_whole_at : ℕ → ℕ → Tap → List Entry → Record → Bool
+is_whole_at delay tap t trace r =
+    t.running && fills_burst delay tap t trace r
     && length (characters_at tap r) == length r.octets && list_all (λ char. not (is_bad char)) (characters_at tap r)
 
 abbrev pub heard_in_the_end : Bool → Heard → Heard
@@ -146,13 +146,17 @@ heard_in_the_end whole Pending = if whole then Whole else Damaged
 heard_in_the_end whole heard = heard
 
 -- what the telegram was to each of some taps, the first of them at a position
-abbrev pub heard_by : Params → List Entry → Record → ℕ → List Tap → List Heard → List Heard
-heard_by p trace r tap [] hs = hs
-heard_by p trace r tap (t ∷ ts) [] = []
-heard_by p trace r tap (t ∷ ts) (h ∷ hs) = heard_in_the_end (is_whole_at p tap t trace r) h ∷ heard_by p trace r (tap + 1) ts hs
+abbrev pub heard_by : ℕ → List Entry → Record → ℕ → List Tap → List Heard → List Heard
+heard_by delay trace r tap [] hs = hs
+heard_by delay trace r tap (t ∷ ts) [] = []
+heard_by delay trace r tap (t ∷ ts) (h ∷ hs) = heard_in_the_end (is_whole_at delay tap t trace r) h ∷ heard_by delay trace r (tap + 1) ts hs
 
--- an entry at the clock: a telegram that has reached the taps is no longer pending
-abbrev pub entry_at : Params → List Tap → List Entry → ℕ → Entry → Entry
-entry_at p taps trace now (Noise span) = Noise span
-entry_at p taps trace now (Sent r) =
-    if nat_le (reaches p r).end now then Sent (record r { heard = heard_by p trace r 0 taps r.heard }) else Sent r
+-- the stretch ends after the moment t, at u at the latest
+abbrev pub ends_between : ℕ → ℕ → Span → Bool
+ends_between t u span = nat_lt t span.end && nat_le span.end u
+
+-- an entry after time has passed from t to u: a telegram that has reached the taps is no longer pending
+abbrev pub entry_at : ℕ → List Tap → List Entry → ℕ → ℕ → Entry → Entry
+entry_at delay taps trace t u (Noise span) = Noise span
+entry_at delay taps trace t u (Sent r) =
+    if ends_between t u (reaches delay r) then Sent (record r { heard = heard_by delay trace r 0 taps r.heard }) else Sent r

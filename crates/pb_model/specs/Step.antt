@@ -1,7 +1,7 @@
 -- The step of the world: an event gives the next world and a reply, or it is refused.
 use Rattle.std.specs.Prelude.{ℕ, ◌+◌, Bool, true, false, if◌then◌else◌, ◌==◌, nat_lt, nat_le, not, ◌&&◌, ◌||◌, List, [], ◌∷◌, ◌++◌, length, map, slice_get, slice_set, find, Option, Some, None, Result, Ok, Err, is_some, is_none, unwrap_or}
 use Rattle.std.specs.List.{list_any}
-use Rattle.pb_model.specs.Bus.{Params, Span, bits}
+use Rattle.pb_model.specs.Bus.{Span, bits}
 use Rattle.pb_model.specs.Station.{Station}
 use Rattle.pb_model.specs.Turn.{turn_of, started}
 use Rattle.pb_model.specs.Trace.{Record, Hit, Entry, Sent, Noise, with_entry, heard_at_first}
@@ -40,9 +40,9 @@ step_turn again w tap (Some t) = after_turn w tap t (turn_of w.params again t.st
 -- ---- Pass
 
 -- the taps with their new marks, the first of them at a position
-abbrev pub told : Params → List Entry → ℕ → ℕ → ℕ → List Tap → List Tap
-told p trace from to tap [] = []
-told p trace from to tap (t ∷ ts) = record t { marks = t.marks ++ new_marks p tap t trace from to } ∷ told p trace from to (tap + 1) ts
+abbrev pub told : ℕ → List Entry → ℕ → ℕ → ℕ → List Tap → List Tap
+told delay trace from to tap [] = []
+told delay trace from to tap (t ∷ ts) = record t { marks = t.marks ++ new_marks delay tap t trace from to } ∷ told delay trace from to (tap + 1) ts
 
 -- the first of some taps that has more unread marks than it may
 abbrev pub first_full : ℕ → List Tap → Option ℕ
@@ -65,18 +65,18 @@ abbrev pub after_pass : World → ℕ → List Tap → Result (World × Reply) F
 after_pass w bits taps =
     let now = w.now + bits in
     unless (pass_faults w bits taps) (
-      record w { now = now; taps = taps; trace = map (entry_at w.params w.taps w.trace now) w.trace },
+      record w { now = now; taps = taps; trace = map (entry_at w.params.ttd w.taps w.trace w.now now) w.trace },
       record { now = now; spoke = None },
     )
 
 abbrev pub step_pass : World → ℕ → Result (World × Reply) Fault
-step_pass w bits = after_pass w bits (told w.params w.trace w.now (w.now + bits) 0 w.taps)
+step_pass w bits = after_pass w bits (told w.params.ttd w.trace w.now (w.now + bits) 0 w.taps)
 
 -- ---- Damage
 
 abbrev pub with_hit : Hit → Entry → Entry
 with_hit hit (Noise span) = Noise span
-with_hit hit (Sent r) = Sent (record r { hits = hit ∷ r.hits })
+with_hit hit (Sent r) = Sent (record r { hits = r.hits ++ hit ∷ [] })
 
 -- the first entry that passes the test, changed
 abbrev pub change_first : (Entry → Bool) → (Entry → Entry) → List Entry → List Entry
@@ -91,7 +91,7 @@ has_place None place = false
 
 abbrev pub step_damage : World → ℕ → ℕ → Option ℕ → Option Tap → Option Tap → Result (World × Reply) Fault
 step_damage w tap speaker place at from =
-    let in_air = is_in_air_by w.params w.now speaker in
+    let in_air = is_in_air_by w.params.ttd w.now speaker in
     unless (
     (is_none at || is_none from, NoSuchTap)
     ∷ (tap == speaker || not (has_place (find in_air w.trace) place), NothingInAir)
@@ -108,14 +108,14 @@ is_there now None = false
 is_there now (Some span) = contains_moment now span
 
 -- whether an entry is reaching the tap now
-abbrev pub reaches_now : Params → ℕ → ℕ → Entry → Bool
-reaches_now p tap now e = is_there now (at_tap p tap e)
+abbrev pub reaches_now : ℕ → ℕ → ℕ → Entry → Bool
+reaches_now delay tap now e = is_there now (at_tap delay tap e)
 
 abbrev pub started_tap : World → ℕ → Tap → Tap
 started_tap w tap t = record t {
   running = true;
   since = w.now;
-  amid = list_any (reaches_now w.params tap w.now) w.trace;
+  amid = list_any (reaches_now w.params.ttd tap w.now) w.trace;
   station = started t.station t.spec.master w.now;
   marks = [];
 }
@@ -123,7 +123,7 @@ started_tap w tap t = record t {
 abbrev pub step_start : World → ℕ → Option Tap → Result (World × Reply) Fault
 step_start w tap None = Err NoSuchTap
 step_start w tap (Some t) =
-    unless ((t.running || list_any (is_in_air_by w.params w.now tap) w.trace, Running) ∷ []) (
+    unless ((t.running || list_any (is_in_air_by w.params.ttd w.now tap) w.trace, Running) ∷ []) (
       record w { taps = slice_set w.taps tap (started_tap w tap t) },
       record { now = w.now; spoke = None },
     )

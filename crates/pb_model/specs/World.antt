@@ -110,20 +110,20 @@ abbrev pub later_end : ℕ → ℕ → Option ℕ
 later_end now m = if nat_lt now m then Some m else None
 
 -- the next end of an entry, at its speaker or at the other taps
-abbrev pub entry_next_end : Params → ℕ → Entry → Option ℕ
-entry_next_end p now (Noise span) = later_end now span.end
-entry_next_end p now (Sent r) = earlier (later_end now r.end) (later_end now (reaches p r).end)
+abbrev pub entry_next_end : ℕ → ℕ → Entry → Option ℕ
+entry_next_end delay now (Noise span) = later_end now span.end
+entry_next_end delay now (Sent r) = earlier (later_end now r.end) (later_end now (reaches delay r).end)
 
 -- the next end of some entries
-abbrev pub next_end_of : Params → ℕ → List Entry → Option ℕ
-next_end_of p now [] = None
-next_end_of p now (e ∷ es) = earlier (entry_next_end p now e) (next_end_of p now es)
+abbrev pub next_end_of : ℕ → ℕ → List Entry → Option ℕ
+next_end_of delay now [] = None
+next_end_of delay now (e ∷ es) = earlier (entry_next_end delay now e) (next_end_of delay now es)
 
 -- the next end in the air
 abbrev pub next_end : World → Option ℕ
-next_end w = next_end_of w.params w.now w.trace
+next_end w = next_end_of w.params.ttd w.now w.trace
 
 -- a telegram of the speaker that has not reached the others yet
-abbrev pub is_in_air_by : Params → ℕ → ℕ → Entry → Bool
-is_in_air_by p now speaker (Noise span) = false
-is_in_air_by p now speaker (Sent r) = r.tap == speaker && nat_lt now (reaches p r).end
+abbrev pub is_in_air_by : ℕ → ℕ → ℕ → Entry → Bool
+is_in_air_by delay now speaker (Noise span) = false
+is_in_air_by delay now speaker (Sent r) = r.tap == speaker && nat_lt now (reaches delay r).end

@@ -1,7 +1,7 @@
 ghost use Rattle.std.specs.Prelude.{◌≡◌, ◌≢◌, ◌≤◌, ◌<◌, ℕ, true, false, List, [], ◌∷◌, ◌++◌, map};
 ghost use Rattle.pb_telegram.specs.declared.chars.RxChar.{RxChar};
 ghost use Rattle.pb_telegram.specs.declared.chars.RxChar.TheVariants.{Bad};
-ghost use Rattle.pb_model.specs.Bus.{Params, Span};
+ghost use Rattle.pb_model.specs.Bus.{Span};
 ghost use Rattle.pb_model.specs.Trace.{Record, Entry, Sent, entry_begin, with_entry};
 ghost use Rattle.pb_model.specs.Medium.{Tap, sensed, burst_begins, burst_ends, fills_burst, burst_characters, is_whole_at, marks_between, entry_at};
 ghost use Rattle.pb_model.specs.World.{next_end_of};
@@ -9,8 +9,8 @@ ghost use Rattle.pb_model.specs.Laws.{is_open, AllFrom, AllOver, FillsBurst, Fil
 
 /// What a tap sends adds nothing to what it senses.
 pub fn a_tap_does_not_hear_itself()
-    ensures { (p : Params) (tap since : ℕ) (r : Record) (trace : List Entry) → r.tap ≡ tap
-        → sensed p tap since (with_entry (Sent r) trace) ≡ sensed p tap since trace }
+    ensures { (delay : ℕ) (tap since : ℕ) (r : Record) (trace : List Entry) → r.tap ≡ tap
+        → sensed delay tap since (with_entry (Sent r) trace) ≡ sensed delay tap since trace }
 {}
 
 /// Of two stretches that only touch, a burst ends and another begins.
@@ -31,37 +31,37 @@ pub fn stretches_that_overlap_are_one_burst()
 /// A burst brings the characters of a telegram exactly where one filled it alone, which the tap heard
 /// from its beginning, sending nothing meanwhile; else it brings one damaged character.
 pub fn whole_telegrams_fill_their_bursts_alone()
-    ensures brought { (p : Params) (tap : ℕ) (t : Tap) (trace : List Entry) (m : ℕ) → burst_characters p tap t trace m ≢ Bad ∷ []
-        → FillsBurst p tap t trace m (burst_characters p tap t trace m) }
-    ensures filled { (p : Params) (tap : ℕ) (t : Tap) (trace : List Entry) (m : ℕ) (chars : List RxChar) → FillsBurst p tap t trace m chars
-        → FillsBurst p tap t trace m (burst_characters p tap t trace m) }
-    ensures alone { (p : Params) (tap : ℕ) (t : Tap) (trace : List Entry) (r : Record) → fills_burst p tap t trace r ≡ true → FillsAlone p tap t trace r }
-    ensures lone { (p : Params) (tap : ℕ) (t : Tap) (trace : List Entry) (r : Record) → FillsAlone p tap t trace r → fills_burst p tap t trace r ≡ true }
+    ensures brought { (delay : ℕ) (tap : ℕ) (t : Tap) (trace : List Entry) (m : ℕ) → burst_characters delay tap t trace m ≢ Bad ∷ []
+        → FillsBurst delay tap t trace m (burst_characters delay tap t trace m) }
+    ensures filled { (delay : ℕ) (tap : ℕ) (t : Tap) (trace : List Entry) (m : ℕ) (chars : List RxChar) → FillsBurst delay tap t trace m chars
+        → FillsBurst delay tap t trace m (burst_characters delay tap t trace m) }
+    ensures alone { (delay : ℕ) (tap : ℕ) (t : Tap) (trace : List Entry) (r : Record) → fills_burst delay tap t trace r ≡ true → FillsAlone delay tap t trace r }
+    ensures lone { (delay : ℕ) (tap : ℕ) (t : Tap) (trace : List Entry) (r : Record) → FillsAlone delay tap t trace r → fills_burst delay tap t trace r ≡ true }
 {}
 
 /// Two telegrams that begin in one instant don't hear each other: neither fills a burst at the tap
 /// that sends the other.
 pub fn telegrams_of_one_instant_are_not_heard()
-    ensures { (p : Params) (tap : ℕ) (t : Tap) (trace before after : List Entry) (q r : Record) → p.ttd ≡ 0
+    ensures { (delay : ℕ) (tap : ℕ) (t : Tap) (trace before after : List Entry) (q r : Record) → delay ≡ 0
         → trace ≡ before ++ Sent q ∷ after → q.tap ≡ tap → q.begin ≡ r.begin → q.begin < q.end → r.begin < r.end
-        → fills_burst p tap t trace r ≡ false }
+        → fills_burst delay tap t trace r ≡ false }
 {}
 
 /// Only a pass opens a burst at a tap: nothing is open at its start, and what begins now opens none
 /// yet.
 pub fn only_a_pass_opens_a_burst()
-    ensures started { (p : Params) (tap now : ℕ) (trace : List Entry) → is_open (sensed p tap now trace) now ≡ false }
-    ensures begun { (p : Params) (tap since now : ℕ) (e : Entry) (trace : List Entry) → p.ttd ≡ 0 → entry_begin e ≡ now
-        → is_open (sensed p tap since (with_entry e trace)) now ≡ is_open (sensed p tap since trace) now }
+    ensures started { (delay : ℕ) (tap now : ℕ) (trace : List Entry) → is_open (sensed delay tap now trace) now ≡ false }
+    ensures begun { (delay : ℕ) (tap since now : ℕ) (e : Entry) (trace : List Entry) → delay ≡ 0 → entry_begin e ≡ now
+        → is_open (sensed delay tap since (with_entry e trace)) now ≡ is_open (sensed delay tap since trace) now }
 {}
 
 /// What has ended before everything recent began, and before the clock, matters no more: a tap's
 /// marks, the next end, and what recent telegrams are at the taps come from the recent entries alone.
 pub fn what_has_ended_matters_no_more()
-    ensures ends { (p : Params) (m now : ℕ) (old recent : List Entry) → p.ttd ≡ 0 → AllOver m old → m ≤ now
-        → next_end_of p now (old ++ recent) ≡ next_end_of p now recent }
-    ensures telegrams { (p : Params) (m now : ℕ) (taps : List Tap) (old recent : List Entry) → p.ttd ≡ 0 → AllOver m old → AllFrom m recent
-        → map (entry_at p taps (old ++ recent) now) recent ≡ map (entry_at p taps recent now) recent }
-    ensures marks { (p : Params) (tap m from to : ℕ) (t : Tap) (old recent : List Entry) → p.ttd ≡ 0 → AllOver m old → AllFrom m recent → m ≤ from
-        → marks_between p tap t (old ++ recent) from to ≡ marks_between p tap t recent from to }
+    ensures ends { (delay : ℕ) (m now : ℕ) (old recent : List Entry) → delay ≡ 0 → AllOver m old → m ≤ now
+        → next_end_of delay now (old ++ recent) ≡ next_end_of delay now recent }
+    ensures telegrams { (delay : ℕ) (m from to : ℕ) (taps : List Tap) (old recent : List Entry) → delay ≡ 0 → AllOver m old → AllFrom m recent → m ≤ from
+        → map (entry_at delay taps (old ++ recent) from to) (old ++ recent) ≡ old ++ map (entry_at delay taps recent from to) recent }
+    ensures marks { (delay : ℕ) (tap m from to : ℕ) (t : Tap) (old recent : List Entry) → delay ≡ 0 → AllOver m old → AllFrom m recent → m ≤ from
+        → marks_between delay tap t (old ++ recent) from to ≡ marks_between delay tap t recent from to }
 {}

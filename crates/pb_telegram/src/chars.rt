@@ -1,8 +1,9 @@
 /// One character as a receiver took it off the bus: an octet, or damage that it noticed.
-#[derive(Clone, Copy, Debug, PartialEq, Eq)]
+#[derive(Clone, Copy, Debug, Default, PartialEq, Eq)]
 pub enum RxChar {
     /// An octet whose start, parity and stop bits were right.
     Good(u8),
     /// A damaged character: its octet is not known.
+    #[default]
     Bad,
 }

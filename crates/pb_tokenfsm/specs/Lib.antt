@@ -1,3 +1,4 @@
 pub mod ParamRules
 pub mod ParamViews
 pub mod Phases
+pub mod ParamWords

@@ -2,7 +2,7 @@
 //!
 //! Each state is a type of its own, and each transition consumes the state that it leaves: a station
 //! is in one state, and only a [`Holding`] can say an initiator telegram. [`Phase`] is the enum of
-//! the states. A state can't be dropped: it is only given up for another.
+//! the states.
 //!
 //! The bus parameters ([`BusParams`]) stand here too, until they have a crate of their own.
 //! No call takes memory.

@@ -42,6 +42,28 @@ pub enum ParamFault {
     ReplyLate,
 }
 
+impl ParamFault {
+    ghost use Rattle.pb_tokenfsm.specs.ParamWords.{number_of};
+
+    /// The fault's number, 1 to 10: its place in the order in which faults are looked for.
+    pub fn number(&self) -> u8
+        ensures { result ≡ number_of self.now }
+    {
+        match self {
+            ParamFault::Slot => 1,
+            ParamFault::IdleShort => 2,
+            ParamFault::IdleOrder => 3,
+            ParamFault::ReplyShort => 4,
+            ParamFault::Rotation => 5,
+            ParamFault::GapFactor => 6,
+            ParamFault::Highest => 7,
+            ParamFault::Retries => 8,
+            ParamFault::TakeLate => 9,
+            ParamFault::ReplyLate => 10,
+        }
+    }
+}
+
 /// The parameters that all stations of a segment share, in bit times (IEC 61158-4-3, timing
 /// parameters). Each value meets all ten rules.
 #[derive(Clone, Copy, Debug)]
@@ -219,7 +241,8 @@ impl BusParams {
 
     /// The highest station address.
     pub fn hsa(&self) -> u32
-        ensures { result ≡ self.now.hsa }
+        ensures value { result ≡ self.now.hsa }
+        ensures valid { IsValid self.now }
     {
         self.hsa
     }

@@ -6,7 +6,7 @@ ghost use Rattle.pb_tokenfsm.specs.Phases.{phase_of, name_of};
 use crate::states::{Checking, Claim, Holding, Idle, Offline, Pass, PassiveIdle, Use};
 
 /// The state that a station is in (IEC 61158-4-3, states of the data link layer of a master).
-#[derive(Debug)]
+#[derive(Debug, Drop)]
 pub enum Phase {
     /// It does not run.
     Offline(Offline),
@@ -48,18 +48,18 @@ impl Phase {
         }
     }
 
-    /// The station stops, in whatever phase it is.
-    pub fn stop(self) -> Offline
-        ensures { phase_of (Phase.Offline result) ≡ model.Offline }
+    /// An equal phase, with which one can see what a turn would do.
+    pub fn copy(&self) -> Phase
+        ensures { result ≡ self.now }
     {
         match self {
-            Phase::Offline(offline) => offline,
-            Phase::PassiveIdle(passive) => passive.stop(),
-            Phase::Idle(idle) => idle.stop(),
-            Phase::Claim(holder) => holder.on_foreign().stop(),
-            Phase::Use(holder) => holder.on_foreign().stop(),
-            Phase::Pass(holder) => holder.on_foreign().stop(),
-            Phase::Checking(checking) => checking.stop(),
+            Phase::Offline(_) => Phase::Offline(Offline),
+            Phase::PassiveIdle(_) => Phase::PassiveIdle(PassiveIdle),
+            Phase::Idle(idle) => Phase::Idle(idle.copy()),
+            Phase::Claim(holder) => Phase::Claim(holder.copy()),
+            Phase::Use(holder) => Phase::Use(holder.copy()),
+            Phase::Pass(holder) => Phase::Pass(holder.copy()),
+            Phase::Checking(checking) => Phase::Checking(checking.copy()),
         }
     }
 }

@@ -9,30 +9,30 @@ use crate::phases::Phase;
 use arrayvec::ArrayVec;
 use pb_telegram::{Telegram, TokenTelegram, write};
 
-/// The station does not run. Of all states this one may be let go.
+/// The station does not run.
 #[derive(Debug, Drop)]
 pub struct Offline;
 
 /// A passive station, which says nothing as an initiator.
-#[derive(Debug)]
+#[derive(Debug, Drop)]
 pub struct PassiveIdle;
 
 /// A master that waits for the token.
-#[derive(Debug)]
+#[derive(Debug, Drop)]
 pub struct Idle {
     /// The station whose token to this one was not accepted, if any.
     refused: Option<u8>,
 }
 
 /// The token has been passed, and the station waits for a sign that it was taken.
-#[derive(Debug)]
+#[derive(Debug, Drop)]
 pub struct Checking {
     /// Whether a whole telegram came in the slot.
     noted: bool,
 }
 
 /// A station that may initiate, and the earliest moment at which it speaks.
-#[derive(Debug)]
+#[derive(Debug, Drop)]
 pub struct Holding<S> {
     /// The moment at which it speaks, in bit times.
     ready: u64,
@@ -41,31 +41,27 @@ pub struct Holding<S> {
 }
 
 /// It claims the token, with two token telegrams to its own address.
-#[derive(Debug, Drop)]
+#[derive(Clone, Copy, Debug)]
 pub struct Claim {
     /// How many of the two are sent.
     sent: u8,
 }
 
 /// It uses the token.
-#[derive(Debug, Drop)]
+#[derive(Clone, Copy, Debug)]
 pub struct Use;
 
 /// It passes the token.
-#[derive(Debug, Drop)]
+#[derive(Clone, Copy, Debug)]
 pub struct Pass;
 
-impl PassiveIdle {
-    pub(crate) fn stop(self) -> Offline {
-        let PassiveIdle = self;
-        Offline
-    }
-}
-
 impl Idle {
-    pub(crate) fn stop(self) -> Offline {
-        let Idle { refused: _ } = self;
-        Offline
+    pub(crate) fn copy(&self) -> Idle
+        ensures { result ≡ self.now }
+    {
+        Idle {
+            refused: self.refused,
+        }
     }
 
     /// A station that has refused nobody's token.
@@ -106,7 +102,16 @@ impl Idle {
     }
 }
 
-impl<S: Drop> Holding<S> {
+impl<S: Copy> Holding<S> {
+    pub(crate) fn copy(&self) -> Holding<S>
+        ensures { result ≡ self.now }
+    {
+        Holding {
+            ready: self.ready,
+            state: self.state,
+        }
+    }
+
     /// The moment at which the station speaks, in bit times.
     pub fn ready(&self) -> u64
         ensures { result ≡ ready_of self.now }
@@ -182,9 +187,10 @@ impl Holding<Pass> {
 }
 
 impl Checking {
-    pub(crate) fn stop(self) -> Offline {
-        let Checking { noted: _ } = self;
-        Offline
+    pub(crate) fn copy(&self) -> Checking
+        ensures { result ≡ self.now }
+    {
+        Checking { noted: self.noted }
     }
 
     /// A whole telegram came in the slot.

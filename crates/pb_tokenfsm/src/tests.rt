@@ -78,16 +78,17 @@ fn a_lone_station_claims_and_keeps_the_token(rt: HostRuntime) {
     assert!(rt; phase.may_initiate());
     assert_eq!(rt; phase.name(), "Claim");
     let Phase::Claim(claim) = phase else {
-        return leave(phase);
+        assert!(rt; false, "another phase");
+        return;
     };
     let phase = claim.on_sent(940);
     assert_eq!(rt; phase.name(), "Use");
     let Phase::Use(holder) = phase else {
-        return leave(phase);
+        assert!(rt; false, "another phase");
+        return;
     };
     let phase = holder.done().on_sent(1, 1, 1010);
     assert_eq!(rt; phase.name(), "Use");
-    leave(phase);
 }
 
 /// A station with address 1 and the previous station 3 takes a token from it, and one from another
@@ -100,17 +101,15 @@ fn a_token_is_taken_from_the_previous_station(rt: HostRuntime) {
     let phase = Idle::new().hear_token(&to_two, 1, 3, 100);
     assert_eq!(rt; phase.name(), "Idle");
     assert!(rt; !phase.may_initiate());
-    leave(phase);
     let phase = Idle::new().hear_token(&from_three, 1, 3, 100);
     assert_eq!(rt; phase.name(), "Use");
-    leave(phase);
     let phase = Idle::new().hear_token(&from_two, 1, 3, 100);
     let Phase::Idle(idle) = phase else {
-        return leave(phase);
+        assert!(rt; false, "another phase");
+        return;
     };
     let phase = idle.hear_token(&from_two, 1, 3, 200);
     assert_eq!(rt; phase.name(), "Use");
-    leave(phase);
 }
 
 /// A holder that hears another station gives the token up.
@@ -119,7 +118,6 @@ fn a_holder_gives_way(rt: HostRuntime) {
     let phase = Phase::Idle(Idle::new().on_timeout(800).on_foreign());
     assert!(rt; !phase.may_initiate());
     assert_eq!(rt; phase.name(), "Idle");
-    leave(phase);
 }
 
 /// A station with address 1 that has taken the token from station 3 and passed it to station 2.
@@ -128,15 +126,9 @@ fn checking() -> Option<Checking> {
     match Idle::new().hear_token(&token, 1, 3, 900) {
         Phase::Use(holder) => match holder.done().on_sent(2, 1, 1010) {
             Phase::Checking(checking) => Some(checking),
-            other => {
-                leave(other);
-                None
-            }
+            _ => None,
         },
-        other => {
-            leave(other);
-            None
-        }
+        _ => None,
     }
 }
 
@@ -149,12 +141,10 @@ fn a_token_is_passed_again_only_without_a_sign(rt: HostRuntime) {
         assert_eq!(rt; again.ready(), 1073);
         let phase = again.on_sent(2, 1, 1143);
         assert_eq!(rt; phase.name(), "Checking");
-        leave(phase);
     }
     if let Some(damaged) = checking() {
         let phase = damaged.on_damaged(1043, 1073);
         assert_eq!(rt; phase.name(), "Pass");
-        leave(phase);
     }
     let Some(taken) = checking() else {
         assert!(rt; false, "no check of the token pass");
@@ -162,10 +152,17 @@ fn a_token_is_passed_again_only_without_a_sign(rt: HostRuntime) {
     };
     let phase = taken.noted_whole().on_damaged(1043, 1073);
     assert_eq!(rt; phase.name(), "Idle");
-    leave(phase);
 }
 
-/// Stops a station at a test's end, since its phase can't be let go.
-fn leave(phase: Phase) {
-    let _stopped = phase.stop();
+/// An equal phase leaves the first as it is.
+#[test]
+fn a_phase_has_an_equal_one(rt: HostRuntime) {
+    let phase = Phase::Claim(Idle::new().on_timeout(800));
+    let equal = phase.copy();
+    assert_eq!(rt; equal.name(), phase.name());
+    let (Phase::Claim(claim), Phase::Claim(other)) = (phase, equal) else {
+        assert!(rt; false, "another phase");
+        return;
+    };
+    assert_eq!(rt; claim.ready(), other.ready());
 }

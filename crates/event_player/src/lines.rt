@@ -1,0 +1,133 @@
+//! The lines that playing an event list prints.
+
+use crate::lists::EventList;
+use pb_world::{Entry, Event, Heard, NewFault, Record, Reply, World, WorldFault};
+use std::alloc::{AllocError, Global};
+use std::fmt;
+
+/// The lines that an event list gives: each event with its reply or its fault, the trace, and each
+/// tap's phase and the moment of its next turn. A bus that is refused gives one line, its fault.
+///
+/// A refused event changes nothing, and the next one follows.
+pub fn play(alloc: Global, list: &EventList) -> Result<String, AllocError> {
+    let mut text = String::new(alloc);
+    match list.bus.params() {
+        Err(fault) => writeln!(text, "param fault {} {fault}", fault.number())?,
+        Ok(params) => match World::new(alloc, params, &list.taps) {
+            Err(NewFault::NoMemory) => return Err(AllocError),
+            Err(fault) => writeln!(text, "world fault {} {fault}", fault.number())?,
+            Ok(mut world) => {
+                push_events(&mut text, alloc, &mut world, &list.events)?;
+                push_trace(&mut text, alloc, world.trace())?;
+                push_taps(&mut text, &world, list.taps.len())?;
+            }
+        },
+    }
+    Ok(text)
+}
+
+/// Plays the events, and appends a line for each.
+fn push_events(
+    text: &mut String,
+    alloc: Global,
+    world: &mut World,
+    events: &[Event],
+) -> Result<(), AllocError> {
+    for (place, event) in events.iter().enumerate() {
+        write!(text, "{place} {}: ", Named(*event))?;
+        match world.apply(alloc, *event) {
+            Ok(reply) => push_reply(text, alloc, &reply)?,
+            Err(WorldFault::NoMemory) => return Err(AllocError),
+            Err(fault) => writeln!(text, "fault {} {fault}", fault.number())?,
+        }
+    }
+    Ok(())
+}
+
+/// Appends the clock, and the octets of a turn that spoke.
+fn push_reply(text: &mut String, alloc: Global, reply: &Reply) -> Result<(), AllocError> {
+    write!(text, "now {}", reply.now)?;
+    if let Some(octets) = &reply.spoke {
+        write!(text, " spoke {}", hex::encode(alloc, octets.as_slice())?)?;
+    }
+    text.push('\n')
+}
+
+/// Appends a line for each entry of the trace.
+fn push_trace(text: &mut String, alloc: Global, trace: &[Entry]) -> Result<(), AllocError> {
+    for entry in trace {
+        match entry {
+            Entry::Sent(record) => push_record(text, alloc, record)?,
+            Entry::Noise { begin, end } => writeln!(text, "{begin} {end} ~ noise")?,
+        }
+    }
+    Ok(())
+}
+
+/// Appends a telegram's line, with a letter for each tap.
+fn push_record(text: &mut String, alloc: Global, record: &Record) -> Result<(), AllocError> {
+    let octets = hex::encode(alloc, record.octets.as_slice())?;
+    write!(
+        text,
+        "{} {} tap {} {octets} ",
+        record.begin, record.end, record.tap
+    )?;
+    for heard in &record.heard {
+        text.push(letter(*heard))?;
+    }
+    text.push('\n')
+}
+
+/// The letter that says how a telegram reached a tap.
+fn letter(heard: Heard) -> char {
+    match heard {
+        Heard::Own => '-',
+        Heard::Whole => 'w',
+        Heard::Damaged => 'd',
+        Heard::Unheard => 'u',
+        Heard::Pending => '.',
+    }
+}
+
+/// Appends a line for each tap.
+fn push_taps(text: &mut String, world: &World, taps: usize) -> Result<(), AllocError> {
+    for tap in 0..taps {
+        if let Some(station) = world.station(tap) {
+            write!(text, "tap {tap}: {}, due ", station.phase().name())?;
+            push_due(text, world.due(tap))?;
+        }
+    }
+    Ok(())
+}
+
+/// Appends the moment of a tap's next turn.
+fn push_due(text: &mut String, due: Option<u64>) -> Result<(), AllocError> {
+    match due {
+        Some(moment) => writeln!(text, "{moment}"),
+        None => writeln!(text, "none"),
+    }
+}
+
+/// An event, shown with its name and numbers.
+#[derive(Clone, Copy)]
+struct Named(Event);
+
+impl fmt::Display for Named {
+    fn fmt<W: fmt::Write>(&self, f: &mut fmt::Formatter<W>) -> fmt::Result {
+        match self.0 {
+            Event::Turn(tap) => write!(f, "Turn {tap}"),
+            Event::Pass(bits) => write!(f, "Pass {bits}"),
+            Event::Start(tap) => write!(f, "Start {tap}"),
+            Event::Damage {
+                tap,
+                speaker,
+                place: None,
+            } => write!(f, "Damage tap {tap} speaker {speaker} all"),
+            Event::Damage {
+                tap,
+                speaker,
+                place: Some(place),
+            } => write!(f, "Damage tap {tap} speaker {speaker} place {place}"),
+        }
+    }
+}

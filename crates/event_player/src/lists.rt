@@ -1,0 +1,234 @@
+//! Event lists: what the program reads.
+
+use arrayvec::ArrayVec;
+use hex::FromHexError;
+use pb_tokenfsm::{BusParams, ParamFault};
+use pb_world::{Event, Kind, TapSpec};
+use serde::Deserialize;
+use serde_json::Error as JsonError;
+use std::alloc::{AllocError, AllocFailed, Global};
+use thiserror::Error;
+
+/// A bus, and what happens on it.
+#[derive(Debug, Drop)]
+pub struct EventList {
+    /// The parameters of the bus.
+    pub bus: Bus,
+    /// What its taps are.
+    pub taps: Vec<TapSpec>,
+    /// What happens, in order.
+    pub events: Vec<Event>,
+}
+
+/// Why an input is no event list.
+#[derive(Debug, Drop, Error)]
+pub enum ListFault {
+    /// It is no JSON, or its keys or values are wrong.
+    #[error("no event list: {0}")]
+    Json(JsonError),
+    /// The cable delay isn't 0.
+    #[error("no event list: ttd isn't 0")]
+    CableDelay,
+    /// The reply of a tap is no hex.
+    #[error("no event list: the reply of tap {0} is no hex")]
+    ReplyNotHex(usize),
+    /// The reply of a tap has more than 246 octets.
+    #[error("no event list: the reply of tap {0} is too long")]
+    ReplyTooLong(usize),
+    /// Memory was refused.
+    #[error("no memory")]
+    NoMemory,
+}
+
+impl From<AllocError> for ListFault {
+    fn from(_refused: AllocError) -> ListFault {
+        ListFault::NoMemory
+    }
+}
+
+impl<T: Drop> From<AllocFailed<T>> for ListFault {
+    fn from(_refused: AllocFailed<T>) -> ListFault {
+        ListFault::NoMemory
+    }
+}
+
+impl From<JsonError> for ListFault {
+    fn from(error: JsonError) -> ListFault {
+        if error.is_memory() {
+            return ListFault::NoMemory;
+        }
+        ListFault::Json(error)
+    }
+}
+
+/// The parameters of a bus, in bit times; a key that is absent has its usual value.
+#[derive(Clone, Copy, Debug, Deserialize)]
+#[serde(default, deny_unknown_fields)]
+pub struct Bus {
+    tsl: u32,
+    tid1: u32,
+    tid2: u32,
+    tsdr: u32,
+    lag: u32,
+    ttr: u32,
+    gap: u32,
+    hsa: u32,
+    retries: u32,
+    ttd: u32,
+}
+
+impl Default for Bus {
+    fn default() -> Bus {
+        Bus {
+            tsl: 100,
+            tid1: 37,
+            tid2: 60,
+            tsdr: 11,
+            lag: 0,
+            ttr: 10_000,
+            gap: 10,
+            hsa: 5,
+            retries: 1,
+            ttd: 0,
+        }
+    }
+}
+
+impl Bus {
+    /// The parameters, or the first rule that they break.
+    pub fn params(&self) -> Result<BusParams, ParamFault> {
+        BusParams::new(
+            self.tsl,
+            self.tid1,
+            self.tid2,
+            self.tsdr,
+            self.lag,
+            self.ttr,
+            self.gap,
+            self.hsa,
+            self.retries,
+        )
+    }
+}
+
+/// An event list as it is written. Keys that it doesn't name, as `expect`, are passed over.
+#[derive(Debug, Drop, Deserialize)]
+struct WrittenList<'a> {
+    #[serde(rename = "stage", default)]
+    _stage: Stage,
+    #[serde(default)]
+    bus: Bus,
+    taps: Vec<WrittenTap<'a>>,
+    events: Vec<WrittenEvent>,
+}
+
+/// The rules that a list is written for: stations pass tokens alone, and none stops.
+#[derive(Clone, Copy, Debug, Default, Deserialize)]
+#[serde(rename_all = "lowercase")]
+enum Stage {
+    #[default]
+    First,
+}
+
+/// A tap as it is written.
+#[derive(Debug, Drop, Deserialize)]
+#[serde(deny_unknown_fields)]
+struct WrittenTap<'a> {
+    kind: WrittenKind,
+    address: u8,
+    #[serde(default)]
+    reply: &'a str,
+}
+
+/// The kind of a tap as it is written.
+#[derive(Clone, Copy, Debug, Deserialize)]
+#[serde(rename_all = "lowercase")]
+enum WrittenKind {
+    Master,
+    Passive,
+}
+
+impl From<WrittenKind> for Kind {
+    fn from(kind: WrittenKind) -> Kind {
+        match kind {
+            WrittenKind::Master => Kind::Master,
+            WrittenKind::Passive => Kind::Passive,
+        }
+    }
+}
+
+/// An event as it is written.
+#[derive(Clone, Copy, Debug, Deserialize)]
+#[serde(deny_unknown_fields)]
+enum WrittenEvent {
+    Turn(usize),
+    Pass(u64),
+    Damage {
+        tap: usize,
+        speaker: usize,
+        place: Option<u8>,
+    },
+    Start(usize),
+}
+
+impl From<WrittenEvent> for Event {
+    fn from(event: WrittenEvent) -> Event {
+        match event {
+            WrittenEvent::Turn(tap) => Event::Turn(tap),
+            WrittenEvent::Pass(bits) => Event::Pass(bits),
+            WrittenEvent::Damage {
+                tap,
+                speaker,
+                place,
+            } => Event::Damage {
+                tap,
+                speaker,
+                place,
+            },
+            WrittenEvent::Start(tap) => Event::Start(tap),
+        }
+    }
+}
+
+/// The event list that JSON text gives.
+pub fn read_list(alloc: Global, text: &[u8]) -> Result<EventList, ListFault> {
+    let list: WrittenList<'_> = serde_json::from_slice(alloc, text)?;
+    if list.bus.ttd != 0 {
+        return Err(ListFault::CableDelay);
+    }
+    Ok(EventList {
+        bus: list.bus,
+        taps: read_taps(alloc, &list.taps)?,
+        events: list
+            .events
+            .iter()
+            .map(|event| Event::from(*event))
+            .collect(alloc)?,
+    })
+}
+
+fn read_taps(alloc: Global, taps: &[WrittenTap<'_>]) -> Result<Vec<TapSpec>, ListFault> {
+    let mut specs = Vec::with_capacity(alloc, taps.len())?;
+    for (place, tap) in taps.iter().enumerate() {
+        specs.push(TapSpec {
+            address: tap.address,
+            kind: Kind::from(tap.kind),
+            reply: read_reply(alloc, place, tap.reply)?,
+        })?;
+    }
+    Ok(specs)
+}
+
+/// The octets of the reply of the tap at a place.
+fn read_reply(alloc: Global, place: usize, text: &str) -> Result<ArrayVec<u8, 246>, ListFault> {
+    let octets = match hex::decode(alloc, text) {
+        Ok(octets) => octets,
+        Err(FromHexError::OutOfMemory) => return Err(ListFault::NoMemory),
+        Err(_) => return Err(ListFault::ReplyNotHex(place)),
+    };
+    let mut reply = ArrayVec::new();
+    match reply.try_extend_from_slice(&octets) {
+        Ok(()) => Ok(reply),
+        Err(_) => Err(ListFault::ReplyTooLong(place)),
+    }
+}

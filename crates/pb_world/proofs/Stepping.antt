@@ -1,0 +1,257 @@
+-- What the recent entries and the taps tell of a step of the whole world.
+use Rattle.std.proofs.Common.{◌≡◌, ◌∙◌, ap, sym, subst, refl, arith, ℕ, ◌+◌, ◌<◌, ◌≤◌, ◌==◌, nat_le, ◌++◌, List, [], ◌∷◌, length, length-append, map, Bool, true, false, not, ◌&&◌, ◌||◌, Option, Some, None, Ok, Err, Result}
+use Rattle.std.specs.Prelude.{take, drop, find, is_some, is_none, slice_get, slice_set, IsErr, IsErrAnd, MatchResult}
+use Rattle.std.proofs.lemmas.List.{take-append-drop, length-take-le}
+use Rattle.std.proofs.Math.Seq.{take-append_seam, drop-append_seam}
+use Rattle.std.proofs.lemmas.Option.{slice_get-get_or}
+use Rattle.pb_model.specs.Station.{Station}
+use Rattle.pb_model.specs.Trace.{Hit, Entry, Sent, Noise, entry_begin, goes_before, with_entry}
+use Rattle.pb_model.specs.Medium.{Tap, entry_at, ends_between, reaches, heard_by}
+use Rattle.pb_model.specs.Turn.{turn_of}
+use Rattle.pb_model.specs.World.{World, Event, Turn, Reply, Fault, NoSuchTap, Running, NotRunning, NothingInAir, TraceFull, trace_limit, unless, is_in_air_by}
+use Rattle.pb_model.specs.Step.{told, pass_faults, step_pass, with_hit, change_first, has_place, step_damage, started_tap, step_start, with_speech, after_turn, step_turn, sending, step, world_after}
+use Rattle.pb_model.specs.Laws.{AllBegun, AllOver, AllFrom, IsSound}
+use Rattle.pb_model.proofs.Cases.{by_test}
+use Rattle.pb_model.proofs.Worlds.{sound-step, unless-Ok}
+use Rattle.pb_world.specs.Airs.{plain, IsCut}
+use Rattle.pb_world.specs.Clocks.{IsFault, PassesTo}
+use Rattle.pb_world.specs.Damaging.{can_hit, RefusesHit}
+use Rattle.pb_world.specs.Faults.{Refuses}
+use Rattle.pb_world.specs.Senses.{at_once}
+use Rattle.pb_world.specs.Starting.{IsStarted, RefusesStart}
+use Rattle.pb_world.specs.Turning.{RefusesSaid, with_said, is_full}
+use Rattle.pb_world.specs.declared.faults.WorldFault.{WorldFault}
+use Rattle.pb_world.specs.declared.faults.WorldFault.TheVariants as fault
+use Rattle.pb_world.proofs.Cutting.{begun-behind}
+use Rattle.pb_world.proofs.Entering.{entered-behind}
+use Rattle.pb_world.proofs.Widening.{widened, pass-whole, damage-whole, start-whole}
+
+-- the world of the recent entries
+abbrev pub recent_of : ℕ → World → World
+recent_of over w = record w { params = plain; trace = drop over w.trace }
+
+-- ---- results
+
+pub in-err : {X F : Type 0} (P : X → Type 0) (Q : F → Type 0) (r : Result X F) (f : F) → IsErr r → IsErrAnd r (λ e. e ≡ f) → Q f → MatchResult r P Q
+in-err P Q (Ok x) f err same q = absurd (let wrong : false ≡ true = err in cc)
+in-err P Q (Err e) f err same q = subst Q (sym same) q
+
+not-false : (b : Bool) → not b ≡ false → b ≡ true
+not-false true e = refl
+not-false false e = absurd (let wrong : true ≡ false = e in cc)
+
+not-true : (b : Bool) → not b ≡ true → b ≡ false
+not-true false e = refl
+not-true true e = absurd (let wrong : false ≡ true = e in cc)
+
+-- a tap that is there
+pub is-there : {X : Type 0} (xs : List X) (i : ℕ) → i < length xs → is_none (slice_get xs i) ≡ false
+is-there [] i there = absurd (omega (arith, there))
+is-there (x ∷ xs) i there = ap is_none (slice_get-get_or (x ∷ xs) i x there)
+
+-- ---- what stays
+
+pub sound-after : (again : Bool) (w : World) (e : Event) (next : World) (reply : Reply) → step again w e ≡ Ok (next, reply) → IsSound w → IsSound next
+sound-after again w e next reply ok sound = subst IsSound (ap (world_after w) ok) (sound-step again w e sound)
+
+-- the world of the recent entries is as sound
+pub sound-recent : (over : ℕ) (w : World) → IsSound w → IsSound (recent_of over w)
+sound-recent over w sound = record {
+  no_delay = refl;
+  begun = begun-behind w.now (take over w.trace) (drop over w.trace) (subst (AllBegun w.now) (sym (take-append-drop over w.trace)) sound.begun);
+  in_order = sound.in_order;
+}
+
+-- other entries behind those that are over, none of which began before they had ended
+pub cut-with : (now over : ℕ) (es recent : List Entry) → ((m : ℕ) → m ≤ now → AllFrom m (drop over es) → AllFrom m recent) → IsCut now over es
+    → IsCut now over (take over es ++ recent)
+cut-with now over es recent from (m, at, some, old, begun) =
+    let front = take over es in
+    let size : length front ≡ over = length-take-le over es some in
+    let same : take over (front ++ recent) ≡ front = ap (λ n. take n (front ++ recent)) (sym size) ∙ take-append_seam front recent in
+    let rest : drop over (front ++ recent) ≡ recent = ap (λ n. drop n (front ++ recent)) (sym size) ∙ drop-append_seam front recent in
+    (m, at, omega (arith, size, length-append front recent), subst (AllOver m) (sym same) old, subst (AllFrom m) (sym rest) (from m at begun))
+
+pub from-changed : (m : ℕ) (test : Entry → Bool) (hit : Hit) (es : List Entry) → AllFrom m es → AllFrom m (change_first test (with_hit hit) es)
+from-changed m test hit [] from = tt
+from-changed m test hit (Noise span ∷ es) from =
+    by_test (AllFrom m) (test (Noise span)) (Noise span ∷ es) (Noise span ∷ change_first test (with_hit hit) es)
+    (λ _. from) (λ _. (from.0, from-changed m test hit es from.1))
+from-changed m test hit (Sent r ∷ es) from =
+    by_test (AllFrom m) (test (Sent r)) (with_hit hit (Sent r) ∷ es) (Sent r ∷ change_first test (with_hit hit) es)
+    (λ _. from) (λ _. (from.0, from-changed m test hit es from.1))
+
+pub from-entered : (m : ℕ) (e : Entry) (es : List Entry) → m ≤ entry_begin e → AllFrom m es → AllFrom m (with_entry e es)
+from-entered m e [] later from = (later, tt)
+from-entered m e (x ∷ es) later from =
+    by_test (AllFrom m) (goes_before e x) (e ∷ x ∷ es) (x ∷ with_entry e es) (λ _. (later, from)) (λ _. (from.0, from-entered m e es later from.1))
+
+from-settled : (m delay : ℕ) (taps : List Tap) (trace : List Entry) (t u : ℕ) (es : List Entry) → AllFrom m es → AllFrom m (map (entry_at delay taps trace t u) es)
+from-settled m delay taps trace t u [] from = tt
+from-settled m delay taps trace t u (Noise span ∷ es) from = (from.0, from-settled m delay taps trace t u es from.1)
+from-settled m delay taps trace t u (Sent r ∷ es) from =
+    by_test (λ (e : Entry). AllFrom m (e ∷ map (entry_at delay taps trace t u) es)) (ends_between t u (reaches delay r))
+    (Sent (record r { heard = heard_by delay trace r 0 taps r.heard })) (Sent r)
+    (λ _. (from.0, from-settled m delay taps trace t u es from.1)) (λ _. (from.0, from-settled m delay taps trace t u es from.1))
+
+-- ---- Pass
+
+pub pass-done : (w : World) (over d to : ℕ) (entries : List Entry) (taps : List Tap) → w.params.ttd ≡ 0 → IsCut w.now over w.trace
+    → PassesTo (recent_of over w) d (take over w.trace) to entries taps
+    → step_pass w d ≡ Ok (record w { now = to; trace = entries; taps = taps }, record { now = to; spoke = None })
+pass-done w over d to entries taps none cut (recent, are, passed) =
+    pass-whole w over d none cut ∙ ap (widened (take over w.trace) w.params) passed
+    ∙ ap (λ es. Ok (record w { now = to; trace = es; taps = taps }, record { now = to; spoke = None })) (sym are)
+
+pub pass-refused : (w : World) (over d : ℕ) (reason : WorldFault) → w.params.ttd ≡ 0 → IsCut w.now over w.trace
+    → IsFault (step_pass (recent_of over w) d) reason → Refuses (step_pass w d) reason
+pass-refused w over d reason none cut refused =
+    subst (λ r. Refuses r reason) (sym (pass-whole w over d none cut)) (by (step_pass (recent_of over w) d) refused)
+  where
+    by : (r : Result (World × Reply) Fault) → IsFault r reason → Refuses (widened (take over w.trace) w.params r) reason
+    by (Ok next) refused = absurd refused
+    by (Err f) refused = refused
+
+pub cut-passed : (w : World) (over d to : ℕ) (entries : List Entry) (taps : List Tap) → IsCut w.now over w.trace
+    → PassesTo (recent_of over w) d (take over w.trace) to entries taps → IsCut w.now over entries
+cut-passed w over d to entries taps cut (recent, are, passed) =
+    let s = recent_of over w in
+    let after = w.now + d in
+    let news = told s.params.ttd s.trace w.now after 0 w.taps in
+    let moved : World = record s { now = after; taps = news; trace = map (entry_at s.params.ttd w.taps s.trace w.now after) s.trace } in
+    let same = (unless-Ok (pass_faults s d news) (moved, record { now = after; spoke = None }) (record s { now = to; trace = recent; taps = taps }, record { now = to; spoke = None }) passed).1 in
+    let settled = ap (λ (next : World × Reply). next.0.trace) same in
+    subst (IsCut w.now over) (ap (λ es. take over w.trace ++ es) settled ∙ sym are)
+    (cut-with w.now over w.trace moved.trace (λ m at from. from-settled m s.params.ttd w.taps s.trace w.now after s.trace from) cut)
+
+-- ---- Damage
+
+pub damage-done : (w : World) (over tap speaker : ℕ) (place : Option ℕ) (at from : Option Tap) → w.params.ttd ≡ 0 → IsCut w.now over w.trace
+    → (is_none at || is_none from) ≡ false → can_hit speaker w.now (record { tap = tap; place = place }) (drop over w.trace) ≡ true
+    → step_damage w tap speaker place at from ≡ Ok (
+      record w { trace = take over w.trace ++ change_first (is_in_air_by at_once w.now speaker) (with_hit (record { tap = tap; place = place })) (drop over w.trace) },
+      record { now = w.now; spoke = None },
+    )
+damage-done w over tap speaker place at from none cut there can =
+    let es = drop over w.trace in
+    let test = tap == speaker || not (has_place (find (is_in_air_by at_once w.now speaker) es) place) in
+    let next : World = record w { params = plain; trace = change_first (is_in_air_by at_once w.now speaker) (with_hit (record { tap = tap; place = place })) es } in
+    let reply : Reply = record { now = w.now; spoke = None } in
+    damage-whole w over tap speaker place at from none cut
+    ∙ ap (λ (b : Bool). widened (take over w.trace) w.params (unless ((b, NoSuchTap) ∷ (test, NothingInAir) ∷ []) (next, reply))) there
+    ∙ ap (λ (b : Bool). widened (take over w.trace) w.params (unless ((false, NoSuchTap) ∷ (b, NothingInAir) ∷ []) (next, reply))) (not-true test can)
+
+pub damage-refused : (w : World) (over tap speaker : ℕ) (place : Option ℕ) (at from : Option Tap) (reason : WorldFault) → w.params.ttd ≡ 0 → IsCut w.now over w.trace
+    → (is_none at || is_none from) ≡ false → RefusesHit (can_hit speaker w.now (record { tap = tap; place = place }) (drop over w.trace)) reason
+    → Refuses (step_damage w tap speaker place at from) reason
+damage-refused w over tap speaker place at from fault.NoMemory none cut there can =
+    subst (λ r. Refuses r fault.NoMemory) (sym (damage-done w over tap speaker place at from none cut there can)) refl
+damage-refused w over tap speaker place at from fault.NothingInAir none cut there can =
+    let es = drop over w.trace in
+    let test = tap == speaker || not (has_place (find (is_in_air_by at_once w.now speaker) es) place) in
+    let next : World = record w { params = plain; trace = change_first (is_in_air_by at_once w.now speaker) (with_hit (record { tap = tap; place = place })) es } in
+    let reply : Reply = record { now = w.now; spoke = None } in
+    subst (λ r. Refuses r fault.NothingInAir)
+    (sym (
+    damage-whole w over tap speaker place at from none cut
+    ∙ ap (λ (b : Bool). widened (take over w.trace) w.params (unless ((b, NoSuchTap) ∷ (test, NothingInAir) ∷ []) (next, reply))) there
+    ∙ ap (λ (b : Bool). widened (take over w.trace) w.params (unless ((false, NoSuchTap) ∷ (b, NothingInAir) ∷ []) (next, reply))) (not-false test can)
+    ))
+    refl
+damage-refused w over tap speaker place at from other none cut there can = absurd can
+
+-- ---- Start
+
+pub start-done : (w : World) (over tap : ℕ) (taps : List Tap) → w.params.ttd ≡ 0 → IsCut w.now over w.trace → IsStarted (recent_of over w) tap taps
+    → step_start w tap (slice_get w.taps tap) ≡ Ok (record w { taps = taps }, record { now = w.now; spoke = None })
+start-done w over tap taps none cut (t, at, up, are) =
+    let s = recent_of over w in
+    let reply : Reply = record { now = w.now; spoke = None } in
+    start-whole w over tap (slice_get w.taps tap) none cut
+    ∙ ap (λ o. widened (take over w.trace) w.params (step_start s tap o)) at
+    ∙ ap (λ (b : Bool). widened (take over w.trace) w.params (unless ((b, Running) ∷ []) (record s { taps = slice_set w.taps tap (started_tap s tap t) }, reply))) up
+    ∙ ap (λ ts. Ok (record w { trace = take over w.trace ++ drop over w.trace; taps = ts }, reply)) (sym are)
+    ∙ ap (λ es. Ok (record w { trace = es; taps = taps }, reply)) (take-append-drop over w.trace)
+
+pub start-refused : (w : World) (over tap : ℕ) (reason : WorldFault) → w.params.ttd ≡ 0 → IsCut w.now over w.trace → RefusesStart (recent_of over w) tap reason
+    → Refuses (step_start w tap (slice_get w.taps tap)) reason
+start-refused w over tap fault.NoSuchTap none cut missing = subst (λ o. Refuses (step_start w tap o) fault.NoSuchTap) (sym missing) refl
+start-refused w over tap fault.Running none cut (t, at, up) =
+    let s = recent_of over w in
+    let reply : Reply = record { now = w.now; spoke = None } in
+    subst (λ r. Refuses r fault.Running)
+    (sym (
+    start-whole w over tap (slice_get w.taps tap) none cut
+    ∙ ap (λ o. widened (take over w.trace) w.params (step_start s tap o)) at
+    ∙ ap (λ (b : Bool). widened (take over w.trace) w.params (unless ((b, Running) ∷ []) (record s { taps = slice_set w.taps tap (started_tap s tap t) }, reply))) up
+    ))
+    refl
+start-refused w over tap other none cut refused = absurd refused
+
+-- ---- Turn
+
+-- the turn of a running tap
+turn-by : (again : Bool) (w : World) (tap : ℕ) (t : Tap) (s : Station) (said : Option (List ℕ)) → slice_get w.taps tap ≡ Some t → t.running ≡ true
+    → (s, said) ≡ turn_of w.params again t.station t.marks w.now
+    → step again w (Turn tap) ≡ unless ((is_full said (length w.trace), TraceFull) ∷ []) (
+      record w { trace = with_speech w tap said; taps = slice_set w.taps tap (record t { station = s; marks = [] }) },
+      record { now = w.now; spoke = said },
+    )
+turn-by again w tap t s said at runs turns =
+    ap (λ o. step_turn again w tap o) at ∙ ap (after_turn w tap t) (sym turns)
+    ∙ ap (λ (b : Bool). unless ((not b, NotRunning) ∷ (is_full said (length w.trace), TraceFull) ∷ []) (
+      record w { trace = with_speech w tap said; taps = slice_set w.taps tap (record t { station = s; marks = [] }) },
+      record { now = w.now; spoke = said },
+    )) runs
+
+said-behind : (w : World) (over tap : ℕ) (said : Option (List ℕ)) → IsCut w.now over w.trace
+    → with_speech w tap said ≡ take over w.trace ++ with_said tap said w.now w.taps (drop over w.trace)
+said-behind w over tap None cut = sym (take-append-drop over w.trace)
+said-behind w over tap (Some octets) (m, at, some, old, begun) =
+    let e : Entry = Sent (sending tap octets w.now w.taps) in
+    ap (with_entry e) (sym (take-append-drop over w.trace)) ∙ entered-behind m e (take over w.trace) (drop over w.trace) old at
+
+pub turn-done : (again : Bool) (w : World) (over tap : ℕ) (t : Tap) (s : Station) (said : Option (List ℕ)) → slice_get w.taps tap ≡ Some t → t.running ≡ true
+    → (s, said) ≡ turn_of w.params again t.station t.marks w.now → IsCut w.now over w.trace → is_full said (length w.trace) ≡ false
+    → step again w (Turn tap) ≡ Ok (
+      record w {
+        trace = take over w.trace ++ with_said tap said w.now w.taps (drop over w.trace);
+        taps = slice_set w.taps tap (record t { station = s; marks = [] });
+      },
+      record { now = w.now; spoke = said },
+    )
+turn-done again w over tap t s said at runs turns cut room =
+    let taps = slice_set w.taps tap (record t { station = s; marks = [] }) in
+    let reply : Reply = record { now = w.now; spoke = said } in
+    turn-by again w tap t s said at runs turns
+    ∙ ap (λ (b : Bool). unless ((b, TraceFull) ∷ []) (record w { trace = with_speech w tap said; taps = taps }, reply)) room
+    ∙ ap (λ es. Ok (record w { trace = es; taps = taps }, reply)) (said-behind w over tap said cut)
+
+pub turn-refused : (again : Bool) (w : World) (tap : ℕ) (t : Tap) (s : Station) (said : Option (List ℕ)) (reason : WorldFault) → slice_get w.taps tap ≡ Some t → t.running ≡ true
+    → (s, said) ≡ turn_of w.params again t.station t.marks w.now → RefusesSaid said (length w.trace) reason → Refuses (step again w (Turn tap)) reason
+turn-refused again w tap t s said reason at runs turns refused = subst (λ r. Refuses r reason) (sym (turn-by again w tap t s said at runs turns)) (by reason refused)
+  where
+    next : World × Reply
+    next = (record w { trace = with_speech w tap said; taps = slice_set w.taps tap (record t { station = s; marks = [] }) }, record { now = w.now; spoke = said })
+
+    by : (f : WorldFault) → RefusesSaid said (length w.trace) f → Refuses (unless ((is_full said (length w.trace), TraceFull) ∷ []) next) f
+    by fault.TraceFull full = subst (λ (b : Bool). Refuses (unless ((b, TraceFull) ∷ []) next) fault.TraceFull) (sym full) refl
+    by fault.NoMemory room = subst (λ (b : Bool). Refuses (unless ((b, TraceFull) ∷ []) next) fault.NoMemory) (sym room) refl
+    by other refused = absurd refused
+
+pub turn-missing : (again : Bool) (w : World) (tap : ℕ) → slice_get w.taps tap ≡ None → step again w (Turn tap) ≡ Err NoSuchTap
+turn-missing again w tap at = ap (λ o. step_turn again w tap o) at
+
+pub turn-stopped : (again : Bool) (w : World) (tap : ℕ) (t : Tap) → slice_get w.taps tap ≡ Some t → t.running ≡ false → step again w (Turn tap) ≡ Err NotRunning
+turn-stopped again w tap t at stopped =
+    let turn = turn_of w.params again t.station t.marks w.now in
+    ap (λ o. step_turn again w tap o) at
+    ∙ ap (λ (b : Bool). unless ((not b, NotRunning) ∷ (is_some turn.1 && nat_le trace_limit (length w.trace), TraceFull) ∷ []) (
+      record w { trace = with_speech w tap turn.1; taps = slice_set w.taps tap (record t { station = turn.0; marks = [] }) },
+      record { now = w.now; spoke = turn.1 },
+    )) stopped
+
+-- what is said at the clock goes behind what is over
+pub from-said : (m tap now : ℕ) (said : Option (List ℕ)) (ts : List Tap) (es : List Entry) → m ≤ now → AllFrom m es → AllFrom m (with_said tap said now ts es)
+from-said m tap now None ts es at from = from
+from-said m tap now (Some octets) ts es at from = from-entered m (Sent (sending tap octets now ts)) es at from

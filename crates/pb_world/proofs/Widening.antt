@@ -1,0 +1,177 @@
+-- What has ended rides along: a step of the recent entries alone is a step of all.
+use Rattle.std.proofs.Common.{◌≡◌, ◌∙◌, ap, sym, refl, arith, ℕ, ◌+◌, ◌≤◌, ◌==◌, nat_lt, nat_le, ◌++◌, List, [], ◌∷◌, map, Bool, true, false, not, ◌&&◌, ◌||◌, cond, if◌then◌else◌, Option, Some, None, Ok, Err, Result}
+use Rattle.std.specs.Prelude.{take, drop, find, is_some, is_none, unwrap_or, slice_get, slice_set}
+use Rattle.std.specs.List.{list_any}
+use Rattle.std.proofs.lemmas.Bool.{le-ltb}
+use Rattle.std.proofs.lemmas.List.{take-append-drop}
+use Rattle.std.proofs.lemmas.List.Folds.{list_any-append}
+use Rattle.pb_refusals.specs.FirstFault.{first_fault}
+use Rattle.pb_model.specs.Bus.{Params, Span}
+use Rattle.pb_model.specs.Marks.{Mark}
+use Rattle.pb_model.specs.Turn.{started}
+use Rattle.pb_model.specs.Trace.{Entry, Sent, Noise}
+use Rattle.pb_model.specs.Medium.{Tap, is_unheard, new_marks, entry_at, reaches}
+use Rattle.pb_model.specs.World.{World, Reply, Fault, NoSuchTap, Running, NothingInAir, ZeroTime, TooFar, ClockFull, InboxFull, clock_limit, unless, unless_fault, next_end_of, is_in_air_by}
+use Rattle.pb_model.specs.Step.{told, first_full, is_past, step_pass, with_hit, change_first, has_place, step_damage, is_there, reaches_now, step_start}
+use Rattle.pb_model.specs.Laws.{AllOver, AllFrom}
+use Rattle.pb_model.proofs.Cases.{by_test}
+use Rattle.pb_model.proofs.Past.{marks_between-skip, next_end_of-skip, trace_at-skip}
+use Rattle.pb_world.specs.Airs.{plain, IsCut}
+
+-- ---- a world with old entries in front of its own, and other parameters
+
+abbrev pub widened : List Entry → Params → Result (World × Reply) Fault → Result (World × Reply) Fault
+widened old p (Ok next) = Ok (record next.0 { params = p; trace = old ++ next.0.trace }, next.1)
+widened old p (Err f) = Err f
+
+widened-unless : (old : List Entry) (p : Params) (tests : List (Bool × Fault)) (w : World) (reply : Reply)
+    → unless tests (record w { params = p; trace = old ++ w.trace }, reply) ≡ widened old p (unless tests (w, reply))
+widened-unless old p tests w reply = by_fault (first_fault tests)
+  where
+    by_fault : (o : Option Fault) → unless_fault o (record w { params = p; trace = old ++ w.trace }, reply) ≡ widened old p (unless_fault o (w, reply))
+    by_fault None = refl
+    by_fault (Some f) = refl
+
+-- ---- Pass
+
+told-skip : (delay m from to k : ℕ) (old recent : List Entry) (ts : List Tap) → delay ≡ 0 → AllOver m old → AllFrom m recent → m ≤ from
+    → told delay (old ++ recent) from to k ts ≡ told delay recent from to k ts
+told-skip delay m from to k old recent [] none over begun later = refl
+told-skip delay m from to k old recent (t ∷ ts) none over begun later =
+    ap (λ (ms : List Mark). record t { marks = t.marks ++ (if t.running then ms else []) } ∷ told delay (old ++ recent) from to (k + 1) ts)
+    (marks_between-skip delay k m from to t old recent none over begun later)
+    ∙ ap (λ (us : List Tap). record t { marks = t.marks ++ new_marks delay k t recent from to } ∷ us) (told-skip delay m from to (k + 1) old recent ts none over begun later)
+
+pass-wide : (p : Params) (old recent : List Entry) (now d m : ℕ) (taps : List Tap) → p.ttd ≡ 0 → AllOver m old → AllFrom m recent → m ≤ now
+    → step_pass (record { params = p; now = now; trace = old ++ recent; taps = taps }) d
+    ≡ widened old p (step_pass (record { params = plain; now = now; trace = recent; taps = taps }) d)
+pass-wide p old recent now d m taps none over begun later =
+    let to = now + d in
+    let reply : Reply = record { now = to; spoke = None } in
+    let ending : Option ℕ → List Tap → List Entry → Result (World × Reply) Fault
+    = λ o ts es. unless (
+    (d == 0, ZeroTime) ∷ (is_past o to, TooFar (unwrap_or o 0)) ∷ (nat_lt clock_limit to, ClockFull)
+    ∷ (is_some (first_full 0 ts), InboxFull (unwrap_or (first_full 0 ts) 0)) ∷ []
+    ) (record { params = p; now = to; trace = es; taps = ts }, reply) in
+    ap (λ o. ending o (told p.ttd (old ++ recent) now to 0 taps) (map (entry_at p.ttd taps (old ++ recent) now to) (old ++ recent))) (next_end_of-skip p.ttd m now old recent none over later)
+    ∙ ap (λ ts. ending (next_end_of p.ttd now recent) ts (map (entry_at p.ttd taps (old ++ recent) now to) (old ++ recent))) (told-skip p.ttd m now to 0 old recent taps none over begun later)
+    ∙ ap (λ es. ending (next_end_of p.ttd now recent) (told p.ttd recent now to 0 taps) es) (trace_at-skip p.ttd m now to taps old recent none over begun later)
+    ∙ ap (λ delay. ending (next_end_of delay now recent) (told delay recent now to 0 taps) (old ++ map (entry_at delay taps recent now to) recent)) none
+    ∙ widened-unless old p (
+    (d == 0, ZeroTime) ∷ (is_past (next_end_of 0 now recent) to, TooFar (unwrap_or (next_end_of 0 now recent) 0)) ∷ (nat_lt clock_limit to, ClockFull)
+    ∷ (is_some (first_full 0 (told 0 recent now to 0 taps)), InboxFull (unwrap_or (first_full 0 (told 0 recent now to 0 taps)) 0)) ∷ []
+    ) (record { params = plain; now = to; trace = map (entry_at 0 taps recent now to) recent; taps = told 0 recent now to 0 taps }) reply
+
+pub pass-whole : (w : World) (over d : ℕ) → w.params.ttd ≡ 0 → IsCut w.now over w.trace
+    → step_pass w d ≡ widened (take over w.trace) w.params (step_pass (record w { params = plain; trace = drop over w.trace }) d)
+pass-whole w over d none (m, later, some, old, begun) =
+    ap (λ es. step_pass (record w { trace = es }) d) (sym (take-append-drop over w.trace))
+    ∙ pass-wide w.params (take over w.trace) (drop over w.trace) w.now d m w.taps none old begun later
+
+-- ---- what is over is not in the air, and reaches nobody
+
+and-false : (b : Bool) → (b && false) ≡ false
+and-false true = refl
+and-false false = refl
+
+over-landed : (delay m now speaker : ℕ) (es : List Entry) → delay ≡ 0 → AllOver m es → m ≤ now → list_any (is_in_air_by delay now speaker) es ≡ false
+over-landed delay m now speaker [] none over later = refl
+over-landed delay m now speaker (Noise span ∷ es) none over later = over-landed delay m now speaker es none over.2 later
+over-landed delay m now speaker (Sent r ∷ es) none over later =
+    ap (λ (b : Bool). (r.tap == speaker && b) || list_any (is_in_air_by delay now speaker) es) (le-ltb now (reaches delay r).end (omega (arith, none, over.1, later)))
+    ∙ ap (λ (b : Bool). b || list_any (is_in_air_by delay now speaker) es) (and-false (r.tap == speaker))
+    ∙ over-landed delay m now speaker es none over.2 later
+
+over-passed : (delay m now tap : ℕ) (es : List Entry) → delay ≡ 0 → AllOver m es → m ≤ now → list_any (reaches_now delay tap now) es ≡ false
+over-passed delay m now tap [] none over later = refl
+over-passed delay m now tap (Noise span ∷ es) none over later =
+    ap (λ (b : Bool). (nat_le span.begin now && b) || list_any (reaches_now delay tap now) es) (le-ltb now span.end (omega (arith, over.1, later)))
+    ∙ ap (λ (b : Bool). b || list_any (reaches_now delay tap now) es) (and-false (nat_le span.begin now)) ∙ over-passed delay m now tap es none over.2 later
+over-passed delay m now tap (Sent r ∷ es) none over later =
+    by_test (λ (o : Option Span). (is_there now o || list_any (reaches_now delay tap now) es) ≡ false) (r.tap == tap || is_unheard (slice_get r.heard tap)) None (Some (reaches delay r))
+    (λ _. over-passed delay m now tap es none over.2 later)
+    (λ _. ap (λ (b : Bool). (nat_le (reaches delay r).begin now && b) || list_any (reaches_now delay tap now) es) (le-ltb now (reaches delay r).end (omega (arith, none, over.1, later)))
+    ∙ ap (λ (b : Bool). b || list_any (reaches_now delay tap now) es) (and-false (nat_le (reaches delay r).begin now)) ∙ over-passed delay m now tap es none over.2 later)
+
+any-behind : (test : Entry → Bool) (old recent : List Entry) → list_any test old ≡ false → list_any test (old ++ recent) ≡ list_any test recent
+any-behind test old recent none = list_any-append test old recent ∙ ap (λ (b : Bool). b || list_any test recent) none
+
+-- a test that fails for the first entries
+neither-of : (a b : Bool) → (a || b) ≡ false → (a ≡ false) × (b ≡ false)
+neither-of false b e = (refl, e)
+neither-of true b e = absurd (let wrong : true ≡ false = e in cc)
+
+find-behind : (test : Entry → Bool) (old recent : List Entry) → list_any test old ≡ false → find test (old ++ recent) ≡ find test recent
+find-behind test [] recent none = refl
+find-behind test (e ∷ old) recent none =
+    let parts = neither-of (test e) (list_any test old) none in
+    ap (λ (b : Bool). cond b (Some e) (find test (old ++ recent))) parts.0 ∙ find-behind test old recent parts.1
+
+changed-behind : (test : Entry → Bool) (change : Entry → Entry) (old recent : List Entry) → list_any test old ≡ false
+    → change_first test change (old ++ recent) ≡ old ++ change_first test change recent
+changed-behind test change [] recent none = refl
+changed-behind test change (e ∷ old) recent none =
+    let parts = neither-of (test e) (list_any test old) none in
+    ap (λ (b : Bool). if b then change e ∷ (old ++ recent) else e ∷ change_first test change (old ++ recent)) parts.0
+    ∙ ap (λ es. e ∷ es) (changed-behind test change old recent parts.1)
+
+-- ---- Damage
+
+damage-wide : (p : Params) (old recent : List Entry) (now m tap speaker : ℕ) (place : Option ℕ) (at from : Option Tap) (taps : List Tap)
+    → p.ttd ≡ 0 → AllOver m old → m ≤ now
+    → step_damage (record { params = p; now = now; trace = old ++ recent; taps = taps }) tap speaker place at from
+    ≡ widened old p (step_damage (record { params = plain; now = now; trace = recent; taps = taps }) tap speaker place at from)
+damage-wide p old recent now m tap speaker place at from taps none over later =
+    let hit = with_hit (record { tap = tap; place = place }) in
+    let landed = over-landed p.ttd m now speaker old none over later in
+    let reply : Reply = record { now = now; spoke = None } in
+    let ending : Option Entry → List Entry → Result (World × Reply) Fault
+    = λ o es. unless ((is_none at || is_none from, NoSuchTap) ∷ (tap == speaker || not (has_place o place), NothingInAir) ∷ [])
+    (record { params = p; now = now; trace = es; taps = taps }, reply) in
+    ap (λ o. ending o (change_first (is_in_air_by p.ttd now speaker) hit (old ++ recent))) (find-behind (is_in_air_by p.ttd now speaker) old recent landed)
+    ∙ ap (λ es. ending (find (is_in_air_by p.ttd now speaker) recent) es) (changed-behind (is_in_air_by p.ttd now speaker) hit old recent landed)
+    ∙ ap (λ delay. ending (find (is_in_air_by delay now speaker) recent) (old ++ change_first (is_in_air_by delay now speaker) hit recent)) none
+    ∙ widened-unless old p ((is_none at || is_none from, NoSuchTap) ∷ (tap == speaker || not (has_place (find (is_in_air_by 0 now speaker) recent) place), NothingInAir) ∷ [])
+    (record { params = plain; now = now; trace = change_first (is_in_air_by 0 now speaker) hit recent; taps = taps }) reply
+
+pub damage-whole : (w : World) (over tap speaker : ℕ) (place : Option ℕ) (at from : Option Tap) → w.params.ttd ≡ 0 → IsCut w.now over w.trace
+    → step_damage w tap speaker place at from ≡ widened (take over w.trace) w.params (step_damage (record w { params = plain; trace = drop over w.trace }) tap speaker place at from)
+damage-whole w over tap speaker place at from none (m, later, some, old, begun) =
+    ap (λ es. step_damage (record w { trace = es }) tap speaker place at from) (sym (take-append-drop over w.trace))
+    ∙ damage-wide w.params (take over w.trace) (drop over w.trace) w.now m tap speaker place at from w.taps none old later
+
+-- ---- Start
+
+start-wide : (p : Params) (old recent : List Entry) (now m tap : ℕ) (o : Option Tap) (taps : List Tap) → p.ttd ≡ 0 → AllOver m old → m ≤ now
+    → step_start (record { params = p; now = now; trace = old ++ recent; taps = taps }) tap o
+    ≡ widened old p (step_start (record { params = plain; now = now; trace = recent; taps = taps }) tap o)
+start-wide p old recent now m tap None taps none over later = refl
+start-wide p old recent now m tap (Some t) taps none over later =
+    let reply : Reply = record { now = now; spoke = None } in
+    let ending : Bool → Bool → Result (World × Reply) Fault
+    = λ sends amid. unless ((t.running || sends, Running) ∷ []) (
+      record {
+        params = p;
+        now = now;
+        trace = old ++ recent;
+        taps = slice_set taps tap (record t { running = true; since = now; amid = amid; station = started t.station t.spec.master now; marks = [] });
+      },
+      reply,
+    ) in
+    ap (λ sends. ending sends (list_any (reaches_now p.ttd tap now) (old ++ recent))) (any-behind (is_in_air_by p.ttd now tap) old recent (over-landed p.ttd m now tap old none over later))
+    ∙ ap (λ amid. ending (list_any (is_in_air_by p.ttd now tap) recent) amid) (any-behind (reaches_now p.ttd tap now) old recent (over-passed p.ttd m now tap old none over later))
+    ∙ ap (λ delay. ending (list_any (is_in_air_by delay now tap) recent) (list_any (reaches_now delay tap now) recent)) none
+    ∙ widened-unless old p ((t.running || list_any (is_in_air_by 0 now tap) recent, Running) ∷ []) (
+    record {
+      params = plain;
+      now = now;
+      trace = recent;
+      taps = slice_set taps tap (record t { running = true; since = now; amid = list_any (reaches_now 0 tap now) recent; station = started t.station t.spec.master now; marks = [] });
+    }
+    ) reply
+
+pub start-whole : (w : World) (over tap : ℕ) (o : Option Tap) → w.params.ttd ≡ 0 → IsCut w.now over w.trace
+    → step_start w tap o ≡ widened (take over w.trace) w.params (step_start (record w { params = plain; trace = drop over w.trace }) tap o)
+start-whole w over tap o none (m, later, some, old, begun) =
+    ap (λ es. step_start (record w { trace = es }) tap o) (sym (take-append-drop over w.trace))
+    ∙ start-wide w.params (take over w.trace) (drop over w.trace) w.now m tap o w.taps none old later

@@ -1,0 +1,8 @@
+use Rattle.std.proofs.Common.{map}
+use Rattle.std.specs.Prelude.{take}
+use Rattle.pb_world.specs.Events.{event_of}
+use Rattle.pb_world.specs.Worlds.{RunsTo}
+use Rattle.pb_world.proofs.worlds.run.Given as goal
+
+abbrev pub invariant-loop-place : goal.invariant-loop-place
+invariant-loop-place l = RunsTo l.initial.world (take l.place (map event_of l.events)) l.world

@@ -1,0 +1,144 @@
+ghost use Rattle.std.specs.Prelude.{◌≡◌, None};
+ghost use Rattle.pb_world.specs.Events.{reply_of};
+
+use crate::clocks::{over_at, pass_recent};
+use crate::damaging::damage_recent;
+use crate::entries::{Entry, Hit};
+use crate::events::{Event, Reply};
+use crate::faults::WorldFault;
+use crate::moments::Moment;
+use crate::recents::recent;
+use crate::rings::Ring;
+use crate::starting::start;
+use crate::stations::Station;
+use crate::taps::Tap;
+use crate::turning::{Speaker, keep_turn, say, turn_at};
+use pb_tokenfsm::BusParams;
+use std::alloc::Global;
+
+/// Stations at the taps of one bus, its clock, and the trace of all that was sent.
+#[derive(Drop)]
+pub(crate) struct Bus {
+    pub(crate) params: BusParams,
+    pub(crate) ring: Ring,
+    pub(crate) now: Moment,
+    pub(crate) trace: Vec<Entry>,
+    /// How many entries had ended before all others began.
+    pub(crate) over: usize,
+    pub(crate) taps: Vec<Tap>,
+}
+
+impl Bus {
+    ghost use Rattle.std.specs.Prelude.{◌≡◌, Some, None, MatchOption, slice_get};
+    ghost use Rattle.pb_model.specs.Medium as model;
+    ghost use Rattle.pb_model.specs.World as events;
+    ghost use Rattle.pb_world.specs.Buses.{world_of, IsKept};
+    ghost use Rattle.pb_world.specs.Entries.{hit_of};
+    ghost use Rattle.pb_world.specs.Events.{event_of};
+    ghost use Rattle.pb_world.specs.Stations.{station_of};
+    ghost use Rattle.pb_world.specs.Worlds.{due_at, Follows};
+
+    /// What comes of an event.
+    pub(crate) fn apply(&mut self, alloc: Global, event: Event) -> Result<Reply, WorldFault>
+        requires { IsKept self.old }
+        ensures follows { Follows (world_of self.old) (event_of event) result (world_of self.new) }
+        ensures kept { IsKept self.new }
+    {
+        match event {
+            Event::Turn(tap) => self.turn(alloc, tap),
+            Event::Pass(bits) => self.pass(bits),
+            Event::Damage {
+                tap,
+                speaker,
+                place,
+            } => self.damage(speaker, Hit { tap, place }),
+            Event::Start(tap) => self.start(tap),
+        }
+    }
+
+    fn turn(&mut self, alloc: Global, tap: usize) -> Result<Reply, WorldFault>
+        requires { IsKept self.old }
+        ensures follows { Follows (world_of self.old) (events.Turn tap) result (world_of self.new) }
+        ensures kept { IsKept self.new }
+    {
+        let turn = turn_at(&self.taps, tap, &self.params, &self.ring, self.now)?;
+        let speaker = Speaker {
+            tap,
+            taps: self.taps.len(),
+            clock: self.now,
+        };
+        say(&mut self.trace, self.over, alloc, &turn.spoke, speaker)?;
+        keep_turn(&mut self.taps, tap, turn.after);
+        Ok(Reply {
+            now: self.now.get(),
+            spoke: turn.spoke,
+        })
+    }
+
+    fn pass(&mut self, bits: u64) -> Result<Reply, WorldFault>
+        requires { IsKept self.old }
+        ensures follows { Follows (world_of self.old) (events.Pass bits) result (world_of self.new) }
+        ensures kept { IsKept self.new }
+    {
+        self.now = pass_recent(&mut self.trace, self.over, &mut self.taps, self.now, bits)?;
+        self.over = over_at(&self.trace, self.over, self.now);
+        Ok(silence(self.now))
+    }
+
+    fn damage(&mut self, speaker: usize, hit: Hit) -> Result<Reply, WorldFault>
+        requires { IsKept self.old }
+        ensures follows { Follows (world_of self.old) (events.Damage hit.tap speaker hit.place) result (world_of self.new) }
+        ensures kept { IsKept self.new }
+    {
+        if hit.tap >= self.taps.len() || speaker >= self.taps.len() {
+            return Err(WorldFault::NoSuchTap);
+        }
+        damage_recent(&mut self.trace, self.over, speaker, self.now, hit)?;
+        Ok(silence(self.now))
+    }
+
+    fn start(&mut self, tap: usize) -> Result<Reply, WorldFault>
+        requires { IsKept self.old }
+        ensures follows { Follows (world_of self.old) (events.Start tap) result (world_of self.new) }
+        ensures kept { IsKept self.new }
+    {
+        start(
+            recent(&self.trace, self.over),
+            &mut self.taps,
+            tap,
+            self.now,
+        )?;
+        Ok(silence(self.now))
+    }
+
+    /// When the station at a tap has to take its turn.
+    pub(crate) fn due(&self, tap: usize) -> Option<u64>
+        ensures { result ≡ due_at (world_of self.entry.now) tap }
+    {
+        match self.taps.get(tap) {
+            Some(tap) if tap.running => tap.station.due(&self.params, tap.marks.marks()),
+            _ => None,
+        }
+    }
+
+    /// The station at a tap.
+    pub(crate) fn station(&self, tap: usize) -> Option<&Station>
+        ensures { MatchOption result (slice_get (world_of self.entry.now).taps tap ≡ None)
+            (λ s. (t : model.Tap) × (slice_get (world_of self.entry.now).taps tap ≡ Some t) × (t.station ≡ station_of self.entry.now.ring s.now)) }
+    {
+        match self.taps.get(tap) {
+            Some(tap) => Some(&tap.station),
+            None => None,
+        }
+    }
+}
+
+/// The reply to an event in which no station speaks.
+fn silence(now: Moment) -> Reply
+    ensures { reply_of result ≡ record { now = now; spoke = None } }
+{
+    Reply {
+        now: now.get(),
+        spoke: None,
+    }
+}

@@ -1,0 +1,44 @@
+ghost use Rattle.std.specs.Prelude.{◌≡◌};
+ghost use Rattle.pb_model.specs.Marks.{moment_of, seen_at};
+ghost use Rattle.pb_world.specs.MarkViews.{mark_of};
+
+use crate::moments::Moment;
+use arrayvec::ArrayVec;
+use pb_telegram::RxChar;
+
+/// What a station is told of the bus: activity of others begins or ends at a moment. The mark is
+/// delivered at the moment `seen`.
+#[derive(Debug, Drop)]
+pub(crate) enum Mark {
+    /// Activity has begun.
+    Begin {
+        at: Moment,
+        seen: Moment,
+    },
+    /// Activity has ended, and brought characters.
+    End {
+        at: Moment,
+        seen: Moment,
+        chars: ArrayVec<RxChar, 255>,
+    },
+}
+
+impl Mark {
+    /// The mark's own moment.
+    pub(crate) fn moment(&self) -> u64
+        ensures { result ≡ moment_of (mark_of self.now) }
+    {
+        match self {
+            Mark::Begin { at, .. } | Mark::End { at, .. } => at.get(),
+        }
+    }
+
+    /// When it was delivered.
+    pub(crate) fn seen(&self) -> u64
+        ensures { result ≡ seen_at (mark_of self.now) }
+    {
+        match self {
+            Mark::Begin { seen, .. } | Mark::End { seen, .. } => seen.get(),
+        }
+    }
+}

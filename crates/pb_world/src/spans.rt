@@ -1,0 +1,72 @@
+use std::marker::Model;
+
+/// A stretch of time, in bit times: `begin` is in it, `end` is not.
+#[derive(Clone, Copy, Debug)]
+pub(crate) struct Span {
+    begin: u64,
+    end: u64,
+}
+
+impl Model for Span {
+    ghost use Rattle.pb_model.specs.Bus as model;
+
+    ghost Value = { model.Span };
+
+    ghost view = { λ s. record { begin = s.begin; end = s.end } };
+
+    ghost invariant = { λ _. Unit {0} };
+
+    ghost inverse = { λ s. record { begin = s.begin; end = s.end } };
+}
+
+impl Span {
+    ghost use Rattle.std.specs.Prelude.{◌≡◌};
+    ghost use Rattle.pb_model.specs.Medium.{lasts_through, contains_moment, overlaps, part_after};
+
+    pub(crate) fn new(begin: u64, end: u64) -> Span
+        ensures { result ≡ record { begin = begin; end = end } }
+    {
+        Span { begin, end }
+    }
+
+    pub(crate) fn begin(self) -> u64
+        ensures { result ≡ self.begin }
+    {
+        self.begin
+    }
+
+    pub(crate) fn end(self) -> u64
+        ensures { result ≡ self.end }
+    {
+        self.end
+    }
+
+    /// Whether it has begun before the moment, and ends after it.
+    pub(crate) fn lasts_through(self, moment: u64) -> bool
+        ensures { result ≡ lasts_through moment self }
+    {
+        self.begin < moment && moment < self.end
+    }
+
+    pub(crate) fn contains(self, moment: u64) -> bool
+        ensures { result ≡ contains_moment moment self }
+    {
+        self.begin <= moment && moment < self.end
+    }
+
+    pub(crate) fn overlaps(self, other: Span) -> bool
+        ensures { result ≡ overlaps self other }
+    {
+        self.begin < other.end && other.begin < self.end
+    }
+
+    /// What of it lies after a moment.
+    pub(crate) fn part_after(self, moment: u64) -> Option<Span>
+        ensures { result ≡ part_after moment self }
+    {
+        if moment < self.end {
+            return Some(Span::new(self.begin.max(moment), self.end));
+        }
+        None
+    }
+}

@@ -1,0 +1,170 @@
+mod hearing;
+mod making;
+mod memory;
+mod passing;
+mod reading;
+mod refusals;
+mod running;
+
+use crate::{Entry, Event, Heard, Kind, Record, TapSpec, World, WorldFault};
+use arrayvec::ArrayVec;
+use pb_tokenfsm::{BusParams, ParamFault};
+use std::alloc::{AllocError, Global};
+use std::test::Fail;
+
+/// How many taps a bus may have.
+const TAPS: usize = 32;
+
+/// How many instants a play has at most.
+const INSTANTS: usize = 1000;
+
+/// A slot of 100, idle times 37 and 60, reply delay 11, no lag, rotation 10,000, GAP factor 10, highest
+/// address 5, one retry.
+fn usual() -> Result<BusParams, ParamFault> {
+    BusParams::new(100, 37, 60, 11, 0, 10_000, 10, 5, 1)
+}
+
+fn master(address: u8) -> TapSpec {
+    TapSpec {
+        address,
+        kind: Kind::Master,
+        reply: ArrayVec::new(),
+    }
+}
+
+fn passive(address: u8) -> TapSpec {
+    TapSpec {
+        address,
+        kind: Kind::Passive,
+        reply: ArrayVec::new(),
+    }
+}
+
+/// A new world with masters of some addresses.
+fn masters(alloc: Global, addresses: &[u8]) -> Result<World, Fail> {
+    let mut specs = Vec::new(alloc);
+    for address in addresses {
+        specs.push(master(*address))?;
+    }
+    Ok(World::new(alloc, usual()?, &specs)?)
+}
+
+/// Two masters with addresses 1 and 2 that start at 0.
+fn two_started(alloc: Global) -> Result<World, Fail> {
+    let mut world = masters(alloc, &[1, 2])?;
+    world.apply(alloc, Event::Start(0))?;
+    world.apply(alloc, Event::Start(1))?;
+    Ok(world)
+}
+
+/// An event, and the moment at which it happens.
+type Step = (u64, Event);
+
+/// Plays steps until a moment. Each station takes its turn when it is due.
+fn play(alloc: Global, world: &mut World, steps: &[Step], until: u64) -> Result<(), WorldFault> {
+    for _ in 0..INSTANTS {
+        take_steps(alloc, world, steps)?;
+        take_turns(alloc, world)?;
+        match next_instant(world, steps) {
+            Some(next) if next <= until => pass_to(alloc, world, next)?,
+            _ => return pass_to(alloc, world, until),
+        }
+    }
+    Ok(())
+}
+
+/// Takes the steps of this instant, in order.
+fn take_steps(alloc: Global, world: &mut World, steps: &[Step]) -> Result<(), WorldFault> {
+    for (at, event) in steps {
+        if *at == world.now() {
+            world.apply(alloc, *event)?;
+        }
+    }
+    Ok(())
+}
+
+/// Takes one turn of each station that is due, by tap.
+fn take_turns(alloc: Global, world: &mut World) -> Result<(), WorldFault> {
+    for tap in 0..TAPS {
+        let now = world.now();
+        if world.due(tap).is_some_and(|due| due <= now) {
+            world.apply(alloc, Event::Turn(tap))?;
+        }
+    }
+    Ok(())
+}
+
+fn pass_to(alloc: Global, world: &mut World, moment: u64) -> Result<(), WorldFault> {
+    let bits = moment.saturating_sub(world.now());
+    if bits > 0 {
+        world.apply(alloc, Event::Pass(bits))?;
+    }
+    Ok(())
+}
+
+/// The next moment at which something happens.
+fn next_instant(world: &World, steps: &[Step]) -> Option<u64> {
+    let now = world.now();
+    let mut next = has_news(world, steps).then_some(now.saturating_add(1));
+    for (at, _) in steps {
+        next = sooner(now, next, Some(*at));
+    }
+    for entry in world.trace() {
+        next = sooner(now, next, Some(entry.end()));
+    }
+    for tap in 0..TAPS {
+        next = sooner(now, next, world.due(tap));
+    }
+    next
+}
+
+/// The earlier of two moments, of which the second counts only where it lies after now.
+fn sooner(now: u64, next: Option<u64>, other: Option<u64>) -> Option<u64> {
+    match (next, other.filter(|other| now < *other)) {
+        (Some(a), Some(b)) => Some(a.min(b)),
+        (a, b) => a.or(b),
+    }
+}
+
+/// Whether a telegram has begun now, or a tap has started now while something was in the air.
+fn has_news(world: &World, steps: &[Step]) -> bool {
+    let now = world.now();
+    let started = steps.iter().any(|(at, event)| *at == now && matches!(event, Event::Start(_)));
+    world.trace().iter().any(|entry| begins_at(entry, now) || (started && now < entry.end()))
+}
+
+fn begins_at(entry: &Entry, moment: u64) -> bool {
+    matches!(entry, Entry::Sent(record) if record.begin == moment)
+}
+
+/// The trace, a line for each telegram: when it begins and ends, its tap, and its octets in hex.
+fn trace_text(alloc: Global, world: &World) -> Result<String, AllocError> {
+    let mut text = String::new(alloc);
+    for entry in world.trace() {
+        if let Entry::Sent(record) = entry {
+            write_line(&mut text, record)?;
+        }
+    }
+    Ok(text)
+}
+
+fn write_line(text: &mut String, record: &Record) -> Result<(), AllocError> {
+    let (begin, end, tap) = (record.begin, record.end, record.tap);
+    write!(text, "{begin} {end} tap {tap} ")?;
+    for octet in record.octets.iter() {
+        write!(text, "{octet:02x}")?;
+    }
+    writeln!(text)
+}
+
+/// How the telegram at a place of the trace reached the first two taps.
+fn heard(world: &World, place: usize) -> Option<[Heard; 2]> {
+    match world.trace().get(place)? {
+        Entry::Sent(record) => Some([*record.heard.get(0)?, *record.heard.get(1)?]),
+        Entry::Noise { .. } => None,
+    }
+}
+
+fn phase_name(world: &World, tap: usize) -> Option<&'static str> {
+    Some(world.station(tap)?.phase().name())
+}

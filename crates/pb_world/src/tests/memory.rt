@@ -1,0 +1,33 @@
+use super::{master, usual};
+use crate::{Event, NewFault, World, WorldFault};
+use std::test::Fail;
+
+/// Run with one allocation refused: a world is made and each event done, or the fault is `NoMemory`
+/// and nothing has changed.
+#[test]
+fn refused_memory_in_a_world(rt: HostRuntime) -> Result<(), Fail> {
+    let alloc = rt.alloc();
+    let mut world = match World::new(alloc, usual()?, &[master(1), master(2)]) {
+        Ok(world) => world,
+        Err(fault) => {
+            assert_eq!(rt; fault, NewFault::NoMemory);
+            let _ = println!(rt; "refused");
+            return Ok(());
+        }
+    };
+    let damage = Event::Damage {
+        tap: 1,
+        speaker: 0,
+        place: None,
+    };
+    for event in [Event::Start(0), Event::Pass(800), Event::Turn(0), damage] {
+        let before = (world.now(), world.trace().len(), world.due(0));
+        if let Err(fault) = world.apply(alloc, event) {
+            assert_eq!(rt; fault, WorldFault::NoMemory);
+            assert!(rt; (world.now(), world.trace().len(), world.due(0)) == before);
+            let _ = println!(rt; "refused");
+            return Ok(());
+        }
+    }
+    Ok(())
+}

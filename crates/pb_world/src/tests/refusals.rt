@@ -1,0 +1,188 @@
+use super::{masters, phase_name, trace_text, two_started};
+use crate::{Event, NewFault, World, WorldFault};
+use std::alloc::Global;
+use std::test::Fail;
+
+fn damage(tap: usize, speaker: usize, place: Option<u8>) -> Event {
+    Event::Damage {
+        tap,
+        speaker,
+        place,
+    }
+}
+
+#[test]
+fn events_are_refused_in_a_new_world(rt: HostRuntime) -> Result<(), Fail> {
+    let alloc = rt.alloc();
+    let mut world = masters(alloc, &[1, 2])?;
+    for (event, fault) in [
+        (Event::Turn(9), WorldFault::NoSuchTap),
+        (Event::Turn(2), WorldFault::NoSuchTap),
+        (Event::Start(2), WorldFault::NoSuchTap),
+        (Event::Turn(0), WorldFault::NotRunning),
+        (Event::Pass(0), WorldFault::ZeroTime),
+        (Event::Pass(1_000_000_000_001), WorldFault::ClockFull),
+        (damage(1, 0, None), WorldFault::NothingInAir),
+        (damage(2, 0, None), WorldFault::NoSuchTap),
+        (damage(1, 2, None), WorldFault::NoSuchTap),
+    ] {
+        assert_eq!(rt; world.apply(alloc, event).err(), Some(fault), "{fault}");
+        assert_eq!(rt; world.now(), 0, "{fault}");
+        assert_eq!(rt; phase_name(&world, 0), Some("Offline"), "{fault}");
+    }
+    world.apply(alloc, Event::Start(0))?;
+    let again = world.apply(alloc, Event::Start(0));
+    assert_eq!(rt; again.err(), Some(WorldFault::Running));
+    Ok(())
+}
+
+#[test]
+fn the_clock_ends_at_its_limit(rt: HostRuntime) -> Result<(), Fail> {
+    let alloc = rt.alloc();
+    let mut world = masters(alloc, &[1, 2])?;
+    let reply = world.apply(alloc, Event::Pass(1_000_000_000_000))?;
+    assert_eq!(rt; reply.now, 1_000_000_000_000);
+    let more = world.apply(alloc, Event::Pass(1));
+    assert_eq!(rt; more.err(), Some(WorldFault::ClockFull));
+    let all = world.apply(alloc, Event::Pass(u64::MAX));
+    assert_eq!(rt; all.err(), Some(WorldFault::ClockFull));
+    assert_eq!(rt; world.now(), 1_000_000_000_000);
+    Ok(())
+}
+
+#[test]
+fn time_passes_to_the_next_end_at_most(rt: HostRuntime) -> Result<(), Fail> {
+    let alloc = rt.alloc();
+    let mut world = two_started(alloc)?;
+    let reply = world.apply(alloc, Event::Pass(800))?;
+    assert_eq!(rt; reply.now, 800);
+    assert!(rt; reply.spoke.is_none());
+    let reply = world.apply(alloc, Event::Turn(0))?;
+    assert_eq!(rt; reply.now, 800);
+    let spoke = reply.spoke.ok_or("silent")?;
+    assert_eq!(rt; spoke.as_slice(), [0xdc, 1, 1].as_slice());
+    let far = world.apply(alloc, Event::Pass(34));
+    assert_eq!(rt; far.err(), Some(WorldFault::TooFar(833)));
+    let reply = world.apply(alloc, Event::Pass(33))?;
+    assert_eq!(rt; reply.now, 833);
+    assert!(rt; reply.spoke.is_none());
+    Ok(())
+}
+
+/// At 800 the first of two masters has begun its claim, and the second has not taken a turn.
+fn claiming(alloc: Global) -> Result<World, Fail> {
+    let mut world = two_started(alloc)?;
+    world.apply(alloc, Event::Pass(800))?;
+    world.apply(alloc, Event::Turn(0))?;
+    Ok(world)
+}
+
+#[test]
+fn a_refused_event_changes_nothing(rt: HostRuntime) -> Result<(), Fail> {
+    let alloc = rt.alloc();
+    let mut world = claiming(alloc)?;
+    for (event, fault) in [
+        (Event::Pass(0), WorldFault::ZeroTime),
+        (Event::Pass(34), WorldFault::TooFar(833)),
+        (Event::Pass(1_000_000_000_001), WorldFault::TooFar(833)),
+        (Event::Start(1), WorldFault::Running),
+        (Event::Turn(2), WorldFault::NoSuchTap),
+        (damage(2, 2, None), WorldFault::NoSuchTap),
+        (damage(0, 0, None), WorldFault::NothingInAir),
+        (damage(0, 1, None), WorldFault::NothingInAir),
+        (damage(1, 0, Some(3)), WorldFault::NothingInAir),
+    ] {
+        assert_eq!(rt; world.apply(alloc, event).err(), Some(fault), "{fault}");
+        assert_eq!(rt; world.now(), 800, "{fault}");
+        assert_eq!(rt; world.due(0), Some(870), "{fault}");
+        assert_eq!(rt; world.due(1), Some(1000), "{fault}");
+        assert_eq!(rt; phase_name(&world, 0), Some("Claim"), "{fault}");
+        assert_eq!(rt; phase_name(&world, 1), Some("Idle"), "{fault}");
+        let text = trace_text(alloc, &world)?;
+        assert_eq!(rt; text.as_str(), "800 833 tap 0 dc0101\n", "{fault}");
+    }
+    Ok(())
+}
+
+/// Some masters start, and the one at a tap alone takes turns, 32 times; nobody answers it, and it is
+/// about to be heard for the 33rd time.
+fn unheeded(alloc: Global, addresses: &[u8], speaker: usize) -> Result<World, Fail> {
+    let mut world = masters(alloc, addresses)?;
+    for tap in 0..addresses.len() {
+        world.apply(alloc, Event::Start(tap))?;
+    }
+    for _ in 0..32 {
+        speak(alloc, &mut world, speaker)?;
+        world.apply(alloc, Event::Pass(33))?;
+    }
+    speak(alloc, &mut world, speaker)?;
+    Ok(world)
+}
+
+/// Time passes until a tap is due, and it takes its turn.
+fn speak(alloc: Global, world: &mut World, tap: usize) -> Result<(), Fail> {
+    let due = world.due(tap).ok_or("never due")?;
+    world.apply(alloc, Event::Pass(due.saturating_sub(world.now())))?;
+    let reply = world.apply(alloc, Event::Turn(tap))?;
+    reply.spoke.ok_or("silent")?;
+    Ok(())
+}
+
+/// A tap that takes no turns has 64 unread marks after 32 telegrams. The claims begin at 800 and 870,
+/// the token at 940, and it is passed again each 133 bits later.
+#[test]
+fn a_full_tap_stops_the_clock(rt: HostRuntime) -> Result<(), Fail> {
+    let alloc = rt.alloc();
+    let mut world = unheeded(alloc, &[1, 2], 0)?;
+    for bits in [1, 33] {
+        let refused = world.apply(alloc, Event::Pass(bits));
+        assert_eq!(rt; refused.err(), Some(WorldFault::InboxFull(1)), "{bits}");
+        assert_eq!(rt; world.now(), 4930, "{bits}");
+    }
+    assert_eq!(rt; world.trace().len(), 33);
+    world.apply(alloc, Event::Turn(1))?;
+    assert_eq!(rt; world.apply(alloc, Event::Pass(33))?.now, 4963);
+    Ok(())
+}
+
+#[test]
+fn the_least_full_tap_is_named(rt: HostRuntime) -> Result<(), Fail> {
+    let alloc = rt.alloc();
+    let mut world = unheeded(alloc, &[2, 1, 3], 1)?;
+    let refused = world.apply(alloc, Event::Pass(33));
+    assert_eq!(rt; refused.err(), Some(WorldFault::InboxFull(0)));
+    world.apply(alloc, Event::Turn(0))?;
+    let refused = world.apply(alloc, Event::Pass(33));
+    assert_eq!(rt; refused.err(), Some(WorldFault::InboxFull(2)));
+    Ok(())
+}
+
+#[test]
+fn faults_have_numbers_and_texts(rt: HostRuntime) -> Result<(), Fail> {
+    for (fault, number, text) in [
+        (WorldFault::NoSuchTap, 1, "NoSuchTap"),
+        (WorldFault::Running, 2, "Running"),
+        (WorldFault::NotRunning, 3, "NotRunning"),
+        (WorldFault::NothingInAir, 4, "NothingInAir"),
+        (WorldFault::ZeroTime, 5, "ZeroTime"),
+        (WorldFault::TooFar(833), 6, "TooFar 833"),
+        (WorldFault::ClockFull, 7, "ClockFull"),
+        (WorldFault::QueueFull, 8, "QueueFull"),
+        (WorldFault::InboxFull(0), 9, "InboxFull 0"),
+        (WorldFault::TraceFull, 10, "TraceFull"),
+        (WorldFault::NoMemory, 11, "NoMemory"),
+    ] {
+        assert_eq!(rt; fault.number(), number, "{text}");
+        assert_eq!(rt; fault.to_string(rt.alloc())?.as_str(), text);
+    }
+    for (fault, number, text) in [
+        (NewFault::NoTaps, 1, "NoTaps"),
+        (NewFault::TooManyTaps, 2, "TooManyTaps"),
+        (NewFault::BadAddress(31), 3, "BadAddress 31"),
+        (NewFault::NoMemory, 4, "NoMemory"),
+    ] {
+        assert_eq!(rt; fault.number(), number, "{text}");
+        assert_eq!(rt; fault.to_string(rt.alloc())?.as_str(), text);
+    }
+    Ok(())
+}

@@ -1,0 +1,170 @@
+ghost use Rattle.std.specs.Prelude.{◌≡◌, ◌==◌, if◌then◌else◌, false, ◌≤◌, ◌<◌, ◌++◌, ℕ, Bool, true, List, [], Ok, Err, IfErr, OnOk, OnErr, MatchResult, Some, slice_get, slice_set, length, map, take, drop};
+ghost use Rattle.std.specs.List.{insert};
+ghost use Rattle.pb_model.specs.Medium as model;
+ghost use Rattle.pb_model.specs.Step as step;
+ghost use Rattle.pb_model.specs.Trace as trace;
+ghost use Rattle.pb_model.specs.Trace.{with_entry};
+ghost use Rattle.pb_world.specs.Entries.{entry_of, heard_of, record_of};
+ghost use Rattle.pb_world.specs.Stations.{station_of};
+ghost use Rattle.pb_world.specs.Taps.{tap_of};
+ghost use Rattle.pb_world.specs.Turning.{TurnsAt, RefusesTurn, RefusesEntry, RefusesSaid, octets_of, with_said, is_full};
+
+use crate::entries::{Entry, Heard, Record};
+use crate::faults::WorldFault;
+use crate::moments::Moment;
+use crate::recents::recent;
+use crate::rings::Ring;
+use crate::stations::{Station, Turn};
+use crate::taps::Tap;
+use arrayvec::ArrayVec;
+use pb_tokenfsm::BusParams;
+use std::alloc::Global;
+
+/// How many entries a trace may have.
+const TRACE_LIMIT: usize = 100_000;
+
+/// How long a character takes, in bit times.
+const CHARACTER_BITS: u64 = 11;
+
+/// The turn of the station at a tap.
+pub(crate) fn turn_at(
+    taps: &[Tap],
+    tap: usize,
+    params: &BusParams,
+    ring: &Ring,
+    now: Moment,
+) -> Result<Turn, WorldFault>
+    requires { now ≤ 1000000000000 }
+    ensures { MatchResult result (TurnsAt params.now ring.now taps.now tap now) (RefusesTurn ring.now taps.now tap) }
+{
+    let Some(tap) = taps.get(tap) else {
+        return Err(WorldFault::NoSuchTap);
+    };
+    if !tap.running {
+        return Err(WorldFault::NotRunning);
+    }
+    Ok(tap.station.turn(params, ring, tap.marks.marks(), now))
+}
+
+/// The tap's station after its turn, in which it has read all its marks.
+pub(crate) fn keep_turn(taps: &mut [Tap], tap: usize, after: Station)
+    requires { tap < length taps.old }
+    ensures length { length taps.new ≡ length taps.old }
+    ensures kept { (ring : List ℕ) (t : model.Tap) → slice_get (map (tap_of ring) taps.old) tap ≡ Some t
+        → map (tap_of ring) taps.new ≡ slice_set (map (tap_of ring) taps.old) tap (record t { station = station_of ring after; marks = [] }) }
+{
+    let kept = &mut taps[tap];
+    kept.station = after;
+    kept.marks.clear();
+}
+
+/// The new telegram of a tap.
+fn sending(
+    alloc: Global,
+    tap: usize,
+    octets: &ArrayVec<u8, 255>,
+    now: Moment,
+    taps: usize,
+) -> Record
+    requires { (now ≤ 1000000000000) × (taps ≤ 32) }
+    ensures { (ts : List model.Tap) → length ts ≡ taps → record_of result ≡ step.sending tap octets.now.items now ts }
+{
+    let begin = now.get();
+    Record {
+        tap,
+        octets: copied(octets),
+        begin,
+        end: begin + CHARACTER_BITS * octets.len() as u64,
+        heard: heard_at_first(tap, taps),
+        hits: Vec::new(alloc),
+    }
+}
+
+fn copied(octets: &ArrayVec<u8, 255>) -> ArrayVec<u8, 255>
+    ensures { result.items ≡ octets.now.items }
+{
+    let mut copy = ArrayVec::new();
+    copy.try_extend_from_slice(octets).unwrap();
+    copy
+}
+
+/// What a new telegram is to each tap.
+fn heard_at_first(speaker: usize, taps: usize) -> ArrayVec<Heard, 32>
+    requires { taps ≤ 32 }
+    ensures { (ts : List model.Tap) → length ts ≡ taps → map heard_of result.items ≡ trace.heard_at_first speaker 0 ts }
+{
+    let mut heard = ArrayVec::new();
+    for tap in 0..taps {
+        heard.push(first_heard(speaker, tap));
+    }
+    heard
+}
+
+fn first_heard(speaker: usize, tap: usize) -> Heard
+    ensures { heard_of result ≡ (if tap == speaker then trace.Own else trace.Pending) }
+{
+    if tap == speaker {
+        Heard::Own
+    } else {
+        Heard::Pending
+    }
+}
+
+/// Puts what a tap said at the clock, if anything, into the trace of a bus with so many taps.
+pub(crate) fn say(
+    trace: &mut Vec<Entry>,
+    over: usize,
+    alloc: Global,
+    said: &Option<ArrayVec<u8, 255>>,
+    speaker: Speaker,
+) -> Result<(), WorldFault>
+    requires { (over ≤ length trace.old.items) × (speaker.clock ≤ 1000000000000) × (speaker.taps ≤ 32) }
+    ensures ok { (ts : List model.Tap) → length ts ≡ speaker.taps → OnOk result (map entry_of trace.new.items
+        ≡ take over (map entry_of trace.old.items) ++ with_said speaker.tap (octets_of said.now) speaker.clock ts (drop over (map entry_of trace.old.items))) }
+    ensures room { OnOk result (is_full (octets_of said.now) (length trace.old.items) ≡ false) }
+    ensures err { OnErr result (trace.new.items ≡ trace.old.items) }
+    ensures fault { IfErr result (RefusesSaid (octets_of said.now) (length trace.old.items)) }
+{
+    let Some(octets) = said else {
+        return Ok(());
+    };
+    let telegram = sending(alloc, speaker.tap, octets, speaker.clock, speaker.taps);
+    put(trace, over, Entry::Sent(telegram))
+}
+
+/// A tap that speaks at the clock, on a bus with so many taps.
+#[derive(Clone, Copy, Debug)]
+pub(crate) struct Speaker {
+    pub(crate) tap: usize,
+    pub(crate) taps: usize,
+    pub(crate) clock: Moment,
+}
+
+/// Puts an entry into the trace, among those that are not over.
+fn put(trace: &mut Vec<Entry>, over: usize, entry: Entry) -> Result<(), WorldFault>
+    requires { over ≤ length trace.old.items }
+    ensures ok { OnOk result (map entry_of trace.new.items ≡ take over (map entry_of trace.old.items) ++ with_entry (entry_of entry) (drop over (map entry_of trace.old.items))) }
+    ensures room { OnOk result (length trace.old.items < 100000) }
+    ensures err { OnErr result (trace.new.items ≡ trace.old.items) }
+    ensures fault { IfErr result (RefusesEntry (length trace.old.items)) }
+{
+    if trace.len() >= TRACE_LIMIT {
+        return Err(WorldFault::TraceFull);
+    }
+    let place = over + place_among(recent(trace, over), &entry);
+    trace.insert(place, entry)?;
+    Ok(())
+}
+
+/// Before how many of some entries an entry does not go: it stands right behind them.
+fn place_among(others: &[Entry], entry: &Entry) -> usize
+    ensures bound { result ≤ length others.now }
+    ensures place { with_entry (entry_of entry.now) (map entry_of others.now) ≡ insert (map entry_of others.now) result (entry_of entry.now) }
+{
+    for (place, other) in others.iter().enumerate() {
+        if entry.goes_before(other) {
+            return place;
+        }
+    }
+    others.len()
+}

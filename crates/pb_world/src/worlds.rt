@@ -1,0 +1,135 @@
+ghost use Rattle.std.specs.Prelude.{◌≡◌, OnOk, IfErr, map};
+ghost use Rattle.pb_world.specs.Events.{event_of};
+ghost use Rattle.pb_world.specs.Worlds.{RunsTo, StopsAt};
+
+use crate::buses::Bus;
+use crate::entries::Entry;
+use crate::events::{Event, Reply};
+use crate::faults::{NewFault, WorldFault};
+use crate::making::{check_taps, new_taps, ring_of};
+use crate::moments::Moment;
+use crate::stations::Station;
+use crate::taps::TapSpec;
+use pb_tokenfsm::BusParams;
+use std::alloc::Global;
+use std::marker::Model;
+
+/// Stations at the taps of one bus, its clock, and the trace of all that was sent (EN 50170-2, medium
+/// access; the medium and its events are this profile's).
+///
+/// A tap is a position in the list of taps, counted from 0. All times are in bit times.
+#[derive(Drop)]
+pub struct World {
+    bus: Bus,
+}
+
+impl Model for World {
+    ghost use Rattle.pb_model.specs.World as model;
+    ghost use Rattle.pb_world.specs.Buses.{world_of, IsKept};
+
+    ghost Value = { model.World };
+
+    ghost view = { λ w. world_of w.bus };
+
+    ghost invariant = { λ w. IsKept w.bus };
+}
+
+impl World {
+    ghost use Rattle.std.specs.Prelude.{◌≡◌, List, ℕ, Ok, None, IfOk, IfErr, MatchOption, map, slice_get};
+    ghost use Rattle.pb_model.specs.World.{new_world};
+    ghost use Rattle.pb_world.specs.Entries.{entry_of};
+    ghost use Rattle.pb_world.specs.Events.{event_of};
+    ghost use Rattle.pb_world.specs.Faults.{RefusesNew};
+    ghost use Rattle.pb_world.specs.Stations.{station_of};
+    ghost use Rattle.pb_world.specs.Taps.{spec_of};
+    ghost use Rattle.pb_world.specs.Worlds.{due_at, Follows, IsStationAt};
+
+    /// A world whose taps don't run yet, at clock 0. The ring of each master is the set of the addresses
+    /// of all masters.
+    ///
+    /// Faults, the first that applies: `NoTaps` for an empty list; `TooManyTaps` over 32; `BadAddress` with
+    /// the least tap that is a master with an address over the highest station address, or a passive
+    /// station with one over 126; `NoMemory`. Equal addresses are taken.
+    pub fn new(alloc: Global, params: BusParams, specs: &[TapSpec]) -> Result<World, NewFault>
+        ensures ok { IfOk result (λ w. new_world params (map spec_of specs.now) ≡ Ok w) }
+        ensures fault { IfErr result (RefusesNew (new_world params (map spec_of specs.now))) }
+    {
+        check_taps(&params, specs)?;
+        let taps = new_taps(alloc, specs)?;
+        Ok(World {
+            bus: Bus {
+                params,
+                ring: ring_of(specs),
+                now: Moment::new(0),
+                trace: Vec::new(alloc),
+                over: 0,
+                taps,
+            },
+        })
+    }
+
+    /// Does an event, and answers the clock and the octets that a turn sent, if any. A refused event changes
+    /// nothing.
+    ///
+    /// - `Turn`: the station reads its unread marks and the timers between them in order of time, and then
+    ///   speaks, if it is due (EN 50170-2, token passing). Faults: `NoSuchTap`; `NotRunning`; `TraceFull`
+    ///   where it would speak and the trace has 100,000 entries; `NoMemory`.
+    /// - `Pass`: time passes, in bit times, to the next end in the air at most, and running taps are told
+    ///   what began and ended. Faults: `ZeroTime`; `TooFar` with that end; `ClockFull` past
+    ///   1,000,000,000,000; `InboxFull` with the least tap that would have more than 64 unread marks.
+    /// - `Damage`: what a tap hears of the speaker's telegram in the air is damaged, at a place or at every
+    ///   character. Faults: `NoSuchTap`; `NothingInAir` where the speaker sends nothing, is the tap itself,
+    ///   or the place isn't among the octets that were meant; `NoMemory`.
+    /// - `Start`: the station starts afresh: a master waits for the token. Faults: `NoSuchTap`; `Running`
+    ///   where it runs or a telegram of its own is in the air.
+    pub fn apply(&mut self, alloc: Global, event: Event) -> Result<Reply, WorldFault>
+        ensures { Follows self.old (event_of event) result self.new }
+    {
+        self.bus.apply(alloc, event)
+    }
+
+    /// The trace of the bus: telegrams and noise by begin; at one begin noise comes first, then telegrams by
+    /// tap.
+    pub fn trace(&self) -> &[Entry]
+        ensures { map entry_of result.now ≡ self.entry.now.trace }
+    {
+        &self.bus.trace
+    }
+
+    /// The clock, in bit times.
+    pub fn now(&self) -> u64
+        ensures { result ≡ self.entry.now.now }
+    {
+        self.bus.now.get()
+    }
+
+    /// When the station at a tap has to take its turn, in bit times: at the first unread mark, its timer or
+    /// its speaking moment, whichever is the earliest. None where there is no such tap, where it doesn't run,
+    /// and where nothing is to come.
+    pub fn due(&self, tap: usize) -> Option<u64>
+        ensures { result ≡ due_at self.entry.now tap }
+    {
+        self.bus.due(tap)
+    }
+
+    /// The station at a tap, if there is such a tap.
+    pub fn station(&self, tap: usize) -> Option<&Station>
+        ensures { MatchOption result (slice_get self.entry.now.taps tap ≡ None) (λ s. (ring : List ℕ) × IsStationAt self.entry.now tap (station_of ring s.now)) }
+    {
+        self.bus.station(tap)
+    }
+}
+
+/// Does events one after another. It stops at the first that is refused, and answers its place in the list,
+/// counted from 0, and its fault; the events before it stand.
+pub fn run(alloc: Global, world: &mut World, events: &[Event]) -> Result<(), (usize, WorldFault)>
+    ensures ok { OnOk result (RunsTo world.old (map event_of events.now) world.new) }
+    ensures err { IfErr result (λ e. StopsAt world.old (map event_of events.now) e.0 e.1 world.new) }
+{
+    for (place, event) in events.iter().enumerate() {
+        if let Err(fault) = world.apply(alloc, *event) {
+            return Err((place, fault));
+        }
+    }
+    Ok(())
+}
