@@ -46,9 +46,6 @@ nothing-left now (Sent r ∷ es) begun e =
     let own = neither (later_end now r.end) (later_end now (r.end + 0)) both.0 in
     (begun.1, ended now r.end own.0, nothing-left now es begun.2 both.1)
 
-pub cut-stays : (before now over : ℕ) (es : List Entry) → before ≤ now → IsCut before over es → IsCut now over es
-cut-stays before now over es le (m, at, some, old, recent) = (m, omega (arith, at, le), some, old, recent)
-
 pub cut-anew : (before now over : ℕ) (es : List Entry) → before ≤ now → IsCut before over es → AllBegun now es → next_end_of at_once now (drop over es) ≡ None
     → IsCut now (length es) es
 cut-anew before now over es le (m, at, some, old, recent) begun none =

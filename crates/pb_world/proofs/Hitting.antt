@@ -1,5 +1,5 @@
 -- The first entry that passes a test.
-use Rattle.std.proofs.Common.{◌≡◌, ◌∙◌, ap, sym, refl, ℕ, ◌+◌, ◌<◌, ◌++◌, List, [], ◌∷◌, length, Bool, true, false, if◌then◌else◌, cond, Some, append_assoc, subst, arith}
+use Rattle.std.proofs.Common.{◌≡◌, ◌∙◌, ap, sym, ℕ, ◌+◌, ◌<◌, ◌++◌, List, [], ◌∷◌, length, Bool, true, false, if◌then◌else◌, cond, Some, append_assoc, subst, arith}
 use Rattle.std.specs.Prelude.{find, take, drop, get_or, slice_index_or, slice_set, map}
 use Rattle.std.proofs.Math.ListN.{set}
 use Rattle.std.proofs.lemmas.List.{map-set, take_more_set, drop-set-lt, take-append-drop, length-map}
@@ -12,9 +12,6 @@ use Rattle.pb_world.specs.Damaging.{IsFirstPlace}
 pub record PassesNone (test : Entry → Bool) (xs : List Entry) (i : ℕ) : Type 0 where
   pub found : find test xs ≡ find test (drop i xs)
   pub changed : (change : Entry → Entry) → change_first test change xs ≡ take i xs ++ change_first test change (drop i xs)
-
-pub none-yet : (test : Entry → Bool) (xs : List Entry) → PassesNone test xs 0
-none-yet test xs = record { found = refl; changed = λ change. refl }
 
 pub none-more : (test : Entry → Bool) (e : Entry) (xs : List Entry) (i : ℕ) → PassesNone test xs i → drop i xs ≡ e ∷ drop (i + 1) xs
     → take (i + 1) xs ≡ take i xs ++ e ∷ [] → test e ≡ false → PassesNone test xs (i + 1)

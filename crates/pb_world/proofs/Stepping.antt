@@ -1,6 +1,6 @@
 -- What the recent entries and the taps tell of a step of the whole world.
-use Rattle.std.proofs.Common.{◌≡◌, ◌∙◌, ap, sym, subst, refl, arith, ℕ, ◌+◌, ◌<◌, ◌≤◌, ◌==◌, nat_le, ◌++◌, List, [], ◌∷◌, length, length-append, map, Bool, true, false, not, ◌&&◌, ◌||◌, Option, Some, None, Ok, Err, Result}
-use Rattle.std.specs.Prelude.{take, drop, find, is_some, is_none, slice_get, slice_set, IsErr, IsErrAnd, MatchResult}
+use Rattle.std.proofs.Common.{◌≡◌, ◌∙◌, ap, sym, subst, refl, arith, ℕ, ◌+◌, ◌<◌, ◌≤◌, ◌==◌, ◌++◌, List, [], ◌∷◌, length, length-append, map, Bool, true, false, not, ◌||◌, Option, Some, None, Ok, Err, Result}
+use Rattle.std.specs.Prelude.{take, drop, find, is_none, slice_get, slice_set, IsErr, IsErrAnd, MatchResult}
 use Rattle.std.proofs.lemmas.List.{take-append-drop, length-take-le}
 use Rattle.std.proofs.Math.Seq.{take-append_seam, drop-append_seam}
 use Rattle.std.proofs.lemmas.Option.{slice_get-get_or}
@@ -8,7 +8,7 @@ use Rattle.pb_model.specs.Station.{Station}
 use Rattle.pb_model.specs.Trace.{Hit, Entry, Sent, Noise, entry_begin, goes_before, with_entry}
 use Rattle.pb_model.specs.Medium.{Tap, entry_at, ends_between, reaches, heard_by}
 use Rattle.pb_model.specs.Turn.{turn_of}
-use Rattle.pb_model.specs.World.{World, Event, Turn, Reply, Fault, NoSuchTap, Running, NotRunning, NothingInAir, TraceFull, trace_limit, unless, is_in_air_by}
+use Rattle.pb_model.specs.World.{World, Event, Turn, Reply, Fault, NoSuchTap, Running, NotRunning, NothingInAir, TraceFull, unless, is_in_air_by}
 use Rattle.pb_model.specs.Step.{told, pass_faults, step_pass, with_hit, change_first, has_place, step_damage, started_tap, step_start, with_speech, after_turn, step_turn, sending, step, world_after}
 use Rattle.pb_model.specs.Laws.{AllBegun, AllOver, AllFrom, IsSound}
 use Rattle.pb_model.proofs.Cases.{by_test}
@@ -19,7 +19,7 @@ use Rattle.pb_world.specs.Damaging.{can_hit, RefusesHit}
 use Rattle.pb_world.specs.Faults.{Refuses}
 use Rattle.pb_world.specs.Senses.{at_once}
 use Rattle.pb_world.specs.Starting.{IsStarted, RefusesStart}
-use Rattle.pb_world.specs.Turning.{RefusesSaid, with_said, is_full}
+use Rattle.pb_world.specs.Turning.{with_said, is_full}
 use Rattle.pb_world.specs.declared.faults.WorldFault.{WorldFault}
 use Rattle.pb_world.specs.declared.faults.WorldFault.TheVariants as fault
 use Rattle.pb_world.proofs.Cutting.{begun-behind}
@@ -226,30 +226,6 @@ turn-done again w over tap t s said at runs turns cut room =
     turn-by again w tap t s said at runs turns
     ∙ ap (λ (b : Bool). unless ((b, TraceFull) ∷ []) (record w { trace = with_speech w tap said; taps = taps }, reply)) room
     ∙ ap (λ es. Ok (record w { trace = es; taps = taps }, reply)) (said-behind w over tap said cut)
-
-pub turn-refused : (again : Bool) (w : World) (tap : ℕ) (t : Tap) (s : Station) (said : Option (List ℕ)) (reason : WorldFault) → slice_get w.taps tap ≡ Some t → t.running ≡ true
-    → (s, said) ≡ turn_of w.params again t.station t.marks w.now → RefusesSaid said (length w.trace) reason → Refuses (step again w (Turn tap)) reason
-turn-refused again w tap t s said reason at runs turns refused = subst (λ r. Refuses r reason) (sym (turn-by again w tap t s said at runs turns)) (by reason refused)
-  where
-    next : World × Reply
-    next = (record w { trace = with_speech w tap said; taps = slice_set w.taps tap (record t { station = s; marks = [] }) }, record { now = w.now; spoke = said })
-
-    by : (f : WorldFault) → RefusesSaid said (length w.trace) f → Refuses (unless ((is_full said (length w.trace), TraceFull) ∷ []) next) f
-    by fault.TraceFull full = subst (λ (b : Bool). Refuses (unless ((b, TraceFull) ∷ []) next) fault.TraceFull) (sym full) refl
-    by fault.NoMemory room = subst (λ (b : Bool). Refuses (unless ((b, TraceFull) ∷ []) next) fault.NoMemory) (sym room) refl
-    by other refused = absurd refused
-
-pub turn-missing : (again : Bool) (w : World) (tap : ℕ) → slice_get w.taps tap ≡ None → step again w (Turn tap) ≡ Err NoSuchTap
-turn-missing again w tap at = ap (λ o. step_turn again w tap o) at
-
-pub turn-stopped : (again : Bool) (w : World) (tap : ℕ) (t : Tap) → slice_get w.taps tap ≡ Some t → t.running ≡ false → step again w (Turn tap) ≡ Err NotRunning
-turn-stopped again w tap t at stopped =
-    let turn = turn_of w.params again t.station t.marks w.now in
-    ap (λ o. step_turn again w tap o) at
-    ∙ ap (λ (b : Bool). unless ((not b, NotRunning) ∷ (is_some turn.1 && nat_le trace_limit (length w.trace), TraceFull) ∷ []) (
-      record w { trace = with_speech w tap turn.1; taps = slice_set w.taps tap (record t { station = turn.0; marks = [] }) },
-      record { now = w.now; spoke = turn.1 },
-    )) stopped
 
 -- what is said at the clock goes behind what is over
 pub from-said : (m tap now : ℕ) (said : Option (List ℕ)) (ts : List Tap) (es : List Entry) → m ≤ now → AllFrom m es → AllFrom m (with_said tap said now ts es)
