@@ -46,7 +46,7 @@ fn push_events(
 
 /// Appends the clock, and the octets of a turn that spoke.
 fn push_reply(text: &mut String, alloc: Global, reply: &Reply) -> Result<(), AllocError> {
-    write!(text, "now {}", reply.now)?;
+    write!(text, "now {}", reply.now.get())?;
     if let Some(octets) = &reply.spoke {
         write!(text, " spoke {}", hex::encode(alloc, octets.as_slice())?)?;
     }

@@ -2,7 +2,7 @@
 
 use arrayvec::ArrayVec;
 use hex::FromHexError;
-use pb_tokenfsm::{BusParams, ParamFault};
+use pb_timers::{BusParams, ParamFault};
 use pb_world::{Event, Kind, TapSpec};
 use serde::Deserialize;
 use serde_json::Error as JsonError;

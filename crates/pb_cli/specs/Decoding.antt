@@ -2,11 +2,11 @@
 use Rattle.std.specs.Prelude.{ℕ, Bool, true, false, if◌then◌else◌, List, ◌++◌, map, slice_index, codes, Option, Some, None, is_some}
 use Rattle.std.specs.List.{flat_map, list_any}
 use Rattle.bstr.specs.Text.{lines_of, without_terminator}
-use Rattle.pb_telegram.specs.Faults.{octets, is_short, is_token, fault_of}
+use Rattle.pb_telegram.specs.Faults.{octets, is_short, is_var, is_fixed, is_token, unit_of, fault_of}
 use Rattle.pb_telegram.specs.declared.chars.RxChar.{RxChar}
 use Rattle.pb_telegram.specs.declared.faults.TelegramFault.{TelegramFault}
 use Rattle.pb_cli.specs.Characters.{characters_of}
-use Rattle.pb_cli.specs.Texts.{short_text, token_text, fault_text}
+use Rattle.pb_cli.specs.Texts.{short_text, var_text, fixed_text, token_text, fault_text}
 use Rattle.pb_cli.specs.declared.faults.Status.{Status}
 use Rattle.pb_cli.specs.declared.faults.Status.TheVariants.{Done, Refused}
 
@@ -14,6 +14,8 @@ use Rattle.pb_cli.specs.declared.faults.Status.TheVariants.{Done, Refused}
 abbrev pub spelled_text : List ℕ → List ℕ
 spelled_text xs =
     if is_short xs then short_text (slice_index xs 1) (slice_index xs 2) (slice_index xs 3)
+    else if is_var xs then var_text (slice_index xs 4) (slice_index xs 5) (slice_index xs 6) (unit_of xs)
+    else if is_fixed xs then fixed_text (slice_index xs 1) (slice_index xs 2) (slice_index xs 3) (unit_of xs)
     else if is_token xs then token_text (slice_index xs 1) (slice_index xs 2)
     else codes "ack"
 

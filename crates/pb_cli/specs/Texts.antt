@@ -3,7 +3,7 @@ use Rattle.std.specs.Prelude.{ℕ, ◌%◌, nat_le, if◌then◌else◌, List, [
 use Rattle.hex.specs.Hex.{encode_lower}
 use Rattle.pb_telegram.specs.FaultWords.{number_of, name_of}
 use Rattle.pb_telegram.specs.declared.telegrams.Telegram.{Telegram}
-use Rattle.pb_telegram.specs.declared.telegrams.Telegram.TheVariants.{Short, Token, Ack}
+use Rattle.pb_telegram.specs.declared.telegrams.Telegram.TheVariants.{Short, Var, Fixed8, Token, Ack}
 use Rattle.pb_telegram.specs.declared.faults.TelegramFault.{TelegramFault}
 use Rattle.pb_telegram.specs.declared.faults.TelegramFault.TheVariants.{Faulty}
 
@@ -17,11 +17,25 @@ addresses_text da sa = codes " da=" ++ address_text da ++ codes " sa=" ++ addres
 abbrev pub token_text : ℕ → ℕ → List ℕ
 token_text da sa = codes "token" ++ addresses_text da sa
 
+abbrev pub head_text : ℕ → ℕ → ℕ → List ℕ
+head_text da sa fc = addresses_text da sa ++ codes " fc=" ++ encode_lower (fc ∷ [])
+
+abbrev pub data_text : ℕ → ℕ → ℕ → List ℕ → List ℕ
+data_text da sa fc unit = head_text da sa fc ++ codes " unit=" ++ encode_lower unit
+
 abbrev pub short_text : ℕ → ℕ → ℕ → List ℕ
-short_text da sa fc = codes "short" ++ addresses_text da sa ++ codes " fc=" ++ encode_lower (fc ∷ [])
+short_text da sa fc = codes "short" ++ head_text da sa fc
+
+abbrev pub var_text : ℕ → ℕ → ℕ → List ℕ → List ℕ
+var_text da sa fc unit = codes "var" ++ data_text da sa fc unit
+
+abbrev pub fixed_text : ℕ → ℕ → ℕ → List ℕ → List ℕ
+fixed_text da sa fc unit = codes "fixed" ++ data_text da sa fc unit
 
 abbrev pub telegram_text : Telegram → List ℕ
 telegram_text (Short t) = short_text t.da t.sa t.fc
+telegram_text (Var t) = var_text t.da t.sa t.fc t.unit.items
+telegram_text (Fixed8 t) = fixed_text t.da t.sa t.fc t.unit
 telegram_text (Token t) = token_text t.da t.sa
 telegram_text Ack = codes "ack"
 

@@ -40,10 +40,11 @@ fn is_blank(byte: u8) -> bool
 fn character(first: u8, second: u8) -> Option<RxChar>
     ensures { result ≡ character_of first second }
 {
-    if first == b'-' && second == b'-' {
-        return Some(RxChar::Bad);
+    match octet(first, second) {
+        Some(octet) => Some(RxChar::Good(octet)),
+        None if first == b'-' && second == b'-' => Some(RxChar::Bad),
+        None => None,
     }
-    octet(first, second).map(RxChar::Good)
 }
 
 /// The octet of two hex digits.

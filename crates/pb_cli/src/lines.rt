@@ -4,6 +4,7 @@ ghost use Rattle.pb_cli.specs.Characters.{characters_of};
 ghost use Rattle.pb_cli.specs.Decoding.{answer_text, hex_text, is_refused, line_text, output_of, refuses};
 
 use crate::characters::read_characters;
+use crate::laws::spelled_text_is_the_telegrams;
 use crate::texts::{push_fault, push_telegram};
 use bstr::ByteSlice;
 use pb_telegram::{RxChar, parse};
@@ -62,7 +63,8 @@ fn push_answer(text: &mut Vec<u8>, chars: &[RxChar]) -> Result<bool, AllocError>
 {
     match parse(chars) {
         Ok(telegram) => {
-            push_telegram(text, &telegram)?;
+            spelled_text_is_the_telegrams();
+            push_telegram(text, telegram)?;
             Ok(false)
         }
         Err(fault) => {

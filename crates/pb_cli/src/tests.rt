@@ -1,3 +1,4 @@
+mod changed_octets;
 mod decoding;
 mod memory;
 mod streams;

@@ -1,21 +1,30 @@
-ghost use Rattle.std.specs.Prelude.{◌≡◌, ◌++◌, ◌∷◌, [], OnOk, codes, decimal};
+ghost use Rattle.std.specs.Prelude.{◌≡◌, ◌≤◌, ◌++◌, ◌∷◌, [], OnOk, codes, decimal, length};
 ghost use Rattle.hex.specs.Hex.{encode_lower, encode_with};
-ghost use Rattle.pb_cli.specs.Texts.{address_text, addresses_text, telegram_text, place_text, fault_text};
+ghost use Rattle.pb_cli.specs.Texts.{address_text, addresses_text, head_text, data_text, telegram_text, place_text, fault_text};
 
 use itoa::{Buffer, Integer};
 use pb_telegram::{Telegram, TelegramFault};
 use std::alloc::AllocError;
 
+/// The most octets that a unit has.
+const LONGEST_UNIT: usize = 246;
+
 /// Appends the text of a telegram.
-pub fn push_telegram(text: &mut Vec<u8>, telegram: &Telegram) -> Result<(), AllocError>
-    ensures { OnOk result (text.new.items ≡ text.old.items ++ telegram_text telegram.now) }
+pub fn push_telegram(text: &mut Vec<u8>, telegram: Telegram) -> Result<(), AllocError>
+    ensures { OnOk result (text.new.items ≡ text.old.items ++ telegram_text telegram) }
 {
     match telegram {
         Telegram::Short(short) => {
             text.extend_from_slice(b"short")?;
-            push_addresses(text, short.da, short.sa)?;
-            text.extend_from_slice(b" fc=")?;
-            push_octet(text, short.fc)?;
+            push_head(text, short.da, short.sa, short.fc)?;
+        }
+        Telegram::Var(var) => {
+            text.extend_from_slice(b"var")?;
+            push_data(text, var.da, var.sa, var.fc, &var.unit)?;
+        }
+        Telegram::Fixed8(fixed) => {
+            text.extend_from_slice(b"fixed")?;
+            push_data(text, fixed.da, fixed.sa, fixed.fc, &fixed.unit)?;
         }
         Telegram::Token(token) => {
             text.extend_from_slice(b"token")?;
@@ -48,6 +57,36 @@ fn push_place(text: &mut Vec<u8>, fault: &TelegramFault) -> Result<(), AllocErro
         }
         _ => Ok(()),
     }
+}
+
+/// Appends the destination and the source address and the control octet.
+fn push_head(text: &mut Vec<u8>, da: u8, sa: u8, fc: u8) -> Result<(), AllocError>
+    ensures { OnOk result (text.new.items ≡ text.old.items ++ head_text da sa fc) }
+{
+    push_addresses(text, da, sa)?;
+    text.extend_from_slice(b" fc=")?;
+    push_octet(text, fc)
+}
+
+/// Appends the destination and the source address, the control octet and the unit.
+fn push_data(text: &mut Vec<u8>, da: u8, sa: u8, fc: u8, unit: &[u8]) -> Result<(), AllocError>
+    requires { length unit.now ≤ 246 }
+    ensures { OnOk result (text.new.items ≡ text.old.items ++ data_text da sa fc unit.now) }
+{
+    push_head(text, da, sa, fc)?;
+    text.extend_from_slice(b" unit=")?;
+    push_unit(text, unit)
+}
+
+/// Appends the octets of a unit, each as two hex digits in lower case.
+fn push_unit(text: &mut Vec<u8>, unit: &[u8]) -> Result<(), AllocError>
+    requires { length unit.now ≤ 246 }
+    ensures { OnOk result (text.new.items ≡ text.old.items ++ encode_lower unit.now) }
+{
+    let mut room = [0; 2 * LONGEST_UNIT];
+    let digits = &mut room[..2 * unit.len()];
+    hex::encode_to_slice(unit, digits).unwrap();
+    text.extend_from_slice(digits)
 }
 
 /// Appends the destination and the source address.

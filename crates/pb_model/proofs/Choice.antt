@@ -2,7 +2,7 @@
 use Rattle.std.proofs.Common.{◌≡◌, ℕ, ◌+◌, List, [], ◌∷◌, Bool, true, false, if◌then◌else◌, ◌==◌, ◌||◌, refl, ap, sym, ◌∙◌, Option, Some, None}
 use Rattle.std.specs.Prelude.{nat_lt, max}
 use Rattle.pb_telegram.specs.declared.chars.RxChar.{RxChar}
-use Rattle.pb_model.specs.Bus.{Params}
+use Rattle.pb_timers.specs.Timers.{Params}
 use Rattle.pb_model.specs.Ring.{previous_station}
 use Rattle.pb_model.specs.Marks.{Mark, Begin, End, moment_of, Arrival, Token, Other, NoTelegram, arrival_of}
 use Rattle.pb_model.specs.Station.{Phase, Offline, PassiveIdle, Idle, Claim, Use, Pass, Checking, Station, timer_of}

@@ -4,7 +4,7 @@ use Rattle.std.specs.Prelude.{nat_lt, max, min, slice_get}
 use Rattle.std.specs.List.{cons_option}
 use Rattle.std.specs.Option.{option_and_then}
 use Rattle.std.proofs.lemmas.Bool.{ltb-true, ltb-false, le-ltb, eq-eqb}
-use Rattle.pb_model.specs.Bus.{Span}
+use Rattle.pb_turn.specs.Spans.{Span}
 use Rattle.pb_model.specs.Station.{earlier}
 use Rattle.pb_model.specs.Trace.{Record, Entry, Sent, Noise, entry_begin, goes_before, with_entry}
 use Rattle.pb_model.specs.Medium.{lasts_through, part_after, reaches, is_unheard, at_tap, sensed}

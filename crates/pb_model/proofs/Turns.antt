@@ -3,7 +3,7 @@ use Rattle.std.proofs.Common.{◌≡◌, ℕ, ◌+◌, ◌<◌, ◌≤◌, List,
 use Rattle.std.specs.Prelude.{IfSome, nat_lt, nat_le, max}
 use Rattle.std.proofs.lemmas.Bool.{ltb-false, leb-false, le-ltb, lt-ltb, lt-leb, le-leb}
 use Rattle.std.proofs.lemmas.Option.{none-some, same_Some}
-use Rattle.pb_model.specs.Bus.{Params, bits}
+use Rattle.pb_timers.specs.Timers.{Params, bits}
 use Rattle.pb_model.specs.Ring.{next_station}
 use Rattle.pb_model.specs.Marks.{Mark, Begin, End, moment_of}
 use Rattle.pb_model.specs.Station.{Phase, Offline, PassiveIdle, Idle, Claim, Use, Pass, Checking, Station, phase_timer, timer_of, phase_speaks, speaks_at, earlier, due_of}

@@ -6,7 +6,7 @@ use Rattle.std.proofs.lemmas.Bool.{and_parts, or_parts, ne_eqb, eqb-true, eq-eqb
 use Rattle.std.proofs.lemmas.Bool.Decides.{nat_tests}
 use Rattle.pb_telegram.specs.declared.chars.RxChar.{RxChar}
 use Rattle.pb_telegram.specs.declared.chars.RxChar.TheVariants.{Bad}
-use Rattle.pb_model.specs.Bus.{Span}
+use Rattle.pb_turn.specs.Spans.{Span}
 use Rattle.pb_model.specs.Trace.{Record, Entry, Sent, Noise}
 use Rattle.pb_model.specs.Medium.{Tap, overlaps, reaches, is_unheard, sensed, hears_from, sends_during, fills_burst, fills_burst_to, entry_characters, burst_characters, burst_begins, burst_ends}
 use Rattle.pb_model.specs.Laws.{FillsBurst, FillsAlone}

@@ -6,7 +6,7 @@ use Rattle.std.proofs.lemmas.Bool.{eqb-false}
 use Rattle.std.proofs.lemmas.Option.{none-some, same_Some}
 use Rattle.pb_refusals.specs.FirstFault.{first_fault, NoneHolds}
 use Rattle.pb_refusals.proofs.FirstFaults.{none_holds}
-use Rattle.pb_model.specs.Bus.{Params}
+use Rattle.pb_timers.specs.Timers.{Params}
 use Rattle.pb_model.specs.Station.{Station, speaks_at}
 use Rattle.pb_model.specs.Turn.{turn_of, settled, speech, spoken, phase_says}
 use Rattle.pb_model.specs.Trace.{Hit, Entry, Sent, Noise, entry_begin, entry_end, goes_before, with_entry}

@@ -2,7 +2,8 @@
 use Rattle.std.specs.Prelude.{◌≡◌, ℕ, ◌<◌, ◌≤◌, Bool, true, false, List, [], ◌∷◌, ◌++◌, if◌then◌else◌, slice_get, count_by, Some, IfSome}
 use Rattle.std.specs.List.{list_any}
 use Rattle.pb_telegram.specs.declared.chars.RxChar.{RxChar}
-use Rattle.pb_model.specs.Bus.{Params, Span}
+use Rattle.pb_timers.specs.Timers.{Params}
+use Rattle.pb_turn.specs.Spans.{Span}
 use Rattle.pb_model.specs.Marks.{Mark, Begin, End, moment_of}
 use Rattle.pb_model.specs.Station.{Phase, Checking, Station, due_of}
 use Rattle.pb_model.specs.Trace.{Record, Entry, Sent, entry_begin, entry_end, characters_at}

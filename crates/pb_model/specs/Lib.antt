@@ -1,4 +1,3 @@
-pub mod Bus
 pub mod Laws
 pub mod Marks
 pub mod Medium

@@ -1,22 +1,9 @@
--- What a station is told of the bus.
+-- What characters bring to a station of the fixed ring.
 use Rattle.std.specs.Prelude.{ℕ, if◌then◌else◌, List, slice_index, Option, Some, None}
+pub use Rattle.pb_turn.specs.Marks.{Mark, Begin, End, moment_of, seen_at}
 use Rattle.pb_telegram.specs.Faults.{octets, is_token, fault_of}
 use Rattle.pb_telegram.specs.declared.chars.RxChar.{RxChar}
 use Rattle.pb_telegram.specs.declared.faults.TelegramFault.{TelegramFault}
-
--- activity of others begins or ends at a moment; the mark is delivered at the moment `seen`. An end brings the characters.
-pub data Mark : Type 0 where
-  Begin : (at seen : ℕ) → Mark
-  End : (at seen : ℕ) (chars : List RxChar) → Mark
-
--- the mark's own moment
-abbrev pub moment_of : Mark → ℕ
-moment_of (Begin at seen) = at
-moment_of (End at seen chars) = at
-
-abbrev pub seen_at : Mark → ℕ
-seen_at (Begin at seen) = seen
-seen_at (End at seen chars) = seen
 
 -- what characters bring: a token telegram, another telegram, or none that is whole
 pub data Arrival : Type 0 where

@@ -5,7 +5,7 @@ use Rattle.std.specs.Option.{option_and_then}
 use Rattle.pb_telegram.specs.Faults.{is_bad}
 use Rattle.pb_telegram.specs.declared.chars.RxChar.{RxChar}
 use Rattle.pb_telegram.specs.declared.chars.RxChar.TheVariants.{Bad}
-use Rattle.pb_model.specs.Bus.{Span}
+use Rattle.pb_turn.specs.Spans.{Span}
 use Rattle.pb_model.specs.Marks.{Mark, Begin, End}
 use Rattle.pb_model.specs.Station.{Station}
 use Rattle.pb_model.specs.Trace.{Heard, Whole, Damaged, Unheard, Pending, Record, Entry, Sent, Noise, characters_at}

@@ -1,6 +1,6 @@
 -- Worked scenarios: events, and what they lead to.
 use Rattle.std.specs.Prelude.{ℕ, Bool, true, List, [], ◌∷◌, map, Option, Some, None, Result, Ok, Err}
-use Rattle.pb_model.specs.Bus.{Params}
+use Rattle.pb_timers.specs.Timers.{Params}
 use Rattle.pb_model.specs.Station.{Phase, Pass as Passing, Checking, Use}
 use Rattle.pb_model.specs.Trace.{Entry, Sent, Own, Whole, Damaged}
 use Rattle.pb_model.specs.Medium.{TapSpec}

@@ -1,6 +1,7 @@
 -- The state of a station, and the moments at which it acts.
 use Rattle.std.specs.Prelude.{ℕ, ◌+◌, Bool, true, false, if◌then◌else◌, List, [], ◌∷◌, Option, Some, None, min}
-use Rattle.pb_model.specs.Bus.{Params, Span, tto}
+use Rattle.pb_timers.specs.Timers.{Params, tto}
+use Rattle.pb_turn.specs.Spans.{Span}
 use Rattle.pb_model.specs.Marks.{Mark, seen_at}
 
 -- The phases. A holder's `ready` is the earliest moment at which it speaks.

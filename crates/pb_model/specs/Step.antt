@@ -1,7 +1,8 @@
 -- The step of the world: an event gives the next world and a reply, or it is refused.
 use Rattle.std.specs.Prelude.{ℕ, ◌+◌, Bool, true, false, if◌then◌else◌, ◌==◌, nat_lt, nat_le, not, ◌&&◌, ◌||◌, List, [], ◌∷◌, ◌++◌, length, map, slice_get, slice_set, find, Option, Some, None, Result, Ok, Err, is_some, is_none, unwrap_or}
 use Rattle.std.specs.List.{list_any}
-use Rattle.pb_model.specs.Bus.{Span, bits}
+use Rattle.pb_timers.specs.Timers.{bits}
+use Rattle.pb_turn.specs.Spans.{Span}
 use Rattle.pb_model.specs.Station.{Station}
 use Rattle.pb_model.specs.Turn.{turn_of, started}
 use Rattle.pb_model.specs.Trace.{Record, Hit, Entry, Sent, Noise, with_entry, heard_at_first}

@@ -3,7 +3,7 @@ use Rattle.std.specs.Prelude.{ℕ, ◌+◌, ◌-◌, ◌/◌, Bool, true, if◌t
 use Rattle.std.specs.List.{list_any}
 use Rattle.pb_telegram.specs.declared.chars.RxChar.{RxChar}
 use Rattle.pb_telegram.specs.declared.chars.RxChar.TheVariants.{Good, Bad}
-use Rattle.pb_model.specs.Bus.{Span}
+use Rattle.pb_turn.specs.Spans.{Span}
 
 -- how a telegram reached a tap
 pub data Heard : Type 0 where

@@ -1,7 +1,7 @@
 -- The turn of a station: it reads its unread marks and the timers between them in order of time, and then speaks if it is due.
 use Rattle.std.specs.Prelude.{ℕ, ◌+◌, Bool, true, false, if◌then◌else◌, ◌==◌, nat_lt, nat_le, ◌||◌, List, [], ◌∷◌, length, max, Option, Some, None}
 use Rattle.pb_telegram.specs.Grammar.{sd4}
-use Rattle.pb_model.specs.Bus.{Params, bits}
+use Rattle.pb_timers.specs.Timers.{Params, bits}
 use Rattle.pb_model.specs.Ring.{next_station, previous_station}
 use Rattle.pb_model.specs.Marks.{Mark, Begin, End, moment_of, Arrival, Token, Other, NoTelegram, arrival_of}
 use Rattle.pb_model.specs.Station.{Phase, Offline, PassiveIdle, Idle, Claim, Use, Pass, Checking, Station, timer_of, speaks_at}

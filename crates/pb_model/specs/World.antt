@@ -1,7 +1,7 @@
 -- The world: taps on one medium, the clock and the trace; its events and their refusals.
 use Rattle.std.specs.Prelude.{ℕ, ◌+◌, Bool, false, if◌then◌else◌, ◌==◌, nat_lt, ◌&&◌, List, [], ◌∷◌, length, map, filter, Option, Some, None, Result, Ok, Err, is_some, unwrap_or}
 use Rattle.pb_refusals.specs.FirstFault.{first_fault}
-use Rattle.pb_model.specs.Bus.{Params}
+use Rattle.pb_timers.specs.Timers.{Params}
 use Rattle.pb_model.specs.Station.{Offline, earlier}
 use Rattle.pb_model.specs.Trace.{Entry, Sent, Noise}
 use Rattle.pb_model.specs.Medium.{TapSpec, Tap, reaches}

@@ -1,7 +1,7 @@
 ghost use Rattle.std.specs.Prelude.{◌≡◌, ◌≢◌, ◌≤◌, ◌<◌, ℕ, true, false, List, [], ◌∷◌, ◌++◌, map};
 ghost use Rattle.pb_telegram.specs.declared.chars.RxChar.{RxChar};
 ghost use Rattle.pb_telegram.specs.declared.chars.RxChar.TheVariants.{Bad};
-ghost use Rattle.pb_model.specs.Bus.{Span};
+ghost use Rattle.pb_turn.specs.Spans.{Span};
 ghost use Rattle.pb_model.specs.Trace.{Record, Entry, Sent, entry_begin, with_entry};
 ghost use Rattle.pb_model.specs.Medium.{Tap, sensed, burst_begins, burst_ends, fills_burst, burst_characters, is_whole_at, marks_between, entry_at};
 ghost use Rattle.pb_model.specs.World.{next_end_of};

@@ -1,6 +1,6 @@
 ghost use Rattle.std.specs.Prelude.{◌≡◌, ◌+◌, ◌<◌, ◌≤◌, ℕ, Bool, true, false, List, [], ◌∷◌, length, Some, None, IfSome};
 ghost use Rattle.pb_telegram.specs.declared.chars.RxChar.{RxChar};
-ghost use Rattle.pb_model.specs.Bus.{Params, bits};
+ghost use Rattle.pb_timers.specs.Timers.{Params, bits};
 ghost use Rattle.pb_model.specs.Marks.{Mark, End, moment_of};
 ghost use Rattle.pb_model.specs.Station.{Station, Offline, PassiveIdle, Checking, timer_of, speaks_at, due_of};
 ghost use Rattle.pb_model.specs.Turn.{phase_timed_out, after_mark, after_marks, settled, phase_says, turn_of};

@@ -1,5 +1,5 @@
 ghost use Rattle.std.specs.Prelude.{◌≡◌, ◌≤◌, ℕ, Bool, true, List, [], ◌∷◌, Ok, Err, Some, slice_get};
-ghost use Rattle.pb_model.specs.Bus.{Params};
+ghost use Rattle.pb_timers.specs.Timers.{Params};
 ghost use Rattle.pb_model.specs.Medium.{TapSpec, Tap};
 ghost use Rattle.pb_model.specs.World.{World, Event, Pass, Reply, Fault, new_world};
 ghost use Rattle.pb_model.specs.Step.{step, replay};

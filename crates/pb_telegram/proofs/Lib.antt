@@ -1,2 +1,4 @@
+pub mod Frames
 pub mod Spelled
 pub mod OneTelegram
+pub mod Beginnings

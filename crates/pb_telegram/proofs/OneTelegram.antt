@@ -1,19 +1,23 @@
 -- Octets spell at most one telegram, and what spells a telegram has no fault.
-use Rattle.std.proofs.Common.{◌≡◌, ℕ, ◌%◌, ◌<◌, ◌≤◌, List, [], ◌∷◌, map, refl, ap, sym, ◌∙◌, arith, Some, None, Result, Ok, Err}
+use Rattle.std.proofs.Common.{◌≡◌, ℕ, ◌%◌, ◌<◌, ◌≤◌, List, length, drop, refl, ap, sym, ◌∙◌, arith, Some, None, Result, Ok, Err}
 use Rattle.std.specs.Prelude.{IfOk, IfErr, slice_index}
+use Rattle.std.specs.List.{All}
 use Rattle.std.proofs.Math.Bridge.{le_prop}
+use Rattle.std.proofs.Math.Nat.{ℕ_set}
 use Rattle.std.proofs.lemmas.Option.{none-some}
 use mathlib.Core.HLevel.{is_prop→PathP}
 use Rattle.pb_telegram.specs.Grammar.{spelling, Spells}
 use Rattle.pb_telegram.specs.Faults.{octets, fault_of}
 use Rattle.pb_telegram.specs.declared.chars.RxChar.{RxChar}
-use Rattle.pb_telegram.specs.declared.chars.RxChar.TheVariants.{Good}
 use Rattle.pb_telegram.specs.declared.telegrams.Telegram.{Telegram}
-use Rattle.pb_telegram.specs.declared.telegrams.Telegram.TheVariants.{Short, Token, Ack}
+use Rattle.pb_telegram.specs.declared.telegrams.Telegram.TheVariants.{Short, Var, Fixed8, Token, Ack}
 use Rattle.pb_telegram.specs.declared.telegrams.ShortTelegram.{ShortTelegram}
+use Rattle.pb_telegram.specs.declared.telegrams.VarTelegram.{VarTelegram}
+use Rattle.pb_telegram.specs.declared.telegrams.Fixed8Telegram.{Fixed8Telegram}
 use Rattle.pb_telegram.specs.declared.telegrams.TokenTelegram.{TokenTelegram}
 use Rattle.pb_telegram.specs.declared.faults.TelegramFault.{TelegramFault}
-use Rattle.pb_telegram.proofs.Spelled.{one_fault_free}
+use Rattle.pb_telegram.proofs.Frames.{same_front}
+use Rattle.pb_telegram.proofs.Spelled.{octets-map, one_fault_free}
 
 -- telegrams with equal octets are equal: the rules that their types keep add nothing
 same_short : (t u : ShortTelegram) → t.da ≡ u.da → t.sa ≡ u.sa → t.fc ≡ u.fc → t ≡ u
@@ -25,6 +29,39 @@ same_short t u da sa fc = λ i. record {
   sa_octet = is_prop→PathP (λ j. sa j < 256) (λ j. le_prop) t.sa_octet u.sa_octet i;
   sa_station = is_prop→PathP (λ j. sa j % 128 < 127) (λ j. le_prop) t.sa_station u.sa_station i;
   fc_bit_7_clear = is_prop→PathP (λ j. fc j < 128) (λ j. le_prop) t.fc_bit_7_clear u.fc_bit_7_clear i;
+}
+
+-- a rule about each octet of a list adds nothing either
+same_octets : (xs : List ℕ) (f g : All (λ octet. octet < 256) xs) → f ≡ g
+same_octets xs f g = λ i k d within. le_prop (f k d within) (g k d within) i
+
+same_var : (t u : VarTelegram) → t.da ≡ u.da → t.sa ≡ u.sa → t.fc ≡ u.fc → t.unit.items ≡ u.unit.items → t ≡ u
+same_var t u da sa fc unit = λ i. record {
+  da = da i;
+  sa = sa i;
+  fc = fc i;
+  unit = record { items = unit i };
+  da_octet = is_prop→PathP (λ j. da j < 256) (λ j. le_prop) t.da_octet u.da_octet i;
+  sa_octet = is_prop→PathP (λ j. sa j < 256) (λ j. le_prop) t.sa_octet u.sa_octet i;
+  sa_station = is_prop→PathP (λ j. sa j % 128 < 127) (λ j. le_prop) t.sa_station u.sa_station i;
+  fc_bit_7_clear = is_prop→PathP (λ j. fc j < 128) (λ j. le_prop) t.fc_bit_7_clear u.fc_bit_7_clear i;
+  some_unit = is_prop→PathP (λ j. 0 < length (unit j)) (λ j. le_prop) t.some_unit u.some_unit i;
+  unit_fits = is_prop→PathP (λ j. length (unit j) ≤ 246) (λ j. le_prop) t.unit_fits u.unit_fits i;
+  unit_octets = is_prop→PathP (λ j. All (λ octet. octet < 256) (unit j)) (λ j. same_octets (unit j)) t.unit_octets u.unit_octets i;
+}
+
+same_fixed : (t u : Fixed8Telegram) → t.da ≡ u.da → t.sa ≡ u.sa → t.fc ≡ u.fc → t.unit ≡ u.unit → t ≡ u
+same_fixed t u da sa fc unit = λ i. record {
+  da = da i;
+  sa = sa i;
+  fc = fc i;
+  unit = unit i;
+  da_octet = is_prop→PathP (λ j. da j < 256) (λ j. le_prop) t.da_octet u.da_octet i;
+  sa_octet = is_prop→PathP (λ j. sa j < 256) (λ j. le_prop) t.sa_octet u.sa_octet i;
+  sa_station = is_prop→PathP (λ j. sa j % 128 < 127) (λ j. le_prop) t.sa_station u.sa_station i;
+  fc_bit_7_clear = is_prop→PathP (λ j. fc j < 128) (λ j. le_prop) t.fc_bit_7_clear u.fc_bit_7_clear i;
+  eight_octets = is_prop→PathP (λ j. length (unit j) ≡ 8) (λ j. ℕ_set (length (unit j)) 8) t.eight_octets u.eight_octets i;
+  unit_octets = is_prop→PathP (λ j. All (λ octet. octet < 256) (unit j)) (λ j. same_octets (unit j)) t.unit_octets u.unit_octets i;
 }
 
 same_token : (t u : TokenTelegram) → t.da ≡ u.da → t.sa ≡ u.sa → t ≡ u
@@ -41,13 +78,14 @@ at i e = ap (λ (xs : List ℕ). slice_index xs i) e
 
 same_telegram : (t u : Telegram) → spelling t ≡ spelling u → t ≡ u
 same_telegram (Short t) (Short u) e = ap Short (same_short t u (at 1 e) (at 2 e) (at 3 e))
+same_telegram (Var t) (Var u) e =
+    ap Var (same_var t u (at 4 e) (at 5 e) (at 6 e)
+    (same_front t.unit.items u.unit.items _ _ (omega (arith, at 1 e)) (ap (drop 7) e)))
+same_telegram (Fixed8 t) (Fixed8 u) e =
+    ap Fixed8 (same_fixed t u (at 1 e) (at 2 e) (at 3 e) (same_front t.unit u.unit _ _ (t.eight_octets ∙ sym u.eight_octets) (ap (drop 4) e)))
 same_telegram (Token t) (Token u) e = ap Token (same_token t u (at 1 e) (at 2 e))
 same_telegram Ack Ack e = refl
 same_telegram t u e = absurd (omega (arith, at 0 e))
-
-octets-map : (xs : List ℕ) → octets (map Good xs) ≡ xs
-octets-map [] = refl
-octets-map (x ∷ xs) = ap (λ (rest : List ℕ). x ∷ rest) (octets-map xs)
 
 pub one_telegram : (chars : List RxChar) (t u : Telegram) → Spells chars t → Spells chars u → t ≡ u
 one_telegram chars t u s r =

@@ -1,9 +1,12 @@
 ghost use Rattle.std.specs.Prelude.{◌≡◌, ℕ, List, [], ◌++◌, Some, None};
 ghost use Rattle.pb_refusals.specs.FirstFault.{IsFirst};
 ghost use Rattle.pb_telegram.specs.Grammar.{spelling, Spells};
-ghost use Rattle.pb_telegram.specs.Faults.{octets, faults, fault_of};
+ghost use Rattle.pb_telegram.specs.Faults.{octets, unit_of, faults, fault_of};
 ghost use Rattle.pb_telegram.specs.declared.chars.RxChar.{RxChar};
 ghost use Rattle.pb_telegram.specs.declared.telegrams.Telegram.{Telegram};
+ghost use Rattle.pb_telegram.specs.declared.telegrams.Telegram.TheVariants.{Var, Fixed8};
+ghost use Rattle.pb_telegram.specs.declared.telegrams.VarTelegram.{VarTelegram};
+ghost use Rattle.pb_telegram.specs.declared.telegrams.Fixed8Telegram.{Fixed8Telegram};
 ghost use Rattle.pb_telegram.specs.declared.faults.TelegramFault.{TelegramFault};
 
 use crate::faults::TelegramFault;
@@ -31,4 +34,10 @@ pub fn first_fault_comes_first()
 pub fn what_is_spelled_has_no_fault()
     ensures no_fault { (chars : List RxChar) (t : Telegram) → Spells chars t → fault_of chars ≡ None }
     ensures octets { (chars : List RxChar) (t : Telegram) → Spells chars t → octets chars ≡ spelling t }
+{}
+
+/// The unit of octets that spell a telegram with data is the telegram's.
+pub fn spelled_unit_is_the_telegrams()
+    ensures var { (t : VarTelegram) → unit_of (spelling (Var t)) ≡ t.unit.items }
+    ensures fixed { (t : Fixed8Telegram) → unit_of (spelling (Fixed8 t)) ≡ t.unit }
 {}

@@ -19,10 +19,10 @@ pub use control::{Fc, fcs};
 pub use faults::TelegramFault;
 pub use laws::{
     first_fault_comes_first, no_spelling_begins_another, one_telegram_for_octets,
-    what_is_spelled_has_no_fault,
+    spelled_unit_is_the_telegrams, what_is_spelled_has_no_fault,
 };
 pub use parsing::parse;
-pub use telegrams::{ShortTelegram, Telegram, TokenTelegram};
+pub use telegrams::{Fixed8Telegram, ShortTelegram, Telegram, TokenTelegram, VarTelegram};
 pub use writing::write;
 
 #[cfg(test)]

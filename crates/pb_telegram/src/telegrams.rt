@@ -1,7 +1,16 @@
-ghost use Rattle.std.specs.Prelude.{◌≡◌, ◌≤◌, ◌<◌, ◌%◌};
+ghost use Rattle.std.specs.Prelude.{◌≡◌, ◌≤◌, ◌<◌, ◌%◌, length};
+ghost use Rattle.std.specs.List.{All};
+
+use arrayvec::ArrayVec;
 
 /// The start delimiter SD1 of a telegram without data.
 pub const SHORT_START: u8 = 0x10;
+
+/// The start delimiter SD2 of a telegram with data of variable length.
+pub const VAR_START: u8 = 0x68;
+
+/// The start delimiter SD3 of a telegram with eight octets of data.
+pub const FIXED_START: u8 = 0xa2;
 
 /// The start delimiter SD4 of a token telegram.
 pub const TOKEN_START: u8 = 0xdc;
@@ -17,6 +26,10 @@ pub const END: u8 = 0x16;
 pub enum Telegram {
     /// A telegram of fixed length without data.
     Short(ShortTelegram),
+    /// A telegram with data of variable length.
+    Var(VarTelegram),
+    /// A telegram of fixed length with eight octets of data.
+    Fixed8(Fixed8Telegram),
     /// A token telegram: `sa` passes the token to `da`.
     Token(TokenTelegram),
     /// The short acknowledgement.
@@ -40,6 +53,50 @@ pub struct ShortTelegram {
     ghost sa_octet: { sa < 256 },
     ghost sa_station: { sa % 128 < 127 },
     ghost fc_bit_7_clear: { fc < 128 },
+}
+
+/// A telegram with data of variable length.
+///
+/// The octets of the head are as in a [`ShortTelegram`]; bit 7 of an address says that an address
+/// extension stands at the front of the unit, where it stays.
+#[derive(Debug, PartialEq, Eq, Drop)]
+pub struct VarTelegram {
+    /// The destination address octet, as sent.
+    pub da: u8,
+    /// The source address octet, as sent: a station's.
+    pub sa: u8,
+    /// The frame control octet, whose bit 7 is clear.
+    pub fc: u8,
+    /// The data, 1 to 246 octets.
+    pub unit: ArrayVec<u8, 246>,
+    ghost da_octet: { da < 256 },
+    ghost sa_octet: { sa < 256 },
+    ghost sa_station: { sa % 128 < 127 },
+    ghost fc_bit_7_clear: { fc < 128 },
+    ghost some_unit: { 0 < length unit.items },
+    ghost unit_fits: { length unit.items ≤ 246 },
+    ghost unit_octets: { All (λ octet. octet < 256) unit.items },
+}
+
+/// A telegram of fixed length with eight octets of data.
+///
+/// The octets of the head are as in a [`VarTelegram`].
+#[derive(Clone, Copy, Debug, PartialEq, Eq)]
+pub struct Fixed8Telegram {
+    /// The destination address octet, as sent.
+    pub da: u8,
+    /// The source address octet, as sent: a station's.
+    pub sa: u8,
+    /// The frame control octet, whose bit 7 is clear.
+    pub fc: u8,
+    /// The data.
+    pub unit: [u8; 8],
+    ghost da_octet: { da < 256 },
+    ghost sa_octet: { sa < 256 },
+    ghost sa_station: { sa % 128 < 127 },
+    ghost fc_bit_7_clear: { fc < 128 },
+    ghost eight_octets: { length unit ≡ 8 },
+    ghost unit_octets: { All (λ octet. octet < 256) unit },
 }
 
 /// A token telegram.

@@ -1,4 +1,5 @@
 use super::*;
+use arrayvec::ArrayVec;
 use std::alloc::{AllocError, Global};
 use std::test::Fail;
 
@@ -23,10 +24,53 @@ fn telegrams_are_read_and_written(rt: HostRuntime) -> Result<(), Fail> {
         sa: 2,
         fc: 0x49,
     });
+    let var = Telegram::Var(VarTelegram {
+        da: 127,
+        sa: 2,
+        fc: 0x44,
+        unit: ArrayVec::try_from([0xff].as_slice())?,
+    });
+    let var_of_eight = Telegram::Var(VarTelegram {
+        da: 5,
+        sa: 2,
+        fc: 0x7d,
+        unit: ArrayVec::try_from([0; 8].as_slice())?,
+    });
+    let fixed = Telegram::Fixed8(Fixed8Telegram {
+        da: 5,
+        sa: 2,
+        fc: 0x7d,
+        unit: [0; 8],
+    });
+    let counting = Telegram::Fixed8(Fixed8Telegram {
+        da: 5,
+        sa: 2,
+        fc: 0x7d,
+        unit: [1, 2, 3, 4, 5, 6, 7, 8],
+    });
     let spellings = [
         (token, [0xdc, 3, 2].as_slice()),
         (status_request, [0x10, 3, 2, 0x49, 0x4e, 0x16].as_slice()),
         (extended, [0x10, 0x83, 2, 0x49, 0xce, 0x16].as_slice()),
+        (
+            var,
+            [0x68, 4, 4, 0x68, 127, 2, 0x44, 0xff, 0xc4, 0x16].as_slice(),
+        ),
+        (
+            var_of_eight,
+            [
+                0x68, 11, 11, 0x68, 5, 2, 0x7d, 0, 0, 0, 0, 0, 0, 0, 0, 0x84, 0x16,
+            ]
+            .as_slice(),
+        ),
+        (
+            fixed,
+            [0xa2, 5, 2, 0x7d, 0, 0, 0, 0, 0, 0, 0, 0, 0x84, 0x16].as_slice(),
+        ),
+        (
+            counting,
+            [0xa2, 5, 2, 0x7d, 1, 2, 3, 4, 5, 6, 7, 8, 0xa8, 0x16].as_slice(),
+        ),
         (Telegram::Ack, [0xe5].as_slice()),
     ];
     for (telegram, octets) in &spellings {
@@ -41,10 +85,47 @@ fn the_first_fault_is_found(rt: HostRuntime) -> Result<(), Fail> {
     let faults = [
         ([].as_slice(), TelegramFault::Empty),
         (&[0x77], TelegramFault::BadStart),
-        (&[0x68, 4, 4, 0x68], TelegramFault::BadStart),
-        (&[0xa2, 5, 2], TelegramFault::BadStart),
         (&[0x10, 3], TelegramFault::Truncated),
+        (&[0x68], TelegramFault::Truncated),
+        (&[0x68, 3, 3], TelegramFault::Truncated),
+        (&[0x68, 4, 4], TelegramFault::Truncated),
+        (&[0x68, 4, 4, 0x68], TelegramFault::Truncated),
+        (
+            &[0x68, 5, 5, 0x68, 0x7f, 2, 0x44, 0xff, 0xc4, 0x16],
+            TelegramFault::Truncated,
+        ),
+        (&[0xa2, 5, 2], TelegramFault::Truncated),
+        (
+            &[0xa2, 5, 2, 0x7d, 0, 0, 0, 0, 0, 0, 0, 0, 0x84],
+            TelegramFault::Truncated,
+        ),
         (&[0xdc, 3], TelegramFault::Truncated),
+        (&[0x68, 3, 4, 0], TelegramFault::BadLength),
+        (
+            &[0x68, 3, 3, 0x68, 2, 1, 0x44, 0x47, 0x16],
+            TelegramFault::BadLength,
+        ),
+        (&[0x68, 250, 250, 0x68], TelegramFault::BadLength),
+        (
+            &[0x68, 4, 5, 0x68, 0x7f, 2, 0x44, 0xff, 0xc4, 0x16],
+            TelegramFault::LengthsDiffer,
+        ),
+        (
+            &[0x68, 4, 5, 0x69, 0x7f, 2, 0x44, 0xff, 0xc4, 0x16],
+            TelegramFault::LengthsDiffer,
+        ),
+        (
+            &[0x68, 4, 4, 0x69, 0x7f, 2, 0x44, 0xff, 0xc4, 0x16],
+            TelegramFault::BadSecondStart,
+        ),
+        (
+            &[0x68, 4, 4, 0x68, 0, 0x7f, 0x44, 0xff, 0xc2, 0x16],
+            TelegramFault::BadAddress,
+        ),
+        (
+            &[0xa2, 5, 0xff, 0x7d, 0, 0, 0, 0, 0, 0, 0, 0, 0x81, 0x16],
+            TelegramFault::BadAddress,
+        ),
         (&[0xdc, 0x83, 2], TelegramFault::BadAddress),
         (&[0xdc, 0x7f, 2], TelegramFault::BadAddress),
         (&[0xdc, 3, 0x7f, 0], TelegramFault::BadAddress),
@@ -54,9 +135,37 @@ fn the_first_fault_is_found(rt: HostRuntime) -> Result<(), Fail> {
         ),
         (&[0x10, 3, 2, 0xc9, 0xce, 0x16], TelegramFault::BadFc),
         (&[0x10, 3, 2, 0xc9, 0, 0x17], TelegramFault::BadFc),
+        (
+            &[0x68, 4, 4, 0x68, 0x7f, 2, 0xc4, 0xff, 0x44, 0x16],
+            TelegramFault::BadFc,
+        ),
         (&[0x10, 3, 2, 0x49, 0x4f, 0x17], TelegramFault::BadFcs),
+        (
+            &[0x68, 4, 4, 0x68, 0x7f, 2, 0x44, 0xff, 0xc5, 0x17],
+            TelegramFault::BadFcs,
+        ),
+        (
+            &[0xa2, 5, 2, 0x7d, 0, 0, 0, 0, 0, 0, 0, 0, 0x85, 0x17],
+            TelegramFault::BadFcs,
+        ),
         (&[0x10, 3, 2, 0x49, 0x4e, 0x17, 0], TelegramFault::BadEnd),
+        (
+            &[0x68, 4, 4, 0x68, 0x7f, 2, 0x44, 0xff, 0xc4, 0x17, 0],
+            TelegramFault::BadEnd,
+        ),
+        (
+            &[0xa2, 5, 2, 0x7d, 0, 0, 0, 0, 0, 0, 0, 0, 0x84, 0x17],
+            TelegramFault::BadEnd,
+        ),
         (&[0x10, 3, 2, 0x49, 0x4e, 0x16, 0], TelegramFault::Trailing),
+        (
+            &[0x68, 4, 4, 0x68, 0x7f, 2, 0x44, 0xff, 0xc4, 0x16, 0],
+            TelegramFault::Trailing,
+        ),
+        (
+            &[0xa2, 5, 2, 0x7d, 0, 0, 0, 0, 0, 0, 0, 0, 0x84, 0x16, 0],
+            TelegramFault::Trailing,
+        ),
         (&[0xdc, 3, 2, 0xe5], TelegramFault::Trailing),
         (&[0xe5, 0xe5], TelegramFault::Trailing),
     ];
@@ -67,6 +176,34 @@ fn the_first_fault_is_found(rt: HostRuntime) -> Result<(), Fail> {
             "{octets:?}"
         );
     }
+    Ok(())
+}
+
+#[test]
+fn a_unit_has_at_most_246_octets(rt: HostRuntime) -> Result<(), Fail> {
+    let mut octets = vec![in rt.alloc(); 0x68, 0xf9, 0xf9, 0x68, 2, 1, 0x44]?;
+    octets.extend_from_slice(&[0; 246])?;
+    octets.extend_from_slice(&[0x47, 0x16])?;
+    let answer = parse(&good(rt.alloc(), &octets)?);
+    let Ok(longest) = &answer else {
+        return Err(Fail::from("no telegram"));
+    };
+    assert_eq!(rt; write(longest).as_slice(), octets.as_slice());
+    assert_eq!(rt;
+        parse(&good(rt.alloc(), &octets[..254])?),
+        Err(TelegramFault::Truncated)
+    );
+    octets.push(0x16)?;
+    assert_eq!(rt;
+        parse(&good(rt.alloc(), &octets)?),
+        Err(TelegramFault::Trailing)
+    );
+    octets[1] = 0xfa;
+    octets[2] = 0xfa;
+    assert_eq!(rt;
+        parse(&good(rt.alloc(), &octets)?),
+        Err(TelegramFault::BadLength)
+    );
     Ok(())
 }
 

@@ -1,4 +1,1 @@
-pub mod ParamRules
-pub mod ParamViews
 pub mod Phases
-pub mod ParamWords

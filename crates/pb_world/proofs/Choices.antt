@@ -2,7 +2,7 @@
 use Rattle.std.proofs.Common.{◌≡◌, ◌∙◌, ap, sym, refl, ℕ, Bool, true, false, List, ◌∷◌, ◌+◌, ◌≤◌, length, map}
 use Rattle.std.specs.Prelude.{drop}
 use Rattle.std.proofs.lemmas.List.{at_drop_all, drop-map}
-use Rattle.pb_model.specs.Bus.{Params}
+use Rattle.pb_timers.specs.Timers.{Params}
 use Rattle.pb_model.specs.Marks.{Mark, Begin, End, moment_of}
 use Rattle.pb_model.specs.Station.{Station}
 use Rattle.pb_model.specs.Turn.{after_timer, after_mark, after_marks}

@@ -2,7 +2,8 @@
 use Rattle.std.proofs.Common.{◌≡◌, ◌∙◌, ap, sym, if◌then◌else◌, ℕ, Bool, true, false, List}
 use Rattle.std.specs.Prelude.{max}
 use Rattle.pb_telegram.specs.declared.chars.RxChar.{RxChar}
-use Rattle.pb_model.specs.Bus.{Params, Span}
+use Rattle.pb_timers.specs.Timers.{Params}
+use Rattle.pb_turn.specs.Spans.{Span}
 use Rattle.pb_model.specs.Marks.{Mark, End, Arrival, arrival_of}
 use Rattle.pb_model.specs.Station.{Phase, Station}
 use Rattle.pb_model.specs.Turn.{phase_ended, is_offline, heard, after_mark}

@@ -1,7 +1,8 @@
 -- A station that speaks, from the parts that its code changes.
 use Rattle.std.proofs.Common.{◌≡◌, ◌∙◌, ap, sym, refl, ℕ, ◌+◌, Bool, true, false, if◌then◌else◌, List, Option, Some, None}
 use Rattle.std.specs.Prelude.{nat_le, max, is_some}
-use Rattle.pb_model.specs.Bus.{Params, Span}
+use Rattle.pb_timers.specs.Timers.{Params}
+use Rattle.pb_turn.specs.Spans.{Span}
 use Rattle.pb_model.specs.Ring.{next_station}
 use Rattle.pb_model.specs.Station.{Phase, Offline, PassiveIdle, Idle, Claim, Use, Pass, Checking, Station, phase_speaks, speaks_at}
 use Rattle.pb_model.specs.Turn.{speech, spoken, claim_sent, token_sent, token_octets}

@@ -3,7 +3,7 @@ use Rattle.std.proofs.Common.{◌≡◌, ◌∙◌, ap, ℕ, ◌+◌, ◌++◌, 
 use Rattle.std.specs.Prelude.{filter}
 use Rattle.std.proofs.lemmas.List.{map-append}
 use Rattle.std.proofs.lemmas.List.Elements.{filter-append}
-use Rattle.pb_model.specs.Bus.{Params}
+use Rattle.pb_timers.specs.Timers.{Params}
 use Rattle.pb_model.specs.Medium.{TapSpec}
 use Rattle.pb_model.specs.World.{has_bad_address, first_bad_address, master_addresses}
 

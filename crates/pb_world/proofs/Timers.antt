@@ -1,7 +1,7 @@
 -- A station's timer that has ended.
 use Rattle.std.proofs.Common.{◌≡◌, ℕ, ◌<◌, Bool, if◌then◌else◌, ap, ◌∙◌, Some}
 use Rattle.std.proofs.lemmas.Bool.{lt-ltb}
-use Rattle.pb_model.specs.Bus.{Params}
+use Rattle.pb_timers.specs.Timers.{Params}
 use Rattle.pb_model.specs.Station.{Station, timer_of}
 use Rattle.pb_model.specs.Turn.{phase_timed_out, timed_out, after_timer}
 

@@ -6,7 +6,8 @@ use Rattle.std.proofs.lemmas.Bool.{le-ltb}
 use Rattle.std.proofs.lemmas.List.{take-append-drop}
 use Rattle.std.proofs.lemmas.List.Folds.{list_any-append}
 use Rattle.pb_refusals.specs.FirstFault.{first_fault}
-use Rattle.pb_model.specs.Bus.{Params, Span}
+use Rattle.pb_timers.specs.Timers.{Params}
+use Rattle.pb_turn.specs.Spans.{Span}
 use Rattle.pb_model.specs.Marks.{Mark}
 use Rattle.pb_model.specs.Turn.{started}
 use Rattle.pb_model.specs.Trace.{Entry, Sent, Noise}

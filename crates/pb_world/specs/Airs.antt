@@ -1,6 +1,6 @@
 -- The part of a world that an event changes: the clock, the entries that are not over yet, and the taps.
 use Rattle.std.specs.Prelude.{ℕ, ◌≤◌, List, length, map, take, drop}
-use Rattle.pb_model.specs.Bus.{Params}
+use Rattle.pb_timers.specs.Timers.{Params}
 use Rattle.pb_model.specs.World as model
 use Rattle.pb_model.specs.Trace as trace
 use Rattle.pb_model.specs.Laws.{AllOver, AllFrom}

@@ -2,7 +2,7 @@
 use Rattle.std.specs.Prelude.{ℕ, Bool, not, ◌==◌, ◌||◌, ◌&&◌, List, length, slice_get, count_by}
 use Rattle.std.specs.List.{list_any, list_all}
 use Rattle.pb_telegram.specs.Faults.{is_bad}
-use Rattle.pb_model.specs.Bus.{Span}
+use Rattle.pb_turn.specs.Spans.{Span}
 use Rattle.pb_model.specs.Trace.{Record, Entry, characters_at}
 use Rattle.pb_model.specs.Medium.{is_unheard, sensed, overlaps, sends_during}
 

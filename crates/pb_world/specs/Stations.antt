@@ -1,7 +1,7 @@
 -- A station as the model says it.
 use Rattle.std.specs.Prelude.{◌≡◌, ℕ, Bool, List, Option}
 use Rattle.std.specs.Option.{option_map}
-use Rattle.pb_model.specs.Bus.{Params}
+use Rattle.pb_timers.specs.Timers.{Params}
 use Rattle.pb_model.specs.Station as model
 use Rattle.pb_model.specs.Marks.{Mark, Arrival}
 use Rattle.pb_model.specs.Turn.{phase_ended, heard}

@@ -5,7 +5,7 @@ use Rattle.arrayvec.specs.ArrayVec.{ArrayVec}
 use Rattle.pb_model.specs.Trace.{Entry, Sent, with_entry}
 use Rattle.pb_model.specs.Step.{sending}
 use Rattle.pb_model.specs.World.{trace_limit}
-use Rattle.pb_model.specs.Bus.{Params}
+use Rattle.pb_timers.specs.Timers.{Params}
 use Rattle.pb_model.specs.Medium as model
 use Rattle.pb_model.specs.Turn.{turn_of}
 use Rattle.pb_world.specs.declared.faults.WorldFault.{WorldFault}

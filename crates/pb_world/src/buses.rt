@@ -6,14 +6,13 @@ use crate::damaging::damage_recent;
 use crate::entries::{Entry, Hit};
 use crate::events::{Event, Reply};
 use crate::faults::WorldFault;
-use crate::moments::Moment;
 use crate::recents::recent;
 use crate::rings::Ring;
 use crate::starting::start;
 use crate::stations::Station;
 use crate::taps::Tap;
 use crate::turning::{Speaker, keep_turn, say, turn_at};
-use pb_tokenfsm::BusParams;
+use pb_timers::{BusParams, Moment};
 use std::alloc::Global;
 
 /// Stations at the taps of one bus, its clock, and the trace of all that was sent.
@@ -70,7 +69,7 @@ impl Bus {
         say(&mut self.trace, self.over, alloc, &turn.spoke, speaker)?;
         keep_turn(&mut self.taps, tap, turn.after);
         Ok(Reply {
-            now: self.now.get(),
+            now: self.now,
             spoke: turn.spoke,
         })
     }
@@ -137,8 +136,5 @@ impl Bus {
 fn silence(now: Moment) -> Reply
     ensures { reply_of result ≡ record { now = now; spoke = None } }
 {
-    Reply {
-        now: now.get(),
-        spoke: None,
-    }
+    Reply { now, spoke: None }
 }

@@ -11,11 +11,11 @@ ghost use Rattle.pb_world.specs.Taps.{tap_of};
 
 use crate::entries::Entry;
 use crate::faults::WorldFault;
-use crate::moments::Moment;
 use crate::passes::{first_full, settle, tell_all};
 use crate::recents::recent;
 use crate::senses::next_end;
 use crate::taps::Tap;
+use pb_timers::Moment;
 
 /// The clock's limit, in bit times.
 const CLOCK_LIMIT: u64 = 1_000_000_000_000;
@@ -33,10 +33,10 @@ fn later(end: Option<u64>, now: Moment, bits: u64) -> Result<Moment, WorldFault>
     {
         return Err(WorldFault::TooFar(end));
     }
-    if bits > CLOCK_LIMIT || now.get() + bits > CLOCK_LIMIT {
-        return Err(WorldFault::ClockFull);
-    }
-    Ok(Moment::new(now.get() + bits))
+    now.add(bits)
+        .ok()
+        .filter(|to| to.get() <= CLOCK_LIMIT)
+        .ok_or(WorldFault::ClockFull)
 }
 
 /// Time passes, for all taps and the entries that are not over; the clock afterwards.

@@ -8,8 +8,8 @@ ghost use Rattle.pb_world.specs.Senses.{at_once};
 
 use crate::entries::{Entry, Hit};
 use crate::faults::WorldFault;
-use crate::moments::Moment;
 use crate::senses::is_in_air_by;
+use pb_timers::Moment;
 
 /// Damages the first telegram of a speaker in the air, at another tap; nothing that is over is in the
 /// air.

@@ -1,4 +1,5 @@
 use arrayvec::ArrayVec;
+use pb_timers::Moment;
 
 /// What happens on the bus. A tap is a position in the list of taps, counted from 0.
 #[derive(Clone, Copy, Debug, PartialEq, Eq)]
@@ -24,7 +25,7 @@ pub enum Event {
 #[derive(Debug, Drop)]
 pub struct Reply {
     /// The clock, in bit times.
-    pub now: u64,
+    pub now: Moment,
     /// The octets that a turn sent, if it did.
     pub spoke: Option<ArrayVec<u8, 255>>,
 }

@@ -1,10 +1,10 @@
 ghost use Rattle.std.specs.Prelude.{◌≡◌, ◌≤◌, ◌<◌, ◌+◌, ◌++◌, [], ◌∷◌, false, ℕ, List, None, Some, IfOk, IfErr, OnOk, IfSome, All, length, map};
 ghost use Rattle.std.specs.Option.{option_map};
 ghost use Rattle.pb_refusals.specs.FirstFault.{first_fault};
-ghost use Rattle.pb_model.specs.Bus.{Params};
+ghost use Rattle.pb_timers.specs.Timers.{Params};
 ghost use Rattle.pb_model.specs.World as world;
 ghost use Rattle.pb_model.specs.World.{new_faults, master_addresses, stopped_tap};
-ghost use Rattle.pb_tokenfsm.specs.ParamRules.{IsValid};
+ghost use Rattle.pb_timers.specs.ParamRules.{IsValid};
 ghost use Rattle.pb_world.specs.Faults.{new_fault};
 ghost use Rattle.pb_world.specs.Making.{AreStations};
 ghost use Rattle.pb_world.specs.Taps.{is_master, spec_of, tap_of};
@@ -15,7 +15,7 @@ use crate::rings::{Address, Ring};
 use crate::stations::Station;
 use crate::taps::{Kind, Tap, TapSpec, is_master};
 use arrayvec::ArrayVec;
-use pb_tokenfsm::BusParams;
+use pb_timers::BusParams;
 use std::alloc::{AllocError, Global};
 
 /// How many taps a bus may have.

@@ -2,9 +2,9 @@ ghost use Rattle.std.specs.Prelude.{◌≡◌};
 ghost use Rattle.pb_model.specs.Marks.{moment_of, seen_at};
 ghost use Rattle.pb_world.specs.MarkViews.{mark_of};
 
-use crate::moments::Moment;
 use arrayvec::ArrayVec;
 use pb_telegram::RxChar;
+use pb_timers::Moment;
 
 /// What a station is told of the bus: activity of others begins or ends at a moment. The mark is
 /// delivered at the moment `seen`.

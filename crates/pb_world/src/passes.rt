@@ -10,10 +10,10 @@ ghost use Rattle.pb_world.specs.Taps.{tap_of};
 use crate::entries::{Entry, Heard, Record};
 use crate::inboxes::MARK_LIMIT;
 use crate::marks::Mark;
-use crate::moments::Moment;
 use crate::senses::{burst_begins, burst_characters, burst_ends, is_whole_at};
 use crate::taps::Tap;
 use arrayvec::ArrayVec;
+use pb_timers::Moment;
 
 /// How many marks a pass tells the tap at a position.
 fn news_count(entries: &[Entry], position: usize, tap: &Tap, from: Moment, to: Moment) -> usize

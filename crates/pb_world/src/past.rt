@@ -1,6 +1,6 @@
 ghost use Rattle.std.specs.Prelude.{◌≡◌, if◌then◌else◌, max};
 
-use crate::moments::Moment;
+use pb_timers::Moment;
 
 /// When a telegram is on the bus: `begin` is in it, `end` is not.
 #[derive(Clone, Copy, Debug)]
@@ -21,7 +21,7 @@ pub(crate) struct Past {
 fn later(a: Moment, b: Moment) -> Moment
     ensures { result ≡ max a b }
 {
-    Moment::new(a.get().max(b.get()))
+    if a.get() < b.get() { b } else { a }
 }
 
 impl Past {

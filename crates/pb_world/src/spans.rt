@@ -8,7 +8,7 @@ pub(crate) struct Span {
 }
 
 impl Model for Span {
-    ghost use Rattle.pb_model.specs.Bus as model;
+    ghost use Rattle.pb_turn.specs.Spans as model;
 
     ghost Value = { model.Span };
 

@@ -9,9 +9,9 @@ ghost use Rattle.pb_world.specs.Taps.{tap_of};
 
 use crate::entries::Entry;
 use crate::faults::WorldFault;
-use crate::moments::Moment;
 use crate::senses::{is_in_air_by, is_reached};
 use crate::taps::{Tap, is_master};
+use pb_timers::Moment;
 
 /// Starts the station at a tap.
 pub(crate) fn start(

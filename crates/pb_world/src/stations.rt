@@ -1,5 +1,5 @@
 ghost use Rattle.std.specs.Prelude.{◌≡◌, ◌+◌, ◌≤◌, Bool, false, List, ℕ, map};
-ghost use Rattle.pb_model.specs.Bus.{Params};
+ghost use Rattle.pb_timers.specs.Timers.{Params};
 ghost use Rattle.pb_model.specs.Marks as model;
 ghost use Rattle.pb_world.specs.MarkViews.{mark_of};
 ghost use Rattle.pb_model.specs.Ring.{previous_station};
@@ -11,14 +11,15 @@ ghost use Rattle.pb_world.specs.Stations.{station_of, turn_result, HearsEnd};
 
 use crate::arrivals::arrival_of;
 use crate::marks::Mark;
-use crate::moments::Moment;
+use crate::moments::{after, beginning};
 use crate::past::{Past, Sending};
 use crate::rings::{Address, Ring};
 use crate::speeches::{Speaker, speak};
 use crate::transitions::{Hearing, begun, ended, timed_out};
 use arrayvec::ArrayVec;
 use pb_telegram::RxChar;
-use pb_tokenfsm::{BusParams, Idle, Offline, PassiveIdle, Phase};
+use pb_timers::{BusParams, Moment, bits};
+use pb_tokenfsm::{Idle, Offline, PassiveIdle, Phase};
 
 /// A station at a tap of the bus.
 #[derive(Debug, Drop)]
@@ -37,8 +38,8 @@ pub(crate) struct Turn {
     pub(crate) spoke: Option<ArrayVec<u8, 255>>,
 }
 
-/// How long a token telegram takes, in bit times.
-const TOKEN_BITS: u64 = 33;
+/// How many octets a token telegram has.
+const TOKEN_OCTETS: usize = 3;
 
 impl Station {
     /// The tap's position in the list, counted from 0.
@@ -209,7 +210,7 @@ impl Station {
         requires { now ≤ 1000000000000 }
         ensures { turn_result ring.now result ≡ speech params.now (station_of ring.now self) (speaks_at (station_of ring.now self)) now }
     {
-        let end = Moment::new(now.get() + TOKEN_BITS);
+        let end = after(now, bits(TOKEN_OCTETS));
         let speaker = Speaker {
             ts: self.address,
             ns: ring.next_station(self.address),
@@ -276,7 +277,7 @@ impl Station {
             address,
             phase: Phase::Offline(Offline),
             busy: false,
-            past: Past::started(Moment::new(0)),
+            past: Past::started(beginning()),
         }
     }
 

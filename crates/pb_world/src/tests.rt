@@ -8,7 +8,7 @@ mod running;
 
 use crate::{Entry, Event, Heard, Kind, Record, TapSpec, World, WorldFault};
 use arrayvec::ArrayVec;
-use pb_tokenfsm::{BusParams, ParamFault};
+use pb_timers::{BusParams, ParamFault};
 use std::alloc::{AllocError, Global};
 use std::test::Fail;
 
@@ -76,7 +76,7 @@ fn play(alloc: Global, world: &mut World, steps: &[Step], until: u64) -> Result<
 /// Takes the steps of this instant, in order.
 fn take_steps(alloc: Global, world: &mut World, steps: &[Step]) -> Result<(), WorldFault> {
     for (at, event) in steps {
-        if *at == world.now() {
+        if *at == world.now().get() {
             world.apply(alloc, *event)?;
         }
     }
@@ -86,7 +86,7 @@ fn take_steps(alloc: Global, world: &mut World, steps: &[Step]) -> Result<(), Wo
 /// Takes one turn of each station that is due, by tap.
 fn take_turns(alloc: Global, world: &mut World) -> Result<(), WorldFault> {
     for tap in 0..TAPS {
-        let now = world.now();
+        let now = world.now().get();
         if world.due(tap).is_some_and(|due| due <= now) {
             world.apply(alloc, Event::Turn(tap))?;
         }
@@ -95,7 +95,7 @@ fn take_turns(alloc: Global, world: &mut World) -> Result<(), WorldFault> {
 }
 
 fn pass_to(alloc: Global, world: &mut World, moment: u64) -> Result<(), WorldFault> {
-    let bits = moment.saturating_sub(world.now());
+    let bits = moment.saturating_sub(world.now().get());
     if bits > 0 {
         world.apply(alloc, Event::Pass(bits))?;
     }
@@ -104,7 +104,7 @@ fn pass_to(alloc: Global, world: &mut World, moment: u64) -> Result<(), WorldFau
 
 /// The next moment at which something happens.
 fn next_instant(world: &World, steps: &[Step]) -> Option<u64> {
-    let now = world.now();
+    let now = world.now().get();
     let mut next = has_news(world, steps).then_some(now.saturating_add(1));
     for (at, _) in steps {
         next = sooner(now, next, Some(*at));
@@ -128,7 +128,7 @@ fn sooner(now: u64, next: Option<u64>, other: Option<u64>) -> Option<u64> {
 
 /// Whether a telegram has begun now, or a tap has started now while something was in the air.
 fn has_news(world: &World, steps: &[Step]) -> bool {
-    let now = world.now();
+    let now = world.now().get();
     let started = steps.iter().any(|(at, event)| *at == now && matches!(event, Event::Start(_)));
     world.trace().iter().any(|entry| begins_at(entry, now) || (started && now < entry.end()))
 }

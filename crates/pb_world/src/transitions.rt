@@ -1,5 +1,5 @@
 ghost use Rattle.std.specs.Prelude.{◌≡◌, ◌+◌, ◌≤◌};
-ghost use Rattle.pb_model.specs.Bus.{Params};
+ghost use Rattle.pb_timers.specs.Timers.{Params};
 ghost use Rattle.pb_model.specs.Ring.{previous_station};
 ghost use Rattle.pb_model.specs.Station as model;
 ghost use Rattle.pb_model.specs.Turn.{phase_begun, phase_timed_out, idle_hears};

@@ -11,20 +11,16 @@ ghost use Rattle.pb_world.specs.Turning.{TurnsAt, RefusesTurn, RefusesEntry, Ref
 
 use crate::entries::{Entry, Heard, Record};
 use crate::faults::WorldFault;
-use crate::moments::Moment;
 use crate::recents::recent;
 use crate::rings::Ring;
 use crate::stations::{Station, Turn};
 use crate::taps::Tap;
 use arrayvec::ArrayVec;
-use pb_tokenfsm::BusParams;
+use pb_timers::{BusParams, Moment, bits};
 use std::alloc::Global;
 
 /// How many entries a trace may have.
 const TRACE_LIMIT: usize = 100_000;
-
-/// How long a character takes, in bit times.
-const CHARACTER_BITS: u64 = 11;
 
 /// The turn of the station at a tap.
 pub(crate) fn turn_at(
@@ -74,7 +70,7 @@ fn sending(
         tap,
         octets: copied(octets),
         begin,
-        end: begin + CHARACTER_BITS * octets.len() as u64,
+        end: begin + bits(octets.len()),
         heard: heard_at_first(tap, taps),
         hits: Vec::new(alloc),
     }

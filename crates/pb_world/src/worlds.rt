@@ -7,10 +7,10 @@ use crate::entries::Entry;
 use crate::events::{Event, Reply};
 use crate::faults::{NewFault, WorldFault};
 use crate::making::{check_taps, new_taps, ring_of};
-use crate::moments::Moment;
+use crate::moments::beginning;
 use crate::stations::Station;
 use crate::taps::TapSpec;
-use pb_tokenfsm::BusParams;
+use pb_timers::{BusParams, Moment};
 use std::alloc::Global;
 use std::marker::Model;
 
@@ -60,7 +60,7 @@ impl World {
             bus: Bus {
                 params,
                 ring: ring_of(specs),
-                now: Moment::new(0),
+                now: beginning(),
                 trace: Vec::new(alloc),
                 over: 0,
                 taps,
@@ -97,10 +97,10 @@ impl World {
     }
 
     /// The clock, in bit times.
-    pub fn now(&self) -> u64
+    pub fn now(&self) -> Moment
         ensures { result ≡ self.entry.now.now }
     {
-        self.bus.now.get()
+        self.bus.now
     }
 
     /// When the station at a tap has to take its turn, in bit times: at the first unread mark, its timer or

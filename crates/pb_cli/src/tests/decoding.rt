@@ -1,7 +1,7 @@
 use crate::{CountedReader, CountedWriter, Status, decode_lines};
 use std::test::Fail;
 
-const LINES: [(&str, &str); 23] = [
+const LINES: [(&str, &str); 30] = [
     ("dc0302", "token da=3 sa=2"),
     ("DC 03 02", "token da=3 sa=2"),
     ("d C\t0 302 ", "token da=3 sa=2"),
@@ -10,11 +10,27 @@ const LINES: [(&str, &str); 23] = [
     ("107f82094a16", "fault 10 BadFcs"),
     ("107f82090a16", "short da=127 sa=2+ fc=09"),
     ("e5", "ack"),
+    ("680404687f0244ffc416", "var da=127 sa=2 fc=44 unit=ff"),
+    (
+        "68 05 05 68 83 02 44 0a B0 83 16",
+        "var da=3+ sa=2 fc=44 unit=0ab0",
+    ),
+    (
+        "680b0b6805027d00000000000000008416",
+        "var da=5 sa=2 fc=7d unit=0000000000000000",
+    ),
+    (
+        "a205027d0102030405060708a816",
+        "fixed da=5 sa=2 fc=7d unit=0102030405060708",
+    ),
     (" \t", "fault 1 Empty"),
     ("--0302", "fault 2 Faulty 0"),
     ("dc03 --", "fault 2 Faulty 2"),
     ("77", "fault 3 BadStart"),
     ("1003", "fault 4 Truncated"),
+    ("680303680201444716", "fault 5 BadLength"),
+    ("680405687f0244ffc416", "fault 6 LengthsDiffer"),
+    ("680404697f0244ffc416", "fault 7 BadSecondStart"),
     ("dc7f02", "fault 8 BadAddress"),
     ("dc8302", "fault 8 BadAddress"),
     ("10027f49ca16", "fault 8 BadAddress"),

@@ -15,7 +15,7 @@ fn two_masters_pass_a_token(rt: HostRuntime) -> Result<(), Fail> {
     let mut world = masters(alloc, &[1, 2])?;
     let steps = [(0, Event::Start(0)), (0, Event::Start(1))];
     play(alloc, &mut world, &steps, 1113)?;
-    assert_eq!(rt; world.now(), 1113);
+    assert_eq!(rt; world.now().get(), 1113);
     assert_eq!(rt; trace_text(alloc, &world)?.as_str(), TOKEN_PASSED);
     Ok(())
 }

@@ -27,7 +27,7 @@ fn events_are_refused_in_a_new_world(rt: HostRuntime) -> Result<(), Fail> {
         (damage(1, 2, None), WorldFault::NoSuchTap),
     ] {
         assert_eq!(rt; world.apply(alloc, event).err(), Some(fault), "{fault}");
-        assert_eq!(rt; world.now(), 0, "{fault}");
+        assert_eq!(rt; world.now().get(), 0, "{fault}");
         assert_eq!(rt; phase_name(&world, 0), Some("Offline"), "{fault}");
     }
     world.apply(alloc, Event::Start(0))?;
@@ -41,12 +41,12 @@ fn the_clock_ends_at_its_limit(rt: HostRuntime) -> Result<(), Fail> {
     let alloc = rt.alloc();
     let mut world = masters(alloc, &[1, 2])?;
     let reply = world.apply(alloc, Event::Pass(1_000_000_000_000))?;
-    assert_eq!(rt; reply.now, 1_000_000_000_000);
+    assert_eq!(rt; reply.now.get(), 1_000_000_000_000);
     let more = world.apply(alloc, Event::Pass(1));
     assert_eq!(rt; more.err(), Some(WorldFault::ClockFull));
     let all = world.apply(alloc, Event::Pass(u64::MAX));
     assert_eq!(rt; all.err(), Some(WorldFault::ClockFull));
-    assert_eq!(rt; world.now(), 1_000_000_000_000);
+    assert_eq!(rt; world.now().get(), 1_000_000_000_000);
     Ok(())
 }
 
@@ -55,16 +55,16 @@ fn time_passes_to_the_next_end_at_most(rt: HostRuntime) -> Result<(), Fail> {
     let alloc = rt.alloc();
     let mut world = two_started(alloc)?;
     let reply = world.apply(alloc, Event::Pass(800))?;
-    assert_eq!(rt; reply.now, 800);
+    assert_eq!(rt; reply.now.get(), 800);
     assert!(rt; reply.spoke.is_none());
     let reply = world.apply(alloc, Event::Turn(0))?;
-    assert_eq!(rt; reply.now, 800);
+    assert_eq!(rt; reply.now.get(), 800);
     let spoke = reply.spoke.ok_or("silent")?;
     assert_eq!(rt; spoke.as_slice(), [0xdc, 1, 1].as_slice());
     let far = world.apply(alloc, Event::Pass(34));
     assert_eq!(rt; far.err(), Some(WorldFault::TooFar(833)));
     let reply = world.apply(alloc, Event::Pass(33))?;
-    assert_eq!(rt; reply.now, 833);
+    assert_eq!(rt; reply.now.get(), 833);
     assert!(rt; reply.spoke.is_none());
     Ok(())
 }
@@ -93,7 +93,7 @@ fn a_refused_event_changes_nothing(rt: HostRuntime) -> Result<(), Fail> {
         (damage(1, 0, Some(3)), WorldFault::NothingInAir),
     ] {
         assert_eq!(rt; world.apply(alloc, event).err(), Some(fault), "{fault}");
-        assert_eq!(rt; world.now(), 800, "{fault}");
+        assert_eq!(rt; world.now().get(), 800, "{fault}");
         assert_eq!(rt; world.due(0), Some(870), "{fault}");
         assert_eq!(rt; world.due(1), Some(1000), "{fault}");
         assert_eq!(rt; phase_name(&world, 0), Some("Claim"), "{fault}");
@@ -122,7 +122,7 @@ fn unheeded(alloc: Global, addresses: &[u8], speaker: usize) -> Result<World, Fa
 /// Time passes until a tap is due, and it takes its turn.
 fn speak(alloc: Global, world: &mut World, tap: usize) -> Result<(), Fail> {
     let due = world.due(tap).ok_or("never due")?;
-    world.apply(alloc, Event::Pass(due.saturating_sub(world.now())))?;
+    world.apply(alloc, Event::Pass(due.saturating_sub(world.now().get())))?;
     let reply = world.apply(alloc, Event::Turn(tap))?;
     reply.spoke.ok_or("silent")?;
     Ok(())
@@ -137,11 +137,11 @@ fn a_full_tap_stops_the_clock(rt: HostRuntime) -> Result<(), Fail> {
     for bits in [1, 33] {
         let refused = world.apply(alloc, Event::Pass(bits));
         assert_eq!(rt; refused.err(), Some(WorldFault::InboxFull(1)), "{bits}");
-        assert_eq!(rt; world.now(), 4930, "{bits}");
+        assert_eq!(rt; world.now().get(), 4930, "{bits}");
     }
     assert_eq!(rt; world.trace().len(), 33);
     world.apply(alloc, Event::Turn(1))?;
-    assert_eq!(rt; world.apply(alloc, Event::Pass(33))?.now, 4963);
+    assert_eq!(rt; world.apply(alloc, Event::Pass(33))?.now.get(), 4963);
     Ok(())
 }
 

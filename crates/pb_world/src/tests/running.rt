@@ -16,7 +16,7 @@ fn a_run_stops_at_the_first_refused_event(rt: HostRuntime) -> Result<(), Fail> {
     ];
     let stopped = run(alloc, &mut world, &events);
     assert_eq!(rt; stopped, Err((3, WorldFault::TooFar(833))));
-    assert_eq!(rt; world.now(), 800);
+    assert_eq!(rt; world.now().get(), 800);
     assert_eq!(rt; world.trace().len(), 1);
     assert_eq!(rt; phase_name(&world, 1), Some("Offline"));
     Ok(())
@@ -27,7 +27,7 @@ fn a_run_without_a_refusal_plays_all(rt: HostRuntime) -> Result<(), Fail> {
     let alloc = rt.alloc();
     let mut world = masters(alloc, &[1, 2])?;
     assert_eq!(rt; run(alloc, &mut world, &[]), Ok(()));
-    assert_eq!(rt; world.now(), 0);
+    assert_eq!(rt; world.now().get(), 0);
     assert_eq!(rt; phase_name(&world, 0), Some("Offline"));
     let events = [
         Event::Start(0),
@@ -36,9 +36,9 @@ fn a_run_without_a_refusal_plays_all(rt: HostRuntime) -> Result<(), Fail> {
         Event::Pass(33),
     ];
     assert_eq!(rt; run(alloc, &mut world, &events), Ok(()));
-    assert_eq!(rt; world.now(), 833);
+    assert_eq!(rt; world.now().get(), 833);
     assert_eq!(rt; run(alloc, &mut world, &[]), Ok(()));
-    assert_eq!(rt; world.now(), 833);
+    assert_eq!(rt; world.now().get(), 833);
     assert_eq!(rt; world.trace().len(), 1);
     Ok(())
 }

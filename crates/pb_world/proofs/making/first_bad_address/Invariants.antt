@@ -1,6 +1,6 @@
 use Rattle.std.proofs.Common.{◌≡◌, ℕ, ◌<◌, ◌≤◌, map}
 use Rattle.std.specs.Prelude.{drop, slice_index_or}
-use Rattle.pb_model.specs.Bus.{Params}
+use Rattle.pb_timers.specs.Timers.{Params}
 use Rattle.pb_model.specs.World.{first_bad_address}
 use Rattle.pb_world.specs.Taps.{spec_of}
 use Rattle.pb_world.specs.declared.taps.TapSpec.{TapSpec}

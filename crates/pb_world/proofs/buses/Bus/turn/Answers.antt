@@ -1,5 +1,5 @@
-use Rattle.std.proofs.Common.{◌≡◌, ◌∙◌, ap, sym, subst, length, map, Ok, arith, [], ◌++◌}
-use Rattle.std.specs.Prelude.{take, drop, slice_get, slice_set}
+use Rattle.std.proofs.Common.{◌≡◌, ◌∙◌, ap, sym, subst, length, map, Ok, arith, []}
+use Rattle.std.specs.Prelude.{drop, slice_get, slice_set}
 use Rattle.std.proofs.lemmas.List.{length-map}
 use Rattle.pb_model.specs.World.{Turn}
 use Rattle.pb_world.specs.Airs.{IsCut}
@@ -33,9 +33,8 @@ returns-clause-follows c =
     let room = ap (is_full said) (length-map bus.trace.items entry_of) ∙ c.in_ok-say.ensures.room in (
       turned.3,
       turn-done turned.3 w bus.over c.args.tap t station said at turned.2 turned.4 c.requires.cut room
-          ∙ ap (λ n. Ok (record w { trace = take bus.over w.trace ++ with_said c.args.tap said bus.now w.taps (drop bus.over w.trace); taps = taps }, record { now = n; spoke = said })) (sym c.get.ensures.value)
-          ∙ ap (λ es. Ok (record w { trace = es; taps = taps }, record { now = c.get.result; spoke = said })) (sym entries)
-          ∙ ap (λ ts. Ok (record w { trace = map entry_of c.say.new.trace.items; taps = ts }, record { now = c.get.result; spoke = said })) (sym kept ∙ ap (map (tap_of ring)) (sym back)),
+          ∙ ap (λ es. Ok (record w { trace = es; taps = taps }, record { now = bus.now; spoke = said })) (sym entries)
+          ∙ ap (λ ts. Ok (record w { trace = map entry_of c.say.new.trace.items; taps = ts }, record { now = bus.now; spoke = said })) (sym kept ∙ ap (map (tap_of ring)) (sym back)),
     )
 
 pub returns-clause-kept : goal.returns-clause-kept

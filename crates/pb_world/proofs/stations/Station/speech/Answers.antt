@@ -19,10 +19,10 @@ returns c =
     let s = station_of c.args.ring.now c.args.self in
     let spoken = c.speak-spoken.result in
     let past = c.spoke_if-past.result in
-    spoken-turn c.args.params.now s c.args.now past.quiet c.next_station.result c.get-2.result (c.get-3.result + c.from.result) c.new-end.result
+    spoken-turn c.args.params.now s c.args.now past.quiet c.next_station.result c.get.result (c.get-2.result + c.from.result) c.after-end.result
     (record { begin = past.own.begin; end = past.own.end }) _ _ c.is_some.result
-    c.speak-spoken.ensures c.next_station.ensures c.get-2.ensures.value (omega (arith, c.new-end.ensures, c.get.ensures.value))
-    (omega (arith, c.get-3.ensures.value, c.from.ensures, c.tid1.ensures)) (c.is_some.ensures ∙ some-map _ spoken.octets)
+    c.speak-spoken.ensures c.next_station.ensures c.get.ensures.value (omega (arith, c.after-end.ensures, c.bits.ensures))
+    (omega (arith, c.get-2.ensures.value, c.from.ensures, c.tid1.ensures)) (c.is_some.ensures ∙ some-map _ spoken.octets)
     c.spoke_if-past.ensures.quiet
     (ap (λ own. record { begin = own.begin; end = own.end }) c.spoke_if-past.ensures.own
     ∙ of-either (λ (own : Sending). record { begin = own.begin; end = own.end }) c.is_some.result _ _)

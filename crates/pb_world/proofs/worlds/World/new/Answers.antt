@@ -16,16 +16,16 @@ invariant_of-result c =
     let ring = c.ring_of.result in
     let taps = c.in_ok-taps.taps.items in
     let made : ℕ → List trace.Entry → List model.Tap → World = λ now es ts. record { params = p; now = now; trace = es; taps = ts } in
-    let none = ap (map entry_of) c.new-2.ensures.items in
+    let none = ap (map entry_of) c.new.ensures.items in
     let there = c.in_ok-taps.ensures ring in
-    let new : new_world p specs ≡ Ok (made c.new.result (map entry_of c.new-2.result.items) (map (tap_of ring) taps))
+    let new : new_world p specs ≡ Ok (made c.beginning.result (map entry_of c.new.result.items) (map (tap_of ring) taps))
     = ap (λ o. unless_fault o (made 0 [] (map (stopped_tap (master_addresses specs)) specs))) c.in_ok-check_taps.ensures.ok
-    ∙ ap (λ n. Ok (made n [] (map (stopped_tap (master_addresses specs)) specs))) (sym c.new.ensures)
-    ∙ ap (λ es. Ok (made c.new.result es (map (stopped_tap (master_addresses specs)) specs))) (sym none)
-    ∙ ap (λ ts. Ok (made c.new.result (map entry_of c.new-2.result.items) ts)) (ap (λ r. map (stopped_tap r) specs) (sym c.ring_of.ensures) ∙ sym there) in
+    ∙ ap (λ n. Ok (made n [] (map (stopped_tap (master_addresses specs)) specs))) (sym c.beginning.ensures)
+    ∙ ap (λ es. Ok (made c.beginning.result es (map (stopped_tap (master_addresses specs)) specs))) (sym none)
+    ∙ ap (λ ts. Ok (made c.beginning.result (map entry_of c.new.result.items) ts)) (ap (λ r. map (stopped_tap r) specs) (sym c.ring_of.ensures) ∙ sym there) in
     record {
       sound = sound-new_world p specs _ c.in_ok-check_taps.ensures.valid.no_delay new;
-      clock = omega (arith, c.new.ensures);
+      clock = omega (arith, c.beginning.ensures);
       room = omega (
         arith,
         ap length there,

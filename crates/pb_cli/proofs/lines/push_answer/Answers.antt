@@ -1,0 +1,14 @@
+use Rattle.std.proofs.Common.{rules, ◌≡◌, ℕ, List, ◌++◌, ap, sym, ◌∙◌}
+use Rattle.pb_telegram.specs.Grammar.{Spells}
+use Rattle.pb_cli.specs.Decoding.{answer_text}
+use Rattle.pb_cli.specs.Texts.{telegram_text}
+use Rattle.pb_cli.proofs.lines.push_answer.Goals as goal
+
+pub returns-in_ok-push_telegram-in-Ok-clause-text : goal.returns-in_ok-push_telegram-in-Ok-clause-text
+returns-in_ok-push_telegram-in-Ok-clause-text c =
+    let old = c.args.text.now.items in
+    let spelled : Spells c.args.chars.now c.in-Ok.telegram = search rules in
+    let law : answer_text c.args.chars.now ≡ telegram_text c.in-Ok.telegram =
+    c.spelled_text_is_the_telegrams.ensures c.args.chars.now c.in-Ok.telegram spelled in
+    let pushed : c.push_telegram.new.text.items ≡ old ++ telegram_text c.in-Ok.telegram = search rules in
+    pushed ∙ ap (λ (text : List ℕ). old ++ text) (sym law)

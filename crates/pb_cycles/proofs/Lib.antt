@@ -1,0 +1,7 @@
+pub mod Acting
+pub mod Hearing
+pub mod Linking
+pub mod Meaning
+pub mod NewestActs
+pub mod SaidOctets
+pub mod Waiting

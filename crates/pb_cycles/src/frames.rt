@@ -1,0 +1,134 @@
+ghost use Rattle.std.specs.Prelude.{◌≡◌, ◌≤◌, ◌<◌, ◌%◌, length};
+ghost use Rattle.pb_telegram.specs.Grammar.{spelling};
+ghost use Rattle.pb_cycles.specs.Messages.{frame_octets, message_of};
+ghost use Rattle.pb_cycles.specs.declared.messages.Message.TheVariants.{Framed};
+
+use arrayvec::ArrayVec;
+use pb_telegram::{Fixed8Telegram, ShortTelegram, Telegram, VarTelegram};
+use std::marker::Model;
+
+/// A telegram with a control octet, apart from its form.
+#[derive(Debug, PartialEq, Eq, Drop)]
+pub struct Frame {
+    da: u8,
+    sa: u8,
+    fc: u8,
+    unit: ArrayVec<u8, 246>,
+}
+
+impl Model for Frame {
+    ghost use Rattle.std.specs.Prelude.{◌<◌, ◌%◌};
+    ghost use Rattle.pb_cycles.specs.Fields.{Fields};
+
+    ghost Value = { Fields };
+
+    ghost view = { λ f. record { da = f.da; sa = f.sa; fc = f.fc; unit = f.unit.items } };
+
+    ghost invariant = { λ f. (f.sa % 128 < 127) × (f.fc < 128) };
+
+    ghost inverse = { λ f. record { da = f.da; sa = f.sa; fc = f.fc; unit = record { items = f.unit } } };
+}
+
+/// The same octets.
+pub(crate) fn copy_unit(unit: &[u8]) -> ArrayVec<u8, 246>
+    requires { length unit.now ≤ 246 }
+    ensures { result.items ≡ unit.now }
+{
+    let mut copy = ArrayVec::new();
+    copy.try_extend_from_slice(unit).unwrap();
+    copy
+}
+
+/// The telegram of these fields: its form goes by how many octets of data it has.
+fn form(da: u8, sa: u8, fc: u8, unit: &[u8]) -> Telegram
+    requires sa { sa % 128 < 127 }
+    requires fc { fc < 128 }
+    requires unit { length unit.now ≤ 246 }
+    ensures octets { spelling result ≡ frame_octets (record { da = da; sa = sa; fc = fc; unit = unit.now }) }
+    ensures message { message_of result ≡ Framed (record { da = da; sa = sa; fc = fc; unit = unit.now }) }
+{
+    if unit.is_empty() {
+        return Telegram::Short(ShortTelegram { da, sa, fc });
+    }
+    if unit.len() == 8 {
+        return Telegram::Fixed8(Fixed8Telegram {
+            da,
+            sa,
+            fc,
+            unit: eight_octets(unit),
+        });
+    }
+    Telegram::Var(VarTelegram {
+        da,
+        sa,
+        fc,
+        unit: copy_unit(unit),
+    })
+}
+
+/// Eight octets as an array.
+fn eight_octets(unit: &[u8]) -> [u8; 8]
+    requires { length unit.now ≡ 8 }
+    ensures { result ≡ unit.now }
+{
+    let mut eight = [0; 8];
+    eight.copy_from_slice(unit);
+    eight
+}
+
+impl Frame {
+    /// The fields of a telegram.
+    pub(crate) fn new(da: u8, sa: u8, fc: u8, unit: ArrayVec<u8, 246>) -> Frame
+        requires sa { sa % 128 < 127 }
+        requires fc { fc < 128 }
+        ensures { result ≡ record { da = da; sa = sa; fc = fc; unit = unit.items } }
+    {
+        Frame { da, sa, fc, unit }
+    }
+
+    pub(crate) fn da(&self) -> u8
+        ensures { result ≡ self.now.da }
+    {
+        self.da
+    }
+
+    pub(crate) fn sa(&self) -> u8
+        ensures { result ≡ self.now.sa }
+    {
+        self.sa
+    }
+
+    pub(crate) fn fc(&self) -> u8
+        ensures { result ≡ self.now.fc }
+    {
+        self.fc
+    }
+
+    /// The data.
+    pub(crate) fn unit(&self) -> &[u8]
+        ensures value { result.now ≡ self.now.unit }
+        ensures fits { length result.now ≤ 246 }
+    {
+        &self.unit
+    }
+
+    /// The same fields.
+    pub(crate) fn copy(&self) -> Frame
+        ensures { result ≡ self.now }
+    {
+        Frame {
+            da: self.da,
+            sa: self.sa,
+            fc: self.fc,
+            unit: copy_unit(&self.unit),
+        }
+    }
+
+    /// The telegram: its form goes by how many octets of data it has.
+    pub(crate) fn telegram(&self) -> Telegram
+        ensures octets { spelling result ≡ frame_octets self.now }
+        ensures message { message_of result ≡ Framed self.now }
+    {
+        form(self.da, self.sa, self.fc, &self.unit)
+    }
+}

@@ -1,0 +1,70 @@
+ghost use Rattle.std.specs.Prelude.{◌≡◌};
+ghost use Rattle.pb_telegram.specs.Grammar.{spelling};
+ghost use Rattle.pb_cycles.specs.Messages.{message_of, reply_octets, heard_as};
+
+use crate::frames::{Frame, copy_unit};
+use arrayvec::ArrayVec;
+use pb_telegram::Telegram;
+
+/// What a telegram says, apart from its form.
+#[derive(Debug, Drop)]
+pub enum Message {
+    /// A request or a reply with a control octet.
+    Framed(Frame),
+    /// The short acknowledgement.
+    Acknowledgement,
+    /// A token.
+    TokenPass,
+}
+
+impl Message {
+    /// What the telegram says.
+    pub(crate) fn read(telegram: &Telegram) -> Message
+        ensures { result ≡ message_of telegram.now }
+    {
+        match telegram {
+            Telegram::Short(t) => Message::Framed(Frame::new(t.da, t.sa, t.fc, ArrayVec::new())),
+            Telegram::Var(t) => Message::Framed(Frame::new(t.da, t.sa, t.fc, copy_unit(&t.unit))),
+            Telegram::Fixed8(t) => Message::Framed(Frame::new(
+                t.da,
+                t.sa,
+                t.fc,
+                copy_unit(&t.unit),
+            )),
+            Telegram::Token(_) => Message::TokenPass,
+            Telegram::Ack => Message::Acknowledgement,
+        }
+    }
+}
+
+/// What a station replies.
+#[derive(Debug, PartialEq, Eq, Drop)]
+pub enum Reply {
+    /// A telegram with a control octet.
+    Answer(Frame),
+    /// The short acknowledgement.
+    Acknowledge,
+}
+
+impl Reply {
+    /// The same reply.
+    pub(crate) fn copy(&self) -> Reply
+        ensures { result ≡ self.now }
+    {
+        match self {
+            Reply::Answer(frame) => Reply::Answer(frame.copy()),
+            Reply::Acknowledge => Reply::Acknowledge,
+        }
+    }
+
+    /// The telegram.
+    pub(crate) fn telegram(&self) -> Telegram
+        ensures octets { spelling result ≡ reply_octets self.now }
+        ensures message { message_of result ≡ heard_as self.now }
+    {
+        match self {
+            Reply::Answer(frame) => frame.telegram(),
+            Reply::Acknowledge => Telegram::Ack,
+        }
+    }
+}

@@ -1,0 +1,73 @@
+ghost use Rattle.std.specs.Prelude.{◌≡◌, ◌≤◌, length, option_map};
+ghost use Rattle.pb_cycles.specs.Messages.{message_of};
+ghost use Rattle.pb_cycles.specs.Outcomes.{code_outcome, is_reply_between, reply_outcome, status_reply};
+
+use crate::frames::{Frame, copy_unit};
+use crate::messages::Message;
+use arrayvec::ArrayVec;
+use pb_telegram::{Fc, Telegram};
+
+/// What came of a request (IEC 61158-4-3, confirmation of a data link service).
+#[derive(Debug, PartialEq, Eq, Drop)]
+pub enum Outcome {
+    /// The data was taken, and none came back.
+    Acked,
+    /// Data came back.
+    Data(ArrayVec<u8, 246>),
+    /// The station has no resource, or no such service.
+    NoResource,
+    /// No reply came, and no retry is left.
+    NoAnswer,
+}
+
+/// The meaning of a reply's function code, with the data of the reply.
+fn code_outcome(code: u8, unit: &[u8]) -> Option<Outcome>
+    requires { length unit.now ≤ 246 }
+    ensures { result ≡ code_outcome code unit.now }
+{
+    match code {
+        0 | 9 => Some(Outcome::Acked),
+        1 | 2 | 3 => Some(Outcome::NoResource),
+        8 | 10 | 12 | 13 => Some(Outcome::Data(copy_unit(unit))),
+        _ => None,
+    }
+}
+
+/// Whether it is a reply telegram from the station `da` to the station `ts`.
+fn is_reply_between(ts: u8, da: u8, frame: &Frame) -> bool
+    ensures { result ≡ is_reply_between ts da frame.now }
+{
+    !Fc(frame.fc()).is_request() && frame.da() % 128 == ts && frame.sa() % 128 == da
+}
+
+/// The outcome of an SDA or SRD that `ts` sent to `da`, where the message is a reply to it.
+pub(crate) fn reply_outcome(ts: u8, da: u8, message: &Message) -> Option<Outcome>
+    ensures { result ≡ reply_outcome ts da message.now }
+{
+    match message {
+        Message::Framed(frame) if is_reply_between(ts, da, frame) => {
+            code_outcome(Fc(frame.fc()).code(), frame.unit())
+        }
+        Message::Framed(_) => None,
+        Message::Acknowledgement => Some(Outcome::Acked),
+        Message::TokenPass => None,
+    }
+}
+
+/// The control octet of the reply to a Request FDL Status that the station `ts` sent to the station
+/// `da`, where the telegram is a reply to it with a known code. A short acknowledgement is none
+/// (EN 50170-2, request FDL status).
+pub fn status_reply(ts: u8, da: u8, telegram: &Telegram) -> Option<Fc>
+    ensures { result ≡ option_map (λ fc. record { 0 = fc }) (status_reply ts da (message_of telegram.now)) }
+{
+    match Message::read(telegram) {
+        Message::Framed(frame) if is_reply_between(ts, da, &frame) => {
+            let fc = Fc(frame.fc());
+            match code_outcome(fc.code(), frame.unit()) {
+                Some(_) => Some(fc),
+                None => None,
+            }
+        }
+        Message::Framed(_) | Message::Acknowledgement | Message::TokenPass => None,
+    }
+}

@@ -1,0 +1,137 @@
+ghost use Rattle.std.specs.Prelude.{◌≡◌, Some, None, IfOk, IfErr, OnOk};
+ghost use Rattle.pb_refusals.specs.FirstFault.{first_fault};
+ghost use Rattle.pb_cycles.specs.Requests.{request_faults};
+
+use crate::frames::copy_unit;
+use crate::services::Service;
+use arrayvec::ArrayVec;
+use std::marker::Model;
+use thiserror::Error;
+
+/// Why there is no such request.
+#[derive(Clone, Copy, Debug, PartialEq, Eq, Error)]
+pub enum RequestFault {
+    /// 1: the address is over 127, or it is 127, all stations, for a service that is answered.
+    #[error("BadAddress")]
+    BadAddress,
+}
+
+/// A request to send data to a station, or to all stations (IEC 61158-4-3, data link service).
+///
+/// It goes to the address 0 to 126 of a station; 127 is all stations, for SDN alone.
+#[derive(Debug, PartialEq, Eq, Drop)]
+pub struct Request {
+    da: u8,
+    service: Service,
+    high: bool,
+    unit: ArrayVec<u8, 246>,
+}
+
+impl Model for Request {
+    ghost use Rattle.pb_cycles.specs.RequestFields.{RequestFields};
+
+    ghost Value = { RequestFields };
+
+    ghost use Rattle.pb_cycles.specs.Requests.{IsAddressed};
+
+    ghost view = { λ r. record { da = r.da; service = r.service; high = r.high; unit = r.unit.items } };
+
+    ghost invariant = { λ r. IsAddressed r.da r.service };
+
+    ghost inverse = { λ r. record { da = r.da; service = r.service; high = r.high; unit = record { items = r.unit } } };
+}
+
+impl Default for Request {
+    /// A request that a place of a queue holds before it is used: SDA to 0 without data.
+    fn default() -> Request {
+        Request {
+            da: 0,
+            service: Service::Sda,
+            high: false,
+            unit: ArrayVec::new(),
+        }
+    }
+}
+
+impl Request {
+    ghost use Rattle.pb_cycles.specs.RequestFields.{RequestFields};
+    ghost use Rattle.pb_cycles.specs.Requests.{IsAddressed};
+
+    /// A request to the address `da`, 0 to 127, with high priority or low, and with at most 246
+    /// octets of data. 1 BadAddress: `da` is over 127, or 127 with a service other than SDN.
+    pub fn new(
+        da: u8,
+        service: Service,
+        high: bool,
+        unit: ArrayVec<u8, 246>,
+    ) -> Result<Request, RequestFault>
+        ensures value { IfOk result (λ r. r ≡ record { da = da; service = service; high = high; unit = unit.items }) }
+        ensures addressed { OnOk result (first_fault (request_faults da service) ≡ None) }
+        ensures fault { IfErr result (λ fault. first_fault (request_faults da service) ≡ Some fault) }
+    {
+        if da > 127 || (da == 127 && service.is_answered()) {
+            return Err(RequestFault::BadAddress);
+        }
+        Ok(Request {
+            da,
+            service,
+            high,
+            unit,
+        })
+    }
+
+    /// The address, 0 to 126 of a station, or 127 for all stations.
+    pub fn da(&self) -> u8
+        ensures value { result ≡ self.now.da }
+        ensures addressed { IsAddressed self.now.da self.now.service }
+    {
+        self.da
+    }
+
+    /// The service.
+    pub fn service(&self) -> Service
+        ensures { result ≡ self.now.service }
+    {
+        self.service
+    }
+
+    /// Whether its priority is high.
+    pub fn high(&self) -> bool
+        ensures { result ≡ self.now.high }
+    {
+        self.high
+    }
+
+    /// The data.
+    pub fn unit(&self) -> &[u8]
+        ensures { result.now ≡ self.now.unit }
+    {
+        &self.unit
+    }
+
+    /// An equal request.
+    pub fn copy(&self) -> Request
+        ensures { result ≡ self.now }
+    {
+        let Request {
+            da,
+            service,
+            high,
+            unit,
+        } = self;
+        Request {
+            da: *da,
+            service: *service,
+            high: *high,
+            unit: copy_unit(unit),
+        }
+    }
+
+    /// The data, of a request that is used up.
+    pub(crate) fn into_unit(self) -> ArrayVec<u8, 246>
+        ensures { result.items ≡ self.unit }
+    {
+        let Request { unit, .. } = self;
+        unit
+    }
+}

@@ -1,0 +1,255 @@
+ghost use Rattle.std.specs.Prelude.{◌≡◌, ◌≤◌, ◌<◌, ◌^◌, length, Some, None, option_map};
+ghost use Rattle.pb_telegram.specs.Grammar.{spelling};
+ghost use Rattle.pb_cycles.specs.Messages.{reply_octets, heard_as, message_of};
+ghost use Rattle.pb_cycles.specs.Responding.{reply_frame, data_reply, service_reply, is_repeat, counted, once, reply_once, after_service, reply_to_service, after_framed, reply_to_framed, after_message, reply_to_message};
+
+use crate::frames::{Frame, copy_unit};
+use crate::messages::{Message, Reply};
+use crate::services::{Asked, Service};
+use arrayvec::ArrayVec;
+use pb_telegram::{Fc, Telegram};
+use std::marker::Model;
+
+/// What a responder keeps of the last SDA or SRD.
+#[derive(Debug, PartialEq, Eq, Drop)]
+pub struct Kept {
+    /// The address of the station that asked.
+    pub requester: u8,
+    /// The frame count bit.
+    pub bit: bool,
+    /// The reply.
+    pub reply: Reply,
+}
+
+impl Kept {
+    /// The same.
+    fn copy(&self) -> Kept
+        ensures { result ≡ self.now }
+    {
+        Kept {
+            requester: self.requester,
+            bit: self.bit,
+            reply: self.reply.copy(),
+        }
+    }
+}
+
+/// The side of message cycles that answers (EN 50170-2, message cycles). It executes a request once,
+/// also where it comes again.
+#[derive(Debug, PartialEq, Eq, Drop)]
+pub struct Responder {
+    reply: ArrayVec<u8, 246>,
+    kept: Option<Kept>,
+    executed: u64,
+}
+
+impl Model for Responder {
+    ghost use Rattle.pb_cycles.specs.Tables.{ResponderTable};
+
+    ghost Value = { ResponderTable };
+
+    ghost view = { λ r. record { reply = r.reply.items; kept = r.kept; executed = r.executed } };
+
+    ghost inverse = { λ t. record { reply = record { items = t.reply }; kept = t.kept; executed = t.executed } };
+}
+
+/// A reply telegram from `ts`, whose type is `station_type`, to the station that sent the request.
+fn reply_frame(ts: u8, station_type: u8, request: &Frame, code: u8, unit: &[u8]) -> Reply
+    requires station { ts ≤ 126 }
+    requires type_bits { station_type ≤ 3 }
+    requires code_bits { code < 16 }
+    requires unit_fits { length unit.now ≤ 246 }
+    ensures { result ≡ reply_frame ts station_type request.now code unit.now }
+{
+    let fc = 16 * station_type + code;
+    Reply::Answer(Frame::new(request.sa() % 128, ts, fc, copy_unit(unit)))
+}
+
+/// The reply to an SRD: the reply data with the priority of the request, or none.
+fn data_reply(ts: u8, station_type: u8, request: &Frame, high: bool, unit: &[u8]) -> Reply
+    requires station { ts ≤ 126 }
+    requires type_bits { station_type ≤ 3 }
+    requires unit_fits { length unit.now ≤ 246 }
+    ensures { result ≡ data_reply ts station_type request.now high unit.now }
+{
+    if unit.is_empty() {
+        return reply_frame(ts, station_type, request, 9, &[]);
+    }
+    let code = if high { 10 } else { 8 };
+    reply_frame(ts, station_type, request, code, unit)
+}
+
+/// The reply of a service that is executed. No service takes an address extension.
+fn service_reply(
+    ts: u8,
+    station_type: u8,
+    request: &Frame,
+    service: Service,
+    high: bool,
+    unit: &[u8],
+) -> Reply
+    requires station { ts ≤ 126 }
+    requires type_bits { station_type ≤ 3 }
+    requires unit_fits { length unit.now ≤ 246 }
+    ensures { result ≡ service_reply ts station_type request.now service high unit.now }
+{
+    match service {
+        Service::Sdn => Reply::Acknowledge,
+        Service::Sda | Service::Srd if request.da() & 0x80 != 0 => {
+            reply_frame(ts, station_type, request, 3, &[])
+        }
+        Service::Sda => Reply::Acknowledge,
+        Service::Srd => data_reply(ts, station_type, request, high, unit),
+    }
+}
+
+/// Whether an SDA or SRD is a repeat of the one before: its frame count bit counts, and requester and
+/// bit are the same.
+fn is_repeat(kept: &Kept, request: &Frame) -> bool
+    ensures { result ≡ is_repeat (Some kept.now) request.now }
+{
+    let fc = Fc(request.fc());
+    fc.fcv() && kept.requester == request.sa() % 128 && kept.bit == fc.fcb()
+}
+
+impl Responder {
+    /// A responder that has heard nothing. It answers an SRD with the data `reply`, or with NR where
+    /// that is empty.
+    pub fn new(reply: ArrayVec<u8, 246>) -> Responder
+        ensures { result ≡ record { reply = reply.items; kept = None; executed = 0 } }
+    {
+        Responder {
+            reply,
+            kept: None,
+            executed: 0,
+        }
+    }
+
+    /// An equal responder, with which one can see what a turn would do.
+    pub fn copy(&self) -> Responder
+        ensures { result ≡ self.now }
+    {
+        let Responder {
+            reply,
+            kept,
+            executed,
+        } = self;
+        Responder {
+            reply: copy_unit(reply),
+            kept: kept.as_ref().map(Kept::copy),
+            executed: *executed,
+        }
+    }
+
+    /// How many requests were executed: SDA, SRD and SDN that are no repeats. The count stays at
+    /// 2^64 - 1.
+    pub fn executed(&self) -> u64
+        ensures value { result ≡ self.now.executed }
+        ensures fits { result < 2 ^ 64 }
+    {
+        self.executed
+    }
+
+    /// What the station `ts`, at most 126, replies to a telegram, if anything. Its station type is 0
+    /// passive, 1 master not ready, 2 master ready to enter the ring, 3 master in the ring. Both
+    /// bounds are the caller's conditions.
+    ///
+    /// A repeated SDA or SRD to this station gets the reply that was kept; another is executed. An
+    /// SDA gets a short acknowledgement, and an SRD the reply data with the priority of the request,
+    /// or NR where there is none; with an address extension (bit 7 of DA) both get RS. An SDN to
+    /// this station or to all is executed and not answered. Request FDL Status gets the station
+    /// type. No reply has an address extension.
+    pub fn answer(&mut self, ts: u8, station_type: u8, telegram: &Telegram) -> Option<Telegram>
+        requires station { ts ≤ 126 }
+        requires type_bits { station_type ≤ 3 }
+        ensures octets { option_map spelling result ≡ option_map reply_octets (reply_to_message self.old ts station_type (message_of telegram.now)) }
+        ensures message { option_map message_of result ≡ option_map heard_as (reply_to_message self.old ts station_type (message_of telegram.now)) }
+        ensures table { self.new ≡ after_message self.old ts station_type (message_of telegram.now) }
+    {
+        match Message::read(telegram) {
+            Message::Framed(frame) => match self.answer_frame(ts, station_type, &frame) {
+                Some(reply) => Some(reply.telegram()),
+                None => None,
+            },
+            Message::Acknowledgement | Message::TokenPass => None,
+        }
+    }
+
+    /// The reply to a telegram with a control octet.
+    fn answer_frame(&mut self, ts: u8, station_type: u8, frame: &Frame) -> Option<Reply>
+        requires station { ts ≤ 126 }
+        requires type_bits { station_type ≤ 3 }
+        ensures reply { result ≡ reply_to_framed self.old ts station_type frame.now }
+        ensures table { self.new ≡ after_framed self.old ts station_type frame.now }
+    {
+        let fc = Fc(frame.fc());
+        if !fc.is_request() {
+            return None;
+        }
+        match Asked::by(fc.code()) {
+            Asked::Send(service, high) => {
+                self.answer_service(ts, station_type, frame, service, high)
+            }
+            Asked::Status if frame.da() % 128 == ts => {
+                Some(reply_frame(ts, station_type, frame, 0, &[]))
+            }
+            Asked::Status | Asked::Unknown => None,
+        }
+    }
+
+    /// The reply to a service that a station is asked for.
+    fn answer_service(
+        &mut self,
+        ts: u8,
+        station_type: u8,
+        frame: &Frame,
+        service: Service,
+        high: bool,
+    ) -> Option<Reply>
+        requires station { ts ≤ 126 }
+        requires type_bits { station_type ≤ 3 }
+        ensures reply { result ≡ reply_to_service self.old ts station_type frame.now service high }
+        ensures table { self.new ≡ after_service self.old ts station_type frame.now service high }
+    {
+        let to = frame.da() % 128;
+        if !service.is_answered() {
+            if to == ts || to == 127 {
+                self.count_one();
+            }
+            return None;
+        }
+        if to != ts {
+            return None;
+        }
+        let reply = service_reply(ts, station_type, frame, service, high, &self.reply);
+        Some(self.once(frame, reply))
+    }
+
+    /// Counts a request that is executed.
+    fn count_one(&mut self)
+        ensures { self.new ≡ counted self.old }
+    {
+        let Responder { executed, .. } = self;
+        *executed = executed.saturating_add(1);
+    }
+
+    /// Executes an SDA or SRD with this reply, or gives the reply kept where it is a repeat.
+    fn once(&mut self, frame: &Frame, reply: Reply) -> Reply
+        ensures reply { Some result ≡ reply_once self.old frame.now reply }
+        ensures table { self.new ≡ once self.old frame.now reply }
+    {
+        if let Some(kept) = &self.kept {
+            if is_repeat(kept, frame) {
+                return kept.reply.copy();
+            }
+        }
+        let answer = reply.copy();
+        self.kept = Some(Kept {
+            requester: frame.sa() % 128,
+            bit: Fc(frame.fc()).fcb(),
+            reply,
+        });
+        self.count_one();
+        answer
+    }
+}

@@ -1,0 +1,67 @@
+ghost use Rattle.std.specs.Prelude.{◌≡◌, ◌<◌, Some, None};
+ghost use Rattle.pb_cycles.specs.Requests.{is_answered, code_of, asked_by};
+
+/// A service of the data link layer (IEC 61158-4-3, data link service).
+#[derive(Clone, Copy, Debug, Default, PartialEq, Eq)]
+pub enum Service {
+    /// Send data with acknowledge.
+    #[default]
+    Sda,
+    /// Send data with no acknowledge.
+    Sdn,
+    /// Send and request data.
+    Srd,
+}
+
+/// What the control octet of a request asks for.
+#[derive(Clone, Copy, Debug, PartialEq, Eq)]
+pub enum Asked {
+    /// A service, with high priority or not.
+    Send(Service, bool),
+    /// Request FDL Status.
+    Status,
+    /// Something that nobody answers.
+    Unknown,
+}
+
+impl Service {
+    /// Whether the service is answered, by an acknowledgement or by data.
+    pub(crate) fn is_answered(self) -> bool
+        ensures { result ≡ is_answered self }
+    {
+        match self {
+            Service::Sda | Service::Srd => true,
+            Service::Sdn => false,
+        }
+    }
+
+    /// The function code of the service, with high priority or not.
+    pub(crate) fn code(self, high: bool) -> u8
+        ensures value { result ≡ code_of self high }
+        ensures bits { result < 16 }
+    {
+        match self {
+            Service::Sda => if high { 5 } else { 3 },
+            Service::Sdn => if high { 6 } else { 4 },
+            Service::Srd => if high { 13 } else { 12 },
+        }
+    }
+}
+
+impl Asked {
+    /// What the function code of a request asks for.
+    pub(crate) fn by(code: u8) -> Asked
+        ensures { result ≡ asked_by code }
+    {
+        match code {
+            3 => Asked::Send(Service::Sda, false),
+            4 => Asked::Send(Service::Sdn, false),
+            5 => Asked::Send(Service::Sda, true),
+            6 => Asked::Send(Service::Sdn, true),
+            9 => Asked::Status,
+            12 => Asked::Send(Service::Srd, false),
+            13 => Asked::Send(Service::Srd, true),
+            _ => Asked::Unknown,
+        }
+    }
+}

@@ -1,0 +1,13 @@
+-- A set of addresses in the bits of a number: an address is in the set where its bit is 1.
+use Rattle.std.specs.Prelude.{ℕ, ◌+◌, ◌==◌, ◌^◌, List, [], ◌∷◌, filter}
+use Rattle.std.specs.Int.{bit_at}
+use Rattle.pb_ring.specs.AddressSets.{addresses}
+
+-- the set that the bits of a number list
+abbrev pub listed : ℕ → List ℕ
+listed n = filter (λ a. bit_at n a == 1) addresses
+
+-- the number whose bits list a set
+abbrev pub bits_of : List ℕ → ℕ
+bits_of [] = 0
+bits_of (x ∷ xs) = 2 ^ x + bits_of xs

@@ -1,0 +1,154 @@
+//! The list of active stations.
+
+ghost use Rattle.std.specs.Prelude.{◌≡◌, ◌<◌, Bool, true};
+ghost use Rattle.pb_ring.specs.AddressSets.{is_member, next_address, previous_address};
+ghost use Rattle.pb_ring.specs.Las.{listening, claimed, heard, entered, removed, readied, is_complete, members_of, place_of, skips_of};
+
+use crate::addresses::Addresses;
+use crate::learning::{
+    active_stations, entered_stage, heard_stage, is_heard_again, readied_stage, removed_stage,
+};
+use crate::stages::{HeardToken, Place, Stage};
+use std::marker::Model;
+
+/// The list of active stations (LAS) of a station, as it learns it from the token telegrams that it hears.
+#[derive(Clone, Copy, Debug, PartialEq, Eq)]
+pub struct Las {
+    last: Option<HeardToken>,
+    stage: Stage,
+}
+
+impl Model for Las {
+    ghost use Rattle.pb_ring.specs.Las.{LasTable};
+
+    ghost Value = { LasTable };
+
+    ghost view = { λ las. record { last = las.last; stage = las.stage } };
+
+    ghost inverse = { λ table. record { last = table.last; stage = table.stage } };
+}
+
+impl Las {
+    /// The list of a station that begins to listen: nothing is heard, and the list is not complete.
+    /// (LAS formation, in Listen_Token.)
+    pub fn listening() -> Las
+        ensures { result ≡ listening }
+    {
+        Las {
+            last: None,
+            stage: Stage::Learning(Addresses::none(), None),
+        }
+    }
+
+    /// The list of a station with the address `ts`, 0 to 126, that has claimed the token: it is complete,
+    /// the station alone is in it, and it is in the ring. No token is remembered as heard.
+    pub fn claimed(ts: u8) -> Las
+        requires { ts < 127 }
+        ensures { result ≡ claimed ts }
+    {
+        let place = Place {
+            address: ts,
+            skipped: 0,
+        };
+        Las {
+            last: None,
+            stage: Stage::Complete(Addresses::only(ts), Some(place)),
+        }
+    }
+
+    /// A token telegram from `sa` to `da`, 0 to 126, is heard. A retry adds nothing. Before the list is
+    /// complete, `sa` joins the rotation, and two equal rotations complete the list; from then on, those
+    /// strictly between `sa` and `da` leave the list (save the own station in the ring), and `sa` and `da`
+    /// enter it. (LAS formation and its corrections by heard tokens.)
+    pub fn hear(&mut self, sa: u8, da: u8)
+        requires source { sa < 127 }
+        requires destination { da < 127 }
+        ensures { self.new ≡ heard self.old sa da }
+    {
+        if !is_heard_again(self.last, sa, da) {
+            self.stage = heard_stage(self.stage, sa, da);
+        }
+        self.last = Some(HeardToken {
+            source: sa,
+            destination: da,
+        });
+    }
+
+    /// Whether the list is complete.
+    pub fn complete(&self) -> bool
+        ensures { result ≡ is_complete self.now.stage }
+    {
+        match self.stage {
+            Stage::Learning(_, _) => false,
+            Stage::Complete(_, _) => true,
+        }
+    }
+
+    /// A station with this address, 0 to 126, enters the list, which is complete. (GAP update: a new
+    /// station has answered that it is ready.)
+    pub fn enter(&mut self, address: u8)
+        requires station { address < 127 }
+        requires complete { is_complete self.old.stage ≡ true }
+        ensures { self.new ≡ entered self.old address }
+    {
+        self.stage = entered_stage(self.stage, address);
+    }
+
+    /// The station with this address, 0 to 126, leaves the list, which is complete. (Token passing: a
+    /// next station that does not take the token.)
+    pub fn remove(&mut self, address: u8)
+        requires station { address < 127 }
+        requires complete { is_complete self.old.stage ≡ true }
+        ensures { self.new ≡ removed self.old address }
+    {
+        self.stage = removed_stage(self.stage, address);
+    }
+
+    /// Whether the station with this address, 0 to 126, is in the list. Before the list is complete none is.
+    pub fn contains(&self, address: u8) -> bool
+        requires { address < 127 }
+        ensures { result ≡ is_member (members_of self.now.stage) address }
+    {
+        active_stations(self.stage).contains(address)
+    }
+
+    /// The next station (NS) of the station `ts`, 0 to 126: the next address of the list above it, else the
+    /// lowest. A station is its own next one where no other is in the list.
+    pub fn ns(&self, ts: u8) -> u8
+        requires { ts < 127 }
+        ensures { result ≡ next_address ts (members_of self.now.stage) }
+    {
+        active_stations(self.stage).first_behind(ts).unwrap_or(ts)
+    }
+
+    /// The previous station (PS) of the station `ts`, 0 to 126: the next address of the list below it, else
+    /// the highest. A station is its own previous one where no other is in the list.
+    pub fn ps(&self, ts: u8) -> u8
+        requires { ts < 127 }
+        ensures { result ≡ previous_address ts (members_of self.now.stage) }
+    {
+        active_stations(self.stage).last_before(ts).unwrap_or(ts)
+    }
+
+    /// The station itself, with the address `ts`, 0 to 126, joins the ring and enters the list, which is
+    /// complete. No token has skipped it yet. The last heard token stays remembered.
+    pub fn ready(&mut self, ts: u8)
+        requires station { ts < 127 }
+        requires complete { is_complete self.old.stage ≡ true }
+        ensures { self.new ≡ readied self.old ts }
+    {
+        self.stage = readied_stage(self.stage, ts);
+    }
+
+    /// How many token telegrams have skipped the station since it joined the ring, or since the last token
+    /// from or to it: those between others, with the station strictly between them. It stays at 255, and is
+    /// 0 where the station has not joined.
+    pub fn skipped(&self) -> u8
+        ensures { result ≡ skips_of (place_of self.now.stage) }
+    {
+        match self.stage {
+            Stage::Complete(_, Some(place)) => place.skipped,
+            _ => 0,
+        }
+    }
+}

@@ -1,0 +1,4 @@
+use super::*;
+
+mod heard;
+mod rows;

@@ -1,0 +1,4 @@
+pub mod ParamRules
+pub mod ParamViews
+pub mod ParamWords
+pub mod Timers

@@ -1,0 +1,41 @@
+-- The rules of the bus parameters: each fault with the test of its condition, in order.
+use Rattle.std.specs.Prelude.{◌≡◌, ℕ, ◌+◌, ◌≤◌, ◌<◌, Bool, nat_lt, nat_le, not, ◌&&◌, List, [], ◌∷◌}
+use Rattle.pb_timers.specs.Timers.{Params}
+use Rattle.pb_timers.specs.declared.params.ParamFault.{ParamFault}
+use Rattle.pb_timers.specs.declared.params.ParamFault.TheVariants.{Slot, IdleShort, IdleOrder, ReplyShort, Rotation, GapFactor, Highest, Retries, TakeLate, ReplyLate}
+
+-- the number is not in the range, whose ends are in it
+abbrev pub is_outside : ℕ → ℕ → ℕ → Bool
+is_outside low high n = not (nat_le low n && nat_le n high)
+
+abbrev pub param_faults : Params → List (Bool × ParamFault)
+param_faults p =
+    (is_outside 100 16383 p.tsl, Slot)
+    ∷ (nat_lt p.tid1 33, IdleShort)
+    ∷ (nat_lt p.tid2 p.tid1, IdleOrder)
+    ∷ (nat_lt p.tsdr 11, ReplyShort)
+    ∷ (is_outside 256 16777215 p.ttr, Rotation)
+    ∷ (is_outside 1 100 p.gap, GapFactor)
+    ∷ (is_outside 2 126 p.hsa, Highest)
+    ∷ (nat_lt 7 p.retries, Retries)
+    ∷ (nat_le p.tsl (p.tid2 + p.lag), TakeLate)
+    ∷ (nat_le p.tsl (p.tsdr + p.lag), ReplyLate)
+    ∷ []
+
+-- parameters that meet all ten rules, without a cable delay
+pub record IsValid (p : Params) : Type 0 where
+  pub slot_long : 100 ≤ p.tsl
+  pub slot_short : p.tsl ≤ 16383
+  pub idle : 33 ≤ p.tid1
+  pub idle_order : p.tid1 ≤ p.tid2
+  pub reply : 11 ≤ p.tsdr
+  pub rotation_long : 256 ≤ p.ttr
+  pub rotation_short : p.ttr ≤ 16777215
+  pub gap_some : 1 ≤ p.gap
+  pub gap_bound : p.gap ≤ 100
+  pub highest_some : 2 ≤ p.hsa
+  pub highest_station : p.hsa ≤ 126
+  pub retries_bound : p.retries ≤ 7
+  pub take_in_time : p.tid2 + p.lag < p.tsl
+  pub reply_in_time : p.tsdr + p.lag < p.tsl
+  pub no_delay : p.ttd ≡ 0

@@ -1,0 +1,16 @@
+//! The times of a bus: the parameters that all stations of a segment share, moments, and how long
+//! octets take.
+//!
+//! All times are whole bit times. No call takes memory.
+#![tactic(auto)]
+
+mod durations;
+mod moments;
+mod params;
+
+pub use durations::bits;
+pub use moments::{ClockFull, Moment};
+pub use params::{BusParams, ParamFault};
+
+#[cfg(test)]
+mod tests;

@@ -1,0 +1,266 @@
+ghost use Rattle.std.specs.Prelude.{◌≡◌, Some, None, IfOk, IfErr, OnOk};
+ghost use Rattle.pb_refusals.specs.FirstFault.{first_fault};
+ghost use Rattle.pb_timers.specs.Timers.{tto};
+ghost use Rattle.pb_timers.specs.ParamRules.{is_outside};
+
+use std::marker::Model;
+use thiserror::Error;
+
+/// Why parameters are refused: the first fault that applies, in the order of the numbers. All limits
+/// are this profile's.
+#[derive(Clone, Copy, Debug, PartialEq, Eq, Error)]
+pub enum ParamFault {
+    /// 1: the slot time is not in 100 to 16383.
+    #[error("Slot")]
+    Slot,
+    /// 2: idle time 1 is under 33.
+    #[error("IdleShort")]
+    IdleShort,
+    /// 3: idle time 2 is under idle time 1.
+    #[error("IdleOrder")]
+    IdleOrder,
+    /// 4: the reply delay is under 11.
+    #[error("ReplyShort")]
+    ReplyShort,
+    /// 5: the target rotation time is not in 256 to 16777215.
+    #[error("Rotation")]
+    Rotation,
+    /// 6: the GAP factor is not in 1 to 100.
+    #[error("GapFactor")]
+    GapFactor,
+    /// 7: the highest station address is not in 2 to 126.
+    #[error("Highest")]
+    Highest,
+    /// 8: there are more than 7 retries.
+    #[error("Retries")]
+    Retries,
+    /// 9: idle time 2 and the lag reach the slot time.
+    #[error("TakeLate")]
+    TakeLate,
+    /// 10: the reply delay and the lag reach the slot time.
+    #[error("ReplyLate")]
+    ReplyLate,
+}
+
+impl ParamFault {
+    ghost use Rattle.pb_timers.specs.ParamWords.{number_of};
+
+    /// The fault's number, 1 to 10: its place in the order in which faults are looked for.
+    pub fn number(&self) -> u8
+        ensures { result ≡ number_of self.now }
+    {
+        match self {
+            ParamFault::Slot => 1,
+            ParamFault::IdleShort => 2,
+            ParamFault::IdleOrder => 3,
+            ParamFault::ReplyShort => 4,
+            ParamFault::Rotation => 5,
+            ParamFault::GapFactor => 6,
+            ParamFault::Highest => 7,
+            ParamFault::Retries => 8,
+            ParamFault::TakeLate => 9,
+            ParamFault::ReplyLate => 10,
+        }
+    }
+}
+
+/// The parameters that all stations of a segment share, in bit times (IEC 61158-4-3, timing
+/// parameters). Each value meets all ten rules.
+#[derive(Clone, Copy, Debug)]
+pub struct BusParams {
+    tsl: u32,
+    tid1: u32,
+    tid2: u32,
+    tsdr: u32,
+    lag: u32,
+    ttr: u32,
+    gap: u32,
+    hsa: u32,
+    retries: u32,
+}
+
+impl Model for BusParams {
+    ghost use Rattle.pb_timers.specs.Timers.{Params};
+
+    ghost Value = { Params };
+
+    ghost use Rattle.pb_timers.specs.ParamRules.{IsValid};
+    ghost use Rattle.pb_timers.specs.ParamViews.{params_of, params_inside};
+
+    ghost view = { params_of };
+
+    ghost invariant = { λ b. IsValid (params_of b) };
+
+    ghost inverse = { params_inside };
+}
+
+/// Whether the number is not in the range, whose ends are in it.
+fn is_outside(low: u32, high: u32, number: u32) -> bool
+    ensures { result ≡ is_outside low high number }
+{
+    number < low || number > high
+}
+
+impl BusParams {
+    ghost use Rattle.pb_timers.specs.ParamRules.{param_faults, IsValid};
+
+    /// Parameters that meet all ten rules, or the least fault that applies.
+    ///
+    /// The arguments are the slot time, idle times 1 and 2, the reply delay, the take lag and the
+    /// target rotation time in bit times, the GAP factor, the highest station address, and the
+    /// retries of a cycle.
+    #[expect(clippy::too_many_arguments)]
+    pub fn new(
+        tsl: u32,
+        tid1: u32,
+        tid2: u32,
+        tsdr: u32,
+        lag: u32,
+        ttr: u32,
+        gap: u32,
+        hsa: u32,
+        retries: u32,
+    ) -> Result<BusParams, ParamFault>
+        ensures value { IfOk result (λ p. p ≡ record {
+          tsl = tsl;
+          tid1 = tid1;
+          tid2 = tid2;
+          tsdr = tsdr;
+          lag = lag;
+          ttr = ttr;
+          gap = gap;
+          hsa = hsa;
+          retries = retries;
+          ttd = 0;
+        }) }
+        ensures valid { IfOk result (λ p. first_fault (param_faults p) ≡ None) }
+        ensures fault { IfErr result (λ fault. first_fault (param_faults (record {
+          tsl = tsl;
+          tid1 = tid1;
+          tid2 = tid2;
+          tsdr = tsdr;
+          lag = lag;
+          ttr = ttr;
+          gap = gap;
+          hsa = hsa;
+          retries = retries;
+          ttd = 0;
+        })) ≡ Some fault) }
+    {
+        if is_outside(100, 16_383, tsl) {
+            return Err(ParamFault::Slot);
+        }
+        if tid1 < 33 {
+            return Err(ParamFault::IdleShort);
+        }
+        if tid2 < tid1 {
+            return Err(ParamFault::IdleOrder);
+        }
+        if tsdr < 11 {
+            return Err(ParamFault::ReplyShort);
+        }
+        if is_outside(256, 16_777_215, ttr) {
+            return Err(ParamFault::Rotation);
+        }
+        if is_outside(1, 100, gap) {
+            return Err(ParamFault::GapFactor);
+        }
+        if is_outside(2, 126, hsa) {
+            return Err(ParamFault::Highest);
+        }
+        if retries > 7 {
+            return Err(ParamFault::Retries);
+        }
+        if u64::from(tid2) + u64::from(lag) >= u64::from(tsl) {
+            return Err(ParamFault::TakeLate);
+        }
+        if u64::from(tsdr) + u64::from(lag) >= u64::from(tsl) {
+            return Err(ParamFault::ReplyLate);
+        }
+        Ok(BusParams {
+            tsl,
+            tid1,
+            tid2,
+            tsdr,
+            lag,
+            ttr,
+            gap,
+            hsa,
+            retries,
+        })
+    }
+
+    /// The slot time, in bit times.
+    pub fn tsl(&self) -> u32
+        ensures { result ≡ self.now.tsl }
+    {
+        self.tsl
+    }
+
+    /// Idle time 1, after a reply, an acknowledgement or a token, in bit times.
+    pub fn tid1(&self) -> u32
+        ensures { result ≡ self.now.tid1 }
+    {
+        self.tid1
+    }
+
+    /// Idle time 2, after a request that nobody answers, in bit times.
+    pub fn tid2(&self) -> u32
+        ensures { result ≡ self.now.tid2 }
+    {
+        self.tid2
+    }
+
+    /// The reply delay of a responder, in bit times.
+    pub fn tsdr(&self) -> u32
+        ensures { result ≡ self.now.tsdr }
+    {
+        self.tsdr
+    }
+
+    /// How late a station may take its turn, in bit times.
+    pub fn lag(&self) -> u32
+        ensures { result ≡ self.now.lag }
+    {
+        self.lag
+    }
+
+    /// The target rotation time, in bit times.
+    pub fn ttr(&self) -> u32
+        ensures { result ≡ self.now.ttr }
+    {
+        self.ttr
+    }
+
+    /// The GAP factor: how many target rotation times lie between two GAP rounds.
+    pub fn gap(&self) -> u32
+        ensures { result ≡ self.now.gap }
+    {
+        self.gap
+    }
+
+    /// The highest station address.
+    pub fn hsa(&self) -> u32
+        ensures value { result ≡ self.now.hsa }
+        ensures valid { IsValid self.now }
+    {
+        self.hsa
+    }
+
+    /// How often a request is sent again.
+    pub fn retries(&self) -> u32
+        ensures { result ≡ self.now.retries }
+    {
+        self.retries
+    }
+
+    /// The time-out of a station: how long it waits in silence before it claims the token,
+    /// `6*tsl + 2*addr*tsl` bit times (EN 50170-2, time-out time).
+    pub fn tto(&self, addr: u8) -> u64
+        ensures value { result ≡ tto self.now addr }
+        ensures valid { IsValid self.now }
+    {
+        let tsl = u64::from(self.tsl);
+        6 * tsl + 2 * u64::from(addr) * tsl
+    }
+}

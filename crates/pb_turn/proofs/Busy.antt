@@ -1,0 +1,188 @@
+-- A station that is busy says nothing.
+use Rattle.std.proofs.Common.{◌≡◌, ◌∙◌, ℕ, ◌+◌, ◌==◌, List, [], ◌∷◌, Bool, true, false, if◌then◌else◌, refl, ap, sym, Option, Some, None}
+use Rattle.std.specs.Prelude.{nat_le, nat_lt}
+use Rattle.pb_timers.specs.Timers.{Params}
+use Rattle.pb_ring.specs.Gap.{next_asked, last_asked, round_after}
+use Rattle.pb_ring.specs.Las.{place_of, skips_of}
+use Rattle.pb_cycles.specs.Messages.{has_bit}
+use Rattle.pb_cycles.specs.Outcomes.{status_reply}
+use Rattle.pb_cycles.specs.declared.messages.Message.TheVariants as message
+use Rattle.pb_turn.specs.Arrivals.{Arrival, Token, Framed, Acknowledgement, NoTelegram, arrival_of}
+use Rattle.pb_turn.specs.Hearing.{timed_out, after_timer, phase_timed_out, phase_begun, listening_hears, taking, is_taken_from, skips_limit, token_in_idle, idle_hears, holder_hears, status_told, awaiting_status_hears, checking_hears, with_token, lost, phase_ended, heard, after_mark}
+use Rattle.pb_turn.specs.Laws.{IsSilentWhileBusy}
+use Rattle.pb_turn.specs.Marks.{Mark, Begin, End, moment_of}
+use Rattle.pb_turn.specs.Phases.{Phase, Offline, PassiveIdle, Listening, Idle, Claim, Use, AwaitStatus, Pass, Checking, is_offline}
+use Rattle.pb_turn.specs.Stations.{Station, Reply, phase_timer, timer_of, phase_speaks, speaks_at, next_station, previous_station, started}
+use Rattle.pb_turn.specs.Turns.{after_marks, settled, saying, received_own, says_token, looks_at_gap, says_look, replying, joining, says_reply, says_ready, phase_says, speech, turn_of, token_octets}
+use Rattle.pb_turn.proofs.Cases.{by_test}
+use Rattle.pb_turn.proofs.Paths.{at_end}
+
+-- ---- an end leaves the station as busy as it was when the phase hears it
+
+abbrev Busy : Bool → Station → Type 0
+Busy b s = s.busy ≡ b
+
+busy-token_in_idle : (p : Params) (s : Station) (refused : Option ℕ) (at da sa : ℕ) → Busy s.busy (token_in_idle p s refused at da sa)
+busy-token_in_idle p s refused at da sa =
+    let x = with_token s da sa in
+    by_test (Busy s.busy) (da == s.address) _ _
+    (λ _. by_test (Busy s.busy) (is_taken_from refused (previous_station s) sa) (taking p x at) _ (λ _. refl) (λ _. refl))
+    (λ _. by_test (Busy s.busy) (nat_le skips_limit (skips_of (place_of x.las.stage))) _ x (λ _. refl) (λ _. refl))
+
+busy-idle_hears : (p : Params) (s : Station) (refused : Option ℕ) (at : ℕ) (a : Arrival) → Busy s.busy (idle_hears p s refused at a)
+busy-idle_hears p s refused at (Token da sa) = busy-token_in_idle p s refused at da sa
+busy-idle_hears p s refused at (Framed f) = refl
+busy-idle_hears p s refused at Acknowledgement = refl
+busy-idle_hears p s refused at NoTelegram = refl
+
+busy-listening_hears : (p : Params) (s : Station) (doubled : Bool) (at : ℕ) (a : Arrival) → Busy s.busy (listening_hears p s doubled at a)
+busy-listening_hears p s doubled at (Token da sa) = refl
+busy-listening_hears p s doubled at (Framed f) = refl
+busy-listening_hears p s doubled at Acknowledgement = refl
+busy-listening_hears p s doubled at NoTelegram = refl
+
+busy-holder_hears : (s : Station) (a : Arrival) → Busy s.busy (holder_hears s a)
+busy-holder_hears s (Token da sa) = refl
+busy-holder_hears s (Framed f) = refl
+busy-holder_hears s Acknowledgement = refl
+busy-holder_hears s NoTelegram = refl
+
+busy-status_told : (p : Params) (s : Station) (of at : ℕ) (fc : Option ℕ) → Busy s.busy (status_told p s of at fc)
+busy-status_told p s of at None = refl
+busy-status_told p s of at (Some fc) = refl
+
+busy-awaiting : (p : Params) (s : Station) (of at : ℕ) (a : Arrival) → Busy s.busy (awaiting_status_hears p s of at a)
+busy-awaiting p s of at (Token da sa) = refl
+busy-awaiting p s of at (Framed f) =
+    by_test (Busy s.busy) (has_bit f.fc 6) (lost s) _ (λ _. refl) (λ _. busy-status_told p s of at (status_reply s.address of (message.Framed f)))
+busy-awaiting p s of at Acknowledgement = refl
+busy-awaiting p s of at NoTelegram = refl
+
+busy-checking : (p : Params) (again : Bool) (s : Station) (tries at : ℕ) (a : Arrival) → Busy s.busy (checking_hears p again s tries at a)
+busy-checking p again s tries at (Token da sa) = busy-idle_hears p (lost s) None at (Token da sa)
+busy-checking p again s tries at (Framed f) = refl
+busy-checking p again s tries at Acknowledgement = refl
+busy-checking p again s tries at NoTelegram = by_test (Busy s.busy) again _ (lost s) (λ _. refl) (λ _. refl)
+
+busy-ended : (p : Params) (again : Bool) (s : Station) (ph : Phase) (at : ℕ) (a : Arrival) → Busy s.busy (phase_ended p again s ph at a)
+busy-ended p again s Offline at a = refl
+busy-ended p again s PassiveIdle at a = refl
+busy-ended p again s (Listening doubled) at a = busy-listening_hears p s doubled at a
+busy-ended p again s (Idle refused) at a = busy-idle_hears p s refused at a
+busy-ended p again s (Claim sent ready) at a = busy-holder_hears s a
+busy-ended p again s (Use asked ready) at a = busy-holder_hears s a
+busy-ended p again s (AwaitStatus of slot) at a = busy-awaiting p s of at a
+busy-ended p again s (Pass tries ready) at a = busy-holder_hears s a
+busy-ended p again s (Checking tries) at a = busy-checking p again s tries at a
+
+-- ---- marks and timers
+
+silent-begun : (ph : Phase) (own at : ℕ) → phase_speaks None (phase_begun ph own at) ≡ None
+silent-begun Offline own at = refl
+silent-begun PassiveIdle own at = refl
+silent-begun (Listening doubled) own at = refl
+silent-begun (Idle refused) own at = refl
+silent-begun (Claim sent ready) own at = refl
+silent-begun (Use asked ready) own at = refl
+silent-begun (AwaitStatus of slot) own at = refl
+silent-begun (Pass tries ready) own at = refl
+silent-begun (Checking tries) own at = refl
+
+silent-heard : (p : Params) (again : Bool) (s : Station) (m : Mark) → IsSilentWhileBusy (heard p again s m)
+silent-heard p again s (Begin at seen) busy = silent-begun s.phase s.own.begin at
+silent-heard p again s (End at seen chars) busy =
+    absurd (let wrong : false ≡ true = sym (busy-ended p again (at_end s at) s.phase at (arrival_of chars)) ∙ busy in cc)
+
+silent-after_mark : (p : Params) (again : Bool) (s : Station) (m : Mark) → IsSilentWhileBusy s → IsSilentWhileBusy (after_mark p again s m)
+silent-after_mark p again s m silent =
+    by_test IsSilentWhileBusy (is_offline s.phase) s (heard p again s m) (λ _. silent) (λ _. silent-heard p again s m)
+
+-- no timer ends while the station is busy
+timed_out-busy : (p : Params) (limit : ℕ) (s : Station) → s.busy ≡ true → after_timer p limit s ≡ s
+timed_out-busy p limit s busy = ap (λ (b : Bool). timed_out s (if b then None else phase_timer p s s.phase) limit) busy
+
+busy-phase_timed_out : (s : Station) (ph : Phase) (t : ℕ) → Busy s.busy (phase_timed_out s ph t)
+busy-phase_timed_out s Offline t = refl
+busy-phase_timed_out s PassiveIdle t = refl
+busy-phase_timed_out s (Listening doubled) t = refl
+busy-phase_timed_out s (Idle refused) t = refl
+busy-phase_timed_out s (Claim sent ready) t = refl
+busy-phase_timed_out s (Use asked ready) t = refl
+busy-phase_timed_out s (AwaitStatus of slot) t = refl
+busy-phase_timed_out s (Pass tries ready) t = refl
+busy-phase_timed_out s (Checking tries) t = by_test (Busy s.busy) _ _ _ (λ _. refl) (λ _. refl)
+
+busy-after_timer : (p : Params) (limit : ℕ) (s : Station) → Busy s.busy (after_timer p limit s)
+busy-after_timer p limit s = by_timer (timer_of p s)
+  where
+    by_timer : (o : Option ℕ) → Busy s.busy (timed_out s o limit)
+    by_timer None = refl
+    by_timer (Some t) = by_test (Busy s.busy) (nat_lt t limit) (phase_timed_out s s.phase t) s (λ _. busy-phase_timed_out s s.phase t) (λ _. refl)
+
+silent-after_timer : (p : Params) (limit : ℕ) (s : Station) → IsSilentWhileBusy s → IsSilentWhileBusy (after_timer p limit s)
+silent-after_timer p limit s silent busy =
+    let before : s.busy ≡ true = sym (busy-after_timer p limit s) ∙ busy in
+    ap speaks_at (timed_out-busy p limit s before) ∙ silent before
+
+silent-after_marks : (p : Params) (again : Bool) (s : Station) (marks : List Mark) → IsSilentWhileBusy s → IsSilentWhileBusy (after_marks p again s marks)
+silent-after_marks p again s [] silent = silent
+silent-after_marks p again s (m ∷ marks) silent =
+    let x = after_timer p (moment_of m) s in
+    silent-after_marks p again (after_mark p again x m) marks (silent-after_mark p again x m (silent-after_timer p (moment_of m) s silent))
+
+silent-settled : (p : Params) (again : Bool) (s : Station) (marks : List Mark) (now : ℕ) → IsSilentWhileBusy s → IsSilentWhileBusy (settled p again s marks now)
+silent-settled p again s marks now silent = silent-after_timer p (now + 1) (after_marks p again s marks) (silent-after_marks p again s marks silent)
+
+-- ---- speech
+
+busy-says_token : (p : Params) (s : Station) (tries now : ℕ) → Busy s.busy (says_token p s tries now).0
+busy-says_token p s tries now =
+    let x = saying s now (token_octets (next_station s) s.address) in
+    by_test (Busy s.busy) (next_station s == s.address) (received_own p x) _ (λ _. refl) (λ _. refl)
+
+busy-says_look : (p : Params) (s : Station) (next : Option ℕ) (now : ℕ) → Busy s.busy (says_look p s next now).0
+busy-says_look p s None now = busy-says_token p (record s { gap = round_after None now }) 0 now
+busy-says_look p s (Some a) now = refl
+
+busy-says_reply : (s : Station) (o : Option Reply) (now : ℕ) → Busy s.busy (says_reply s o now).0
+busy-says_reply s None now = refl
+busy-says_reply s (Some r) now = refl
+
+busy-says_ready : (s : Station) (o : Option Reply) (now : ℕ) → Busy s.busy (says_ready s o now).0
+busy-says_ready s None now = refl
+busy-says_ready s (Some r) now =
+    let x = replying s now r in by_test (Busy s.busy) r.joins (joining x) x (λ _. refl) (λ _. refl)
+
+busy-phase_says : (p : Params) (s : Station) (ph : Phase) (now : ℕ) → Busy s.busy (phase_says p s ph now).0
+busy-phase_says p s Offline now = refl
+busy-phase_says p s PassiveIdle now = busy-says_reply s s.reply now
+busy-phase_says p s (Listening doubled) now = busy-says_ready s s.reply now
+busy-phase_says p s (Idle refused) now = busy-says_reply s s.reply now
+busy-phase_says p s (Claim sent ready) now =
+    let x = saying s now (token_octets s.address s.address) in by_test (Busy s.busy) (sent == 0) _ (received_own p x) (λ _. refl) (λ _. refl)
+busy-phase_says p s (Use asked ready) now =
+    by_test (λ (turn : Station × Option (List ℕ)). Busy s.busy turn.0) (looks_at_gap p s asked now) _ _
+    (λ _. busy-says_look p s (next_asked s.address (next_station s) p.hsa (last_asked s.gap)) now) (λ _. busy-says_token p s 0 now)
+busy-phase_says p s (AwaitStatus of slot) now = refl
+busy-phase_says p s (Pass tries ready) now = busy-says_token p s tries now
+busy-phase_says p s (Checking tries) now = refl
+
+busy-speech : (p : Params) (s : Station) (o : Option ℕ) (now : ℕ) → Busy s.busy (speech p s o now).0
+busy-speech p s None now = refl
+busy-speech p s (Some moment) now =
+    by_test (λ (turn : Station × Option (List ℕ)). Busy s.busy turn.0) (nat_le moment now) (phase_says p s s.phase now) (s, None)
+    (λ _. busy-phase_says p s s.phase now) (λ _. refl)
+
+pub silent-busy : (p : Params) (again : Bool) (s : Station) (marks : List Mark) (now : ℕ) → IsSilentWhileBusy s
+    → (settled p again s marks now).busy ≡ true → turn_of p again s marks now ≡ (settled p again s marks now, None)
+silent-busy p again s marks now silent busy =
+    let x = settled p again s marks now in ap (λ (o : Option ℕ). speech p x o now) (silent-settled p again s marks now silent busy)
+
+pub silent-turn_of : (p : Params) (again : Bool) (s : Station) (marks : List Mark) (now : ℕ) → IsSilentWhileBusy s → IsSilentWhileBusy (turn_of p again s marks now).0
+silent-turn_of p again s marks now silent busy =
+    let x = settled p again s marks now in
+    let before : x.busy ≡ true = sym (busy-speech p x (speaks_at x) now) ∙ busy in
+    ap (λ (turn : Station × Option (List ℕ)). speaks_at turn.0) (silent-busy p again s marks now silent before) ∙ silent-settled p again s marks now silent before
+
+pub silent-started : (p : Params) (s : Station) (master : Bool) (now : ℕ) → IsSilentWhileBusy (started p s master now)
+silent-started p s master now busy = absurd (let wrong : false ≡ true = busy in cc)

@@ -1,0 +1,223 @@
+-- What a station makes of its timers and of what it hears.
+use Rattle.std.specs.Prelude.{ℕ, ◌+◌, ◌/◌, ◌%◌, Bool, true, false, if◌then◌else◌, ◌==◌, nat_lt, nat_le, ◌||◌, ◌&&◌, [], max, Option, Some, None}
+use Rattle.pb_timers.specs.Timers.{Params}
+use Rattle.pb_ring.specs.Las as las
+use Rattle.pb_ring.specs.Las.{place_of, skips_of}
+use Rattle.pb_ring.specs.declared.gaps.Round.TheVariants.{Open}
+use Rattle.pb_rotation.specs.Rotation.{received, fresh}
+use Rattle.pb_cycles.specs.Fields.{Fields}
+use Rattle.pb_cycles.specs.Messages.{has_bit, address_in, reply_octets}
+use Rattle.pb_cycles.specs.Outcomes.{status_reply}
+use Rattle.pb_cycles.specs.Requests.{asked_by}
+use Rattle.pb_cycles.specs.Responding.{reply_frame}
+use Rattle.pb_cycles.specs.declared.messages.Message.TheVariants as message
+use Rattle.pb_cycles.specs.declared.services.Asked.{Asked}
+use Rattle.pb_cycles.specs.declared.services.Asked.TheVariants.{Send, Status, Unknown}
+use Rattle.pb_turn.specs.Arrivals.{Arrival, Token, Framed, Acknowledgement, NoTelegram, arrival_of}
+use Rattle.pb_turn.specs.Marks.{Mark, Begin, End}
+use Rattle.pb_turn.specs.Phases.{Phase, Offline, PassiveIdle, Listening, Idle, Claim, Use, AwaitStatus, Pass, Checking, is_offline}
+use Rattle.pb_turn.specs.Stations.{Station, Reply, timer_of, slot_timer, next_station, previous_station}
+
+-- ---- timers
+
+-- after a long silence the station claims the token: it is alone in its ring, and knows nothing of the others
+abbrev pub claiming : Station → ℕ → Station
+claiming s t = record s {
+  phase = Claim 0 t;
+  reply = None;
+  las = las.claimed s.address;
+  gap = Open None;
+  rotation = fresh s.rotation.ttr;
+}
+
+-- how often the token is tried at a successor
+abbrev pub tries_limit : ℕ
+tries_limit = 3
+
+-- nobody took the token: it is passed again, after the last try to the station behind
+abbrev pub not_taken : Station → ℕ → ℕ → Station
+not_taken s tries t =
+    if nat_le tries_limit tries then record s { phase = Pass 0 t; las = las.removed s.las (next_station s) }
+    else record s { phase = Pass tries t }
+
+-- the station after the timer of its phase has ended at t
+abbrev pub phase_timed_out : Station → Phase → ℕ → Station
+phase_timed_out s Offline t = s
+phase_timed_out s PassiveIdle t = s
+phase_timed_out s (Listening doubled) t = claiming s t
+phase_timed_out s (Idle refused) t = claiming s t
+phase_timed_out s (Claim sent ready) t = s
+phase_timed_out s (Use asked ready) t = s
+phase_timed_out s (AwaitStatus of slot) t = record s { phase = Use true t }
+phase_timed_out s (Pass tries ready) t = s
+phase_timed_out s (Checking tries) t = not_taken s tries t
+
+abbrev pub timed_out : Station → Option ℕ → ℕ → Station
+timed_out s None limit = s
+timed_out s (Some t) limit = if nat_lt t limit then phase_timed_out s s.phase t else s
+
+-- the station after its timer, where that ends before the limit
+abbrev pub after_timer : Params → ℕ → Station → Station
+after_timer p limit s = timed_out s (timer_of p s) limit
+
+-- ---- activity begins
+
+-- The phase after activity has begun at a moment. A slot is over at the first Begin from the own telegram's beginning on.
+abbrev pub phase_begun : Phase → ℕ → ℕ → Phase
+phase_begun Offline own at = Offline
+phase_begun PassiveIdle own at = PassiveIdle
+phase_begun (Listening doubled) own at = Listening doubled
+phase_begun (Idle refused) own at = Idle refused
+phase_begun (Claim sent ready) own at = Idle None
+phase_begun (Use asked ready) own at = Idle None
+phase_begun (AwaitStatus of slot) own at = AwaitStatus of (slot && nat_lt at own)
+phase_begun (Pass tries ready) own at = Idle None
+phase_begun (Checking tries) own at = Checking tries
+
+-- a reply that is not sent yet is dropped
+abbrev pub begun : Station → ℕ → Station
+begun s at = record s { busy = true; reply = None; phase = phase_begun s.phase s.own.begin at }
+
+-- ---- activity ends
+
+-- the station of a master, in the reply to a request for its status
+abbrev pub not_ready : ℕ
+not_ready = 1
+
+abbrev pub ready_for_ring : ℕ
+ready_for_ring = 2
+
+abbrev pub in_ring : ℕ
+in_ring = 3
+
+abbrev pub is_status : Asked → Bool
+is_status (Send service high) = false
+is_status Status = true
+is_status Unknown = false
+
+-- a request for the status of the station ts
+abbrev pub asks_status : ℕ → Fields → Bool
+asks_status ts f = has_bit f.fc 6 && (is_status (asked_by (f.fc % 16)) && address_in f.da == ts)
+
+-- the answer to a request for the status that ended at a moment
+abbrev pub status_answer : Params → Station → ℕ → Fields → ℕ → Bool → Option Reply
+status_answer p s at f station_type joins =
+    if asks_status s.address f
+    then Some (record { ready = at + p.tsdr; octets = reply_octets (reply_frame s.address station_type f 0 []); joins = joins })
+    else None
+
+-- one that listens is ready for the ring once its list is complete
+abbrev pub listening_answer : Params → Station → ℕ → Fields → Option Reply
+listening_answer p s at f =
+    if las.is_complete s.las.stage then status_answer p s at f ready_for_ring true else status_answer p s at f not_ready false
+
+-- a token goes to the list of active stations
+abbrev pub with_token : Station → ℕ → ℕ → Station
+with_token s da sa = record s { las = las.heard s.las sa da }
+
+-- one that hears a second token with its own address as the source gives way to its namesake
+abbrev pub doubled_by : Bool → ℕ → ℕ → Phase
+doubled_by doubled sa ts = if sa == ts then if doubled then Offline else Listening true else Listening doubled
+
+abbrev pub listening_hears : Params → Station → Bool → ℕ → Arrival → Station
+listening_hears p s doubled at (Token da sa) = record (with_token s da sa) { phase = doubled_by doubled sa s.address }
+listening_hears p s doubled at (Framed f) = record s { reply = listening_answer p s at f }
+listening_hears p s doubled at Acknowledgement = s
+listening_hears p s doubled at NoTelegram = s
+
+-- the token is taken
+abbrev pub taking : Params → Station → ℕ → Station
+taking p s at = record s { phase = Use false (at + p.tid1); rotation = received s.rotation at }
+
+abbrev pub is_offered_again : Option ℕ → ℕ → Bool
+is_offered_again None sa = false
+is_offered_again (Some refused) sa = refused == sa
+
+-- whether a token from sa is taken: it comes from the previous station, or from the one whose token was refused before
+abbrev pub is_taken_from : Option ℕ → ℕ → ℕ → Bool
+is_taken_from refused ps sa = sa == ps || is_offered_again refused sa
+
+-- a token to the station itself
+abbrev pub own_token : Params → Station → Bool → ℕ → ℕ → Station
+own_token p s taken sa at = if taken then taking p s at else record s { phase = Idle (Some sa) }
+
+-- one that was skipped twice listens anew, with nothing heard
+abbrev pub skips_limit : ℕ
+skips_limit = 2
+
+abbrev pub foreign_token : Station → Station
+foreign_token s =
+    if nat_le skips_limit (skips_of (place_of s.las.stage)) then record s { phase = Listening false; las = las.listening } else s
+
+-- Idle hears a token; its previous station is that before the token corrects the list
+abbrev pub token_in_idle : Params → Station → Option ℕ → ℕ → ℕ → ℕ → Station
+token_in_idle p s refused at da sa =
+    if da == s.address then own_token p (with_token s da sa) (is_taken_from refused (previous_station s) sa) sa at
+    else foreign_token (with_token s da sa)
+
+abbrev pub idle_hears : Params → Station → Option ℕ → ℕ → Arrival → Station
+idle_hears p s refused at (Token da sa) = token_in_idle p s refused at da sa
+idle_hears p s refused at (Framed f) = record s { reply = status_answer p s at f in_ring false }
+idle_hears p s refused at Acknowledgement = s
+idle_hears p s refused at NoTelegram = s
+
+-- a holder that hears a token gives way, and takes note of it
+abbrev pub holder_hears : Station → Arrival → Station
+holder_hears s (Token da sa) = with_token s da sa
+holder_hears s (Framed f) = s
+holder_hears s Acknowledgement = s
+holder_hears s NoTelegram = s
+
+-- the station that was asked is ready for the ring: a reply of this type with code 0
+abbrev pub tells_ready : ℕ → Bool
+tells_ready fc = fc / 16 % 4 == ready_for_ring && fc % 16 == 0
+
+-- after a reply to the question for the status
+abbrev pub status_told : Params → Station → ℕ → ℕ → Option ℕ → Station
+status_told p s of at None = record s { phase = Use true (max at s.own.end + p.tid1) }
+status_told p s of at (Some fc) = record s {
+  phase = Use true (at + p.tid1);
+  las = if tells_ready fc then las.entered s.las of else s.las;
+}
+
+-- a token or a request of another station: the token is lost to it
+abbrev pub lost : Station → Station
+lost s = record s { phase = Idle None }
+
+abbrev pub awaiting_status_hears : Params → Station → ℕ → ℕ → Arrival → Station
+awaiting_status_hears p s of at (Token da sa) = lost (with_token s da sa)
+awaiting_status_hears p s of at (Framed f) = if has_bit f.fc 6 then lost s else status_told p s of at (status_reply s.address of (message.Framed f))
+awaiting_status_hears p s of at Acknowledgement = status_told p s of at None
+awaiting_status_hears p s of at NoTelegram = status_told p s of at None
+
+-- Checking hears an end: a whole telegram is heard as in Idle. After anything else the choice says whether the token is passed again.
+abbrev pub checking_hears : Params → Bool → Station → ℕ → ℕ → Arrival → Station
+checking_hears p again s tries at (Token da sa) = idle_hears p (lost s) None at (Token da sa)
+checking_hears p again s tries at (Framed f) = idle_hears p (lost s) None at (Framed f)
+checking_hears p again s tries at Acknowledgement = lost s
+checking_hears p again s tries at NoTelegram = if again then record s { phase = Pass tries (max at (slot_timer p s)) } else lost s
+
+-- the station after activity has ended
+abbrev pub phase_ended : Params → Bool → Station → Phase → ℕ → Arrival → Station
+phase_ended p again s Offline at arrival = s
+phase_ended p again s PassiveIdle at arrival = s
+phase_ended p again s (Listening doubled) at arrival = listening_hears p s doubled at arrival
+phase_ended p again s (Idle refused) at arrival = idle_hears p s refused at arrival
+phase_ended p again s (Claim sent ready) at arrival = holder_hears s arrival
+phase_ended p again s (Use asked ready) at arrival = holder_hears s arrival
+phase_ended p again s (AwaitStatus of slot) at arrival = awaiting_status_hears p s of at arrival
+phase_ended p again s (Pass tries ready) at arrival = holder_hears s arrival
+phase_ended p again s (Checking tries) at arrival = checking_hears p again s tries at arrival
+
+abbrev pub ended : Params → Bool → Station → ℕ → Arrival → Station
+ended p again s at arrival = phase_ended p again (record s { busy = false; quiet = max s.quiet at; reply = None }) s.phase at arrival
+
+-- ---- marks
+
+abbrev pub heard : Params → Bool → Station → Mark → Station
+heard p again s (Begin at seen) = begun s at
+heard p again s (End at seen chars) = ended p again s at (arrival_of chars)
+
+-- the station after a mark; one that is offline notices nothing
+abbrev pub after_mark : Params → Bool → Station → Mark → Station
+after_mark p again s m = if is_offline s.phase then s else heard p again s m

@@ -1,0 +1,9 @@
+pub mod Arrivals
+pub mod Hearing
+pub mod Laws
+pub mod Marks
+pub mod Pasts
+pub mod Phases
+pub mod Spans
+pub mod Stations
+pub mod Turns

@@ -1,0 +1,37 @@
+-- The phases of a station.
+use Rattle.std.specs.Prelude.{ℕ, Bool, true, false, Option}
+
+-- A holder's `ready` is the earliest moment at which it speaks.
+pub data Phase : Type 0 where
+  Offline : Phase
+  PassiveIdle : Phase
+  -- whether a token was heard that had the own address as its source
+  Listening : (doubled : Bool) → Phase
+  -- with the station whose token to this one was not accepted
+  Idle : (refused : Option ℕ) → Phase
+  -- with how many of the two claim tokens are sent
+  Claim : (sent ready : ℕ) → Phase
+  -- with whether a station was asked for its status since the receipt of the token
+  Use : (asked : Bool) (ready : ℕ) → Phase
+  -- with the station that was asked for its status, and whether its slot still runs
+  AwaitStatus : (of : ℕ) (slot : Bool) → Phase
+  -- with how often the token was sent to this successor
+  Pass : (tries ready : ℕ) → Phase
+  -- the token is sent, and the station waits for a sign that it was taken
+  Checking : (tries : ℕ) → Phase
+
+-- whether the station may initiate
+abbrev pub may_initiate : Phase → Bool
+may_initiate Offline = false
+may_initiate PassiveIdle = false
+may_initiate (Listening doubled) = false
+may_initiate (Idle refused) = false
+may_initiate (Claim sent ready) = true
+may_initiate (Use asked ready) = true
+may_initiate (AwaitStatus of slot) = true
+may_initiate (Pass tries ready) = true
+may_initiate (Checking tries) = false
+
+abbrev pub is_offline : Phase → Bool
+is_offline Offline = true
+is_offline phase = false

@@ -1,0 +1,109 @@
+ghost use Rattle.std.specs.Prelude.{◌≡◌, ◌+◌, ◌<◌, ◌≤◌, ◌⊎◌, ℕ, Bool, true, false, List, [], ◌∷◌, length, Some, None, IfSome, IsSome};
+ghost use Rattle.pb_telegram.specs.declared.chars.RxChar.{RxChar};
+ghost use Rattle.pb_timers.specs.Timers.{Params, bits};
+ghost use Rattle.pb_turn.specs.Arrivals.{Token, arrival_of};
+ghost use Rattle.pb_turn.specs.Marks.{Mark, End, moment_of};
+ghost use Rattle.pb_turn.specs.Phases.{Offline, Listening, Idle, AwaitStatus, Checking, may_initiate};
+ghost use Rattle.pb_turn.specs.Stations.{Station, timer_of, speaks_at, due_of, previous_station, started};
+ghost use Rattle.pb_turn.specs.Hearing.{phase_timed_out, after_mark};
+ghost use Rattle.pb_turn.specs.Turns.{after_marks, settled, phase_says, turn_of};
+ghost use Rattle.pb_turn.specs.Pasts.{Past, nothing, past_after_turn, StandsForPast};
+ghost use Rattle.pb_turn.specs.Laws.{IsDueLater, is_checking, are_initiator, HasReply, IsSilentWhileBusy};
+
+/// After a turn the station is due later than the clock, or not at all.
+pub fn a_turn_leaves_the_due_later()
+    ensures { (p : Params) (again : Bool) (s : Station) (marks : List Mark) (now : ℕ) → IsDueLater p (turn_of p again s marks now).0 now }
+{}
+
+/// A turn with nothing to read and nothing due changes nothing and says nothing.
+pub fn nothing_due_changes_nothing()
+    ensures { (p : Params) (again : Bool) (s : Station) (now : ℕ) → IsDueLater p s now → turn_of p again s [] now ≡ (s, None) }
+{}
+
+/// A station that is offline notices nothing and says nothing.
+pub fn who_is_offline_says_nothing()
+    ensures { (p : Params) (again : Bool) (s : Station) (marks : List Mark) (now : ℕ) → s.phase ≡ Offline → turn_of p again s marks now ≡ (s, None) }
+{}
+
+/// While a station is busy its timer waits, however late it is.
+pub fn a_busy_station_waits()
+    ensures { (p : Params) (again : Bool) (s : Station) (now : ℕ) → s.busy ≡ true → speaks_at s ≡ None → turn_of p again s [] now ≡ (s, None) }
+{}
+
+/// A mark is ordered against the timer by its own moment, and comes first at a tie.
+pub fn a_mark_comes_before_a_timer_at_its_moment()
+    ensures mark { (p : Params) (again : Bool) (s : Station) (m : Mark) (marks : List Mark) → IfSome (timer_of p s) (λ t. moment_of m ≤ t)
+        → after_marks p again s (m ∷ marks) ≡ after_marks p again (after_mark p again s m) marks }
+    ensures timer { (p : Params) (again : Bool) (s : Station) (t : ℕ) (m : Mark) (marks : List Mark) → timer_of p s ≡ Some t → t < moment_of m
+        → after_marks p again s (m ∷ marks) ≡ after_marks p again (after_mark p again (phase_timed_out s s.phase t) m) marks }
+{}
+
+/// A station that has passed the token, or asked for a status, waits for activity until a slot time after
+/// the end of its telegram.
+pub fn a_slot_counts_from_the_end()
+    ensures checking { (p : Params) (again : Bool) (s : Station) (marks : List Mark) (now tries : ℕ) (octets : List ℕ)
+        → (turn_of p again s marks now).1 ≡ Some octets → (turn_of p again s marks now).0.phase ≡ Checking tries → (turn_of p again s marks now).0.busy ≡ false
+        → due_of p (turn_of p again s marks now).0 [] ≡ Some (now + bits (length octets) + p.tsl) }
+    ensures asking { (p : Params) (again : Bool) (s : Station) (marks : List Mark) (now of : ℕ) (octets : List ℕ)
+        → (turn_of p again s marks now).1 ≡ Some octets → (turn_of p again s marks now).0.phase ≡ AwaitStatus of true → (turn_of p again s marks now).0.busy ≡ false
+        → due_of p (turn_of p again s marks now).0 [] ≡ Some (now + bits (length octets) + p.tsl) }
+{}
+
+/// Only a station in Checking asks whether the token is passed again, and an End takes it out of
+/// Checking: the choice is asked at most once in a turn.
+pub fn the_choice_is_asked_at_most_once()
+    ensures elsewhere { (p : Params) (a b : Bool) (s : Station) (marks : List Mark) → is_checking s.phase ≡ false
+        → after_marks p a s marks ≡ after_marks p b s marks }
+    ensures once { (p : Params) (again : Bool) (s : Station) (at seen : ℕ) (chars : List RxChar)
+        → is_checking (after_mark p again s (End at seen chars)).phase ≡ false }
+{}
+
+/// Speech is not optional: a station whose speaking moment has come, once it has read its marks and
+/// timers, says what its phase says, and no other says anything.
+pub fn a_station_that_is_due_speaks()
+    ensures due { (p : Params) (again : Bool) (s : Station) (marks : List Mark) (now moment : ℕ)
+        → speaks_at (settled p again s marks now) ≡ Some moment → moment ≤ now
+        → turn_of p again s marks now ≡ phase_says p (settled p again s marks now) (settled p again s marks now).phase now }
+    ensures speaks { (p : Params) (s : Station) (now moment : ℕ) → speaks_at s ≡ Some moment → IsSome (phase_says p s s.phase now).1 }
+    ensures not_due { (p : Params) (again : Bool) (s : Station) (marks : List Mark) (now : ℕ)
+        → IfSome (speaks_at (settled p again s marks now)) (λ moment. now < moment) → (turn_of p again s marks now).1 ≡ None }
+{}
+
+/// A station that listens takes no token, whatever it hears.
+pub fn one_that_listens_takes_no_token()
+    ensures { (p : Params) (again : Bool) (s : Station) (m : Mark) (doubled : Bool) → s.phase ≡ Listening doubled
+        → may_initiate (after_mark p again s m).phase ≡ false }
+{}
+
+/// A station in Idle that has refused nobody takes a token from its previous station alone.
+pub fn a_first_token_is_taken_from_the_previous_station()
+    ensures { (p : Params) (again : Bool) (s : Station) (at seen : ℕ) (chars : List RxChar) → s.phase ≡ Idle None
+        → may_initiate (after_mark p again s (End at seen chars)).phase ≡ true → arrival_of chars ≡ Token s.address (previous_station s) }
+{}
+
+/// Nobody but a holder says a token or a request: a station that does, may initiate as it speaks.
+pub fn only_a_holder_initiates()
+    ensures started { (p : Params) (s : Station) (master : Bool) (now : ℕ) → HasReply (started p s master now) }
+    ensures speech { (p : Params) (again : Bool) (s : Station) (marks : List Mark) (now : ℕ) → HasReply s
+        → IfSome (turn_of p again s marks now).1 (λ octets. are_initiator octets ≡ true → may_initiate (settled p again s marks now).phase ≡ true) }
+    ensures reply { (p : Params) (again : Bool) (s : Station) (marks : List Mark) (now : ℕ) → HasReply s → HasReply (turn_of p again s marks now).0 }
+    ensures fits { (p : Params) (again : Bool) (s : Station) (marks : List Mark) (now : ℕ) → HasReply s
+        → IfSome (turn_of p again s marks now).1 (λ octets. (0 < length octets) × (length octets ≤ 255)) }
+{}
+
+/// The list of active stations, the GAP and the rotation of a station stand for what it heard, asked and
+/// received since each of them began: they do as it starts, and a turn adds to both what happens in it. A
+/// claim begins all of them anew, joining the ring the last two, and listening anew the list.
+pub fn the_tables_stand_for_what_was_heard_asked_and_received()
+    ensures started { (p : Params) (s : Station) (master : Bool) (now : ℕ) → s.address < 127 → StandsForPast p (started p s master now) nothing }
+    ensures turn { (p : Params) (again : Bool) (s : Station) (marks : List Mark) (now : ℕ) (past : Past) → p.hsa < 127 → StandsForPast p s past
+        → StandsForPast p (turn_of p again s marks now).0 (past_after_turn p again s marks now past) }
+{}
+
+/// A station that knows of activity says nothing: nobody speaks between a Begin that it has read and its End.
+pub fn a_busy_station_says_nothing()
+    ensures started { (p : Params) (s : Station) (master : Bool) (now : ℕ) → IsSilentWhileBusy (started p s master now) }
+    ensures turn { (p : Params) (again : Bool) (s : Station) (marks : List Mark) (now : ℕ) → IsSilentWhileBusy s → IsSilentWhileBusy (turn_of p again s marks now).0 }
+    ensures silent { (p : Params) (again : Bool) (s : Station) (marks : List Mark) (now : ℕ) → IsSilentWhileBusy s
+        → (settled p again s marks now).busy ≡ true → turn_of p again s marks now ≡ (settled p again s marks now, None) }
+{}
