@@ -1,6 +1,7 @@
 //! The lines that playing an event list prints.
 
 use crate::lists::EventList;
+use pb_timers::Moment;
 use pb_world::{Entry, Event, Heard, NewFault, Record, Reply, World, WorldFault};
 use std::alloc::{AllocError, Global};
 use std::fmt;
@@ -101,9 +102,9 @@ fn push_taps(text: &mut String, world: &World, taps: usize) -> Result<(), AllocE
 }
 
 /// Appends the moment of a tap's next turn.
-fn push_due(text: &mut String, due: Option<u64>) -> Result<(), AllocError> {
+fn push_due(text: &mut String, due: Option<Moment>) -> Result<(), AllocError> {
     match due {
-        Some(moment) => writeln!(text, "{moment}"),
+        Some(moment) => writeln!(text, "{}", moment.get()),
         None => writeln!(text, "none"),
     }
 }

@@ -122,12 +122,12 @@ struct WrittenList<'a> {
     events: Vec<WrittenEvent>,
 }
 
-/// The rules that a list is written for: stations pass tokens alone, and none stops.
+/// The rules that a list is written for: a station that hears damage of its token may pass it again.
 #[derive(Clone, Copy, Debug, Default, Deserialize)]
 #[serde(rename_all = "lowercase")]
 enum Stage {
     #[default]
-    First,
+    Weak,
 }
 
 /// A tap as it is written.

@@ -1,7 +1,7 @@
 -- Tests, choices by them, and the earlier of two moments.
 use Rattle.std.proofs.Common.{ℕ, ◌<◌, arith, Option, Some, None}
 use Rattle.std.specs.Prelude.{IfSome}
-use Rattle.pb_model.specs.Station.{earlier}
+use Rattle.pb_turn.specs.Stations.{earlier}
 pub use Rattle.pb_turn.proofs.Cases.{by_test}
 
 -- where each of two moments is later than the clock, so is the earlier

@@ -1,5 +1,4 @@
 pub mod Cases
-pub mod Turns
 pub mod Bursts
 pub mod Sensed
 pub mod Marked
@@ -7,4 +6,3 @@ pub mod Worlds
 pub mod Passes
 pub mod WholeTelegrams
 pub mod Past
-pub mod Choice

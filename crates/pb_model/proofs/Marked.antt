@@ -3,7 +3,7 @@ use Rattle.std.proofs.Common.{◌≡◌, ℕ, ◌+◌, ◌<◌, ◌≤◌, List,
 use Rattle.std.specs.Prelude.{nat_lt, nat_le, find, IfSome}
 use Rattle.std.proofs.lemmas.Bool.{ltb-true, leb-true, and_parts}
 use Rattle.pb_turn.specs.Spans.{Span}
-use Rattle.pb_model.specs.Marks.{Mark, moment_of}
+use Rattle.pb_turn.specs.Marks.{Mark, moment_of}
 use Rattle.pb_model.specs.Trace.{Entry}
 use Rattle.pb_model.specs.Medium.{Tap, burst_begins, burst_ends, begins_in, ends_in, begin_mark, end_mark, marks_between, new_marks, sensed}
 use Rattle.pb_model.specs.World.{next_end_of}

@@ -3,7 +3,7 @@ use Rattle.std.proofs.Common.{◌≡◌, ℕ, ◌+◌, ◌<◌, ◌≤◌, List,
 use Rattle.std.specs.Prelude.{slice_get}
 use Rattle.std.proofs.lemmas.Bool.{eqb-false}
 use Rattle.std.proofs.lemmas.Option.{none-some, same_Some}
-use Rattle.pb_model.specs.Marks.{Mark}
+use Rattle.pb_turn.specs.Marks.{Mark}
 use Rattle.pb_model.specs.Trace.{Entry}
 use Rattle.pb_model.specs.Medium.{Tap, sensed, marks_between, new_marks, entry_at}
 use Rattle.pb_model.specs.World.{World, Reply}

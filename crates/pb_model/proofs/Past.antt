@@ -10,10 +10,10 @@ use Rattle.std.proofs.lemmas.List.Sums.{sum_by-cons}
 use Rattle.std.proofs.lemmas.Bool.Decides.{nat_tests}
 use Rattle.pb_telegram.specs.Faults.{is_bad}
 use Rattle.pb_turn.specs.Spans.{Span}
-use Rattle.pb_model.specs.Marks.{Mark, End}
+use Rattle.pb_turn.specs.Marks.{Mark, End}
 use Rattle.pb_model.specs.Trace.{Heard, Record, Entry, Sent, Noise, characters_at}
 use Rattle.pb_model.specs.Medium.{Tap, begins_at, ends_at, lasts_through, overlaps, part_after, reaches, is_unheard, at_tap, sensed, burst_begins, burst_ends, hears_from, sends_during, fills_burst, fills_burst_to, entry_characters, begins_in, ends_in, begin_mark, end_mark, marks_between, is_whole_at, heard_in_the_end, heard_by, ends_between, entry_at}
-use Rattle.pb_model.specs.Station.{earlier}
+use Rattle.pb_turn.specs.Stations.{earlier}
 use Rattle.pb_model.specs.World.{later_end, next_end_of}
 use Rattle.pb_model.specs.Laws.{AllOver, AllFrom}
 use Rattle.pb_model.proofs.Cases.{by_test}

@@ -5,7 +5,7 @@ use Rattle.std.specs.List.{cons_option}
 use Rattle.std.specs.Option.{option_and_then}
 use Rattle.std.proofs.lemmas.Bool.{ltb-true, ltb-false, le-ltb, eq-eqb}
 use Rattle.pb_turn.specs.Spans.{Span}
-use Rattle.pb_model.specs.Station.{earlier}
+use Rattle.pb_turn.specs.Stations.{earlier}
 use Rattle.pb_model.specs.Trace.{Record, Entry, Sent, Noise, entry_begin, goes_before, with_entry}
 use Rattle.pb_model.specs.Medium.{lasts_through, part_after, reaches, is_unheard, at_tap, sensed}
 use Rattle.pb_model.specs.World.{later_end, entry_next_end, next_end_of}

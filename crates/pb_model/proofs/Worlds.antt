@@ -1,21 +1,22 @@
 -- What every event keeps of a world.
-use Rattle.std.proofs.Common.{◌≡◌, ℕ, ◌+◌, ◌<◌, ◌≤◌, List, [], ◌∷◌, length, map, Bool, not, ◌||◌, ◌&&◌, ◌==◌, refl, ap, sym, ◌∙◌, subst, arith, Option, Some, None, Ok, Err, zero, suc}
-use Rattle.std.specs.Prelude.{nat_le, slice_get, slice_set, is_some, is_none, find}
+use Rattle.std.proofs.Common.{◌≡◌, ℕ, ◌+◌, ◌<◌, ◌≤◌, List, [], ◌∷◌, length, map, Bool, not, ◌||◌, ◌&&◌, ◌==◌, refl, ap, subst, arith, Option, Some, None, Ok, Err, zero, suc}
+use Rattle.std.specs.Prelude.{IfSome, nat_le, slice_get, slice_set, is_some, is_none, find}
 use Rattle.std.specs.List.{list_any}
 use Rattle.std.proofs.lemmas.Bool.{eqb-false}
 use Rattle.std.proofs.lemmas.Option.{none-some, same_Some}
 use Rattle.pb_refusals.specs.FirstFault.{first_fault, NoneHolds}
 use Rattle.pb_refusals.proofs.FirstFaults.{none_holds}
 use Rattle.pb_timers.specs.Timers.{Params}
-use Rattle.pb_model.specs.Station.{Station, speaks_at}
-use Rattle.pb_model.specs.Turn.{turn_of, settled, speech, spoken, phase_says}
+use Rattle.pb_turn.specs.Laws.{HasReply}
+use Rattle.pb_turn.specs.Stations.{started}
+use Rattle.pb_turn.specs.Turns.{turn_of}
+use Rattle.pb_turn.proofs.Initiating.{fits-turn_of, reply-turn_of}
 use Rattle.pb_model.specs.Trace.{Hit, Entry, Sent, Noise, entry_begin, entry_end, goes_before, with_entry}
 use Rattle.pb_model.specs.Medium.{TapSpec, Tap, reaches, ends_between, entry_at, heard_by}
-use Rattle.pb_model.specs.World.{World, Event, Turn, Pass, Damage, Start, Reply, Fault, NoSuchTap, Running, NotRunning, NothingInAir, TraceFull, trace_limit, unless, unless_fault, is_in_air_by, new_world, stopped_tap, master_addresses, new_faults}
+use Rattle.pb_model.specs.World.{World, Event, Turn, Pass, Damage, Start, Reply, Fault, NoSuchTap, Running, NotRunning, NothingInAir, TraceFull, trace_limit, unless, unless_fault, is_in_air_by, new_world, stopped_tap, new_faults}
 use Rattle.pb_model.specs.Step.{sending, with_speech, step_turn, told, pass_faults, step_pass, with_hit, change_first, has_place, step_damage, started_tap, step_start, step, world_after, replay}
-use Rattle.pb_model.specs.Laws.{AllBegun, AllInOrder, InOrder, IsSound}
+use Rattle.pb_model.specs.Laws.{AllBegun, AllInOrder, InOrder, AllReply, IsSound}
 use Rattle.pb_model.proofs.Cases.{by_test}
-use Rattle.pb_model.proofs.Turns.{length-phase_says}
 use Rattle.pb_model.proofs.Marked.{in_order-told}
 
 -- ---- an event that is refused, or not
@@ -69,26 +70,33 @@ started-at now [] i t all e = absurd (none-some t e)
 started-at now (x ∷ xs) zero t all e = subst (λ (y : Tap). y.since ≤ now) (same_Some x t e) all.0
 started-at now (x ∷ xs) (suc i) t all e = started-at now xs i t all.2 e
 
+reply-set : (ts : List Tap) (i : ℕ) (t : Tap) → HasReply t.station → AllReply ts → AllReply (slice_set ts i t)
+reply-set [] i t has all = tt
+reply-set (x ∷ xs) zero t has all = (has, all.1)
+reply-set (x ∷ xs) (suc i) t has all = (all.0, reply-set xs i t has all.1)
+
+reply-at : (ts : List Tap) (i : ℕ) (t : Tap) → AllReply ts → slice_get ts i ≡ Some t → HasReply t.station
+reply-at [] i t all e = absurd (none-some t e)
+reply-at (x ∷ xs) zero t all e = subst (λ (y : Tap). HasReply y.station) (same_Some x t e) all.0
+reply-at (x ∷ xs) (suc i) t all e = reply-at xs i t all.1 e
+
+reply-told : (delay : ℕ) (trace : List Entry) (from to tap : ℕ) (ts : List Tap) → AllReply ts → AllReply (told delay trace from to tap ts)
+reply-told delay trace from to tap [] all = tt
+reply-told delay trace from to tap (t ∷ ts) all = (all.0, reply-told delay trace from to (tap + 1) ts all.1)
+
 -- ---- Turn
 
-length-speech : (p : Params) (s : Station) (o : Option ℕ) (now : ℕ) (octets : List ℕ) → (speech p s o now).1 ≡ Some octets → length octets ≡ 3
-length-speech p s None now octets = λ said. absurd (none-some octets said)
-length-speech p s (Some moment) now octets =
-    by_test (λ (turn : Station × Option (List ℕ)). turn.1 ≡ Some octets → length octets ≡ 3) (nat_le moment now) (spoken p s now (phase_says s s.phase)) (s, None)
-    (λ _ said. ap length (sym (same_Some (phase_says s s.phase) octets said)) ∙ length-phase_says s s.phase)
-    (λ _ said. absurd (none-some octets said))
-
-begun-with_speech : (w : World) (tap : ℕ) (o : Option (List ℕ)) → ((octets : List ℕ) → o ≡ Some octets → length octets ≡ 3) → AllBegun w.now w.trace
+begun-with_speech : (w : World) (tap : ℕ) (o : Option (List ℕ)) → IfSome o (λ octets. (0 < length octets) × (length octets ≤ 255)) → AllBegun w.now w.trace
     → AllBegun w.now (with_speech w tap o)
-begun-with_speech w tap None three all = all
-begun-with_speech w tap (Some octets) three all =
-    begun-with_entry w.now (Sent (sending tap octets w.now w.taps)) w.trace (omega arith) (omega (arith, three octets refl)) all
+begun-with_speech w tap None fits all = all
+begun-with_speech w tap (Some octets) fits all =
+    begun-with_entry w.now (Sent (sending tap octets w.now w.taps)) w.trace (omega arith) (omega (arith, fits.0)) all
 
 sound-turn : (again : Bool) (w : World) (tap : ℕ) (o : Option Tap) → slice_get w.taps tap ≡ o → IsSound w → IsSound (world_after w (step_turn again w tap o))
 sound-turn again w tap None e sound = sound
 sound-turn again w tap (Some t) e sound =
     let turn = turn_of w.params again t.station t.marks w.now in
-    let x = settled w.params again t.station t.marks w.now in
+    let has : HasReply t.station = reply-at w.taps tap t sound.replies e in
     world_after-unless IsSound w
     (record w { trace = with_speech w tap turn.1; taps = slice_set w.taps tap (record t { station = turn.0; marks = [] }) })
     (record { now = w.now; spoke = turn.1 })
@@ -96,7 +104,8 @@ sound-turn again w tap (Some t) e sound =
     sound
     (λ _. record {
       no_delay = sound.no_delay;
-      begun = begun-with_speech w tap turn.1 (λ octets said. length-speech w.params x (speaks_at x) w.now octets said) sound.begun;
+      begun = begun-with_speech w tap turn.1 (fits-turn_of w.params again t.station t.marks w.now has) sound.begun;
+      replies = reply-set w.taps tap (record t { station = turn.0; marks = [] }) (reply-turn_of w.params again t.station t.marks w.now has) sound.replies;
       in_order = in_order-set w.now w.taps tap (record t { station = turn.0; marks = [] }) (started-at w.now w.taps tap t sound.in_order e) (omega arith) sound.in_order;
     })
 
@@ -113,6 +122,7 @@ sound-pass w d sound =
       begun = begun-entry_at w.params.ttd w.taps w.trace w.now now w.trace (omega arith) sound.begun;
       in_order = in_order-told w.params.ttd w.trace w.now now 0 w.taps sound.no_delay
           (let some : d ≡ 0 → ⊥ = eqb-false d 0 none.0 in grind (arith, some)) sound.begun none.1.0 sound.in_order;
+      replies = reply-told w.params.ttd w.trace w.now now 0 w.taps sound.replies;
     })
 
 -- ---- Damage and Start
@@ -124,7 +134,7 @@ sound-damage w tap speaker place at from sound =
     world_after-unless IsSound w (record w { trace = change_first in_air (with_hit hit) w.trace }) (record { now = w.now; spoke = None })
     ((is_none at || is_none from, NoSuchTap) ∷ (tap == speaker || not (has_place (find in_air w.trace) place), NothingInAir) ∷ [])
     sound
-    (λ _. record { no_delay = sound.no_delay; begun = begun-change_first w.now in_air hit w.trace sound.begun; in_order = sound.in_order })
+    (λ _. record { no_delay = sound.no_delay; begun = begun-change_first w.now in_air hit w.trace sound.begun; in_order = sound.in_order; replies = sound.replies })
 
 sound-start : (w : World) (tap : ℕ) (o : Option Tap) → IsSound w → IsSound (world_after w (step_start w tap o))
 sound-start w tap None sound = sound
@@ -136,6 +146,7 @@ sound-start w tap (Some t) sound =
       no_delay = sound.no_delay;
       begun = sound.begun;
       in_order = in_order-set w.now w.taps tap (started_tap w tap t) (omega arith) (omega arith) sound.in_order;
+      replies = reply-set w.taps tap (started_tap w tap t) tt sound.replies;
     })
 
 -- ---- every event
@@ -152,9 +163,13 @@ sound-replay w (e ∷ es) sound = sound-replay (world_after w (step e.0 w e.1)) 
 
 -- ---- a new world
 
-sound-stopped_taps : (ring : List ℕ) (specs : List TapSpec) → AllInOrder 0 (map (stopped_tap ring) specs)
-sound-stopped_taps ring [] = tt
-sound-stopped_taps ring (spec ∷ specs) = (omega arith, omega arith, sound-stopped_taps ring specs)
+sound-stopped_taps : (p : Params) (specs : List TapSpec) → AllInOrder 0 (map (stopped_tap p) specs)
+sound-stopped_taps p [] = tt
+sound-stopped_taps p (spec ∷ specs) = (omega arith, omega arith, sound-stopped_taps p specs)
+
+reply-stopped_taps : (p : Params) (specs : List TapSpec) → AllReply (map (stopped_tap p) specs)
+reply-stopped_taps p [] = tt
+reply-stopped_taps p (spec ∷ specs) = (tt, reply-stopped_taps p specs)
 
 -- what a call that was not refused gives
 pub unless-Ok : {F X : Type 0} (tests : List (Bool × F)) (x y : X) → unless tests x ≡ Ok y → NoneHolds tests × (x ≡ y)
@@ -166,9 +181,9 @@ unless-Ok {F} {X} tests x y = by_fault (first_fault tests) refl
 
 pub sound-new_world : (p : Params) (specs : List TapSpec) (w : World) → p.ttd ≡ 0 → new_world p specs ≡ Ok w → IsSound w
 sound-new_world p specs w none new =
-    let made : World = record { params = p; now = 0; trace = []; taps = map (stopped_tap (master_addresses specs)) specs } in
+    let made : World = record { params = p; now = 0; trace = []; taps = map (stopped_tap p) specs } in
     let same = unless-Ok (new_faults p specs) made w new in
-    subst IsSound same.1 (record { no_delay = none; begun = tt; in_order = sound-stopped_taps (master_addresses specs) specs })
+    subst IsSound same.1 (record { no_delay = none; begun = tt; in_order = sound-stopped_taps p specs; replies = reply-stopped_taps p specs })
 
 -- ---- the clock
 

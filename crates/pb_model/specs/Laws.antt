@@ -1,24 +1,13 @@
 -- What the laws speak of.
-use Rattle.std.specs.Prelude.{◌≡◌, ℕ, ◌<◌, ◌≤◌, Bool, true, false, List, [], ◌∷◌, ◌++◌, if◌then◌else◌, slice_get, count_by, Some, IfSome}
+use Rattle.std.specs.Prelude.{◌≡◌, ℕ, ◌<◌, ◌≤◌, Bool, true, false, List, [], ◌∷◌, ◌++◌, if◌then◌else◌, slice_get, count_by, Some}
 use Rattle.std.specs.List.{list_any}
 use Rattle.pb_telegram.specs.declared.chars.RxChar.{RxChar}
-use Rattle.pb_timers.specs.Timers.{Params}
 use Rattle.pb_turn.specs.Spans.{Span}
-use Rattle.pb_model.specs.Marks.{Mark, Begin, End, moment_of}
-use Rattle.pb_model.specs.Station.{Phase, Checking, Station, due_of}
+use Rattle.pb_turn.specs.Marks.{Mark, Begin, End, moment_of}
+use Rattle.pb_turn.specs.Laws.{HasReply}
 use Rattle.pb_model.specs.Trace.{Record, Entry, Sent, entry_begin, entry_end, characters_at}
 use Rattle.pb_model.specs.Medium.{Tap, lasts_through, overlaps, hears_from, sends_during, reaches, is_unheard, burst_begins, burst_ends, burst_characters, fills_burst, sensed}
 use Rattle.pb_model.specs.World.{World}
-
--- ---- stations
-
--- a station without unread marks is due later than the clock, or not at all
-abbrev pub IsDueLater : Params → Station → ℕ → Type 0
-IsDueLater p s now = IfSome (due_of p s []) (λ due. now < due)
-
-abbrev pub is_checking : Phase → Bool
-is_checking Checking = true
-is_checking phase = false
 
 -- ---- bursts
 
@@ -69,11 +58,17 @@ abbrev pub AllInOrder : ℕ → List Tap → Type 0
 AllInOrder now [] = Unit {0}
 AllInOrder now (t ∷ ts) = (t.since ≤ now) × InOrder 0 t.marks now × AllInOrder now ts
 
+-- the reply of each tap's station, if it has one that is not sent yet, is a telegram that a station without the token may say
+abbrev pub AllReply : List Tap → Type 0
+AllReply [] = Unit {0}
+AllReply (t ∷ ts) = HasReply t.station × AllReply ts
+
 -- what holds of a world that events have led to from a new one, on a bus without delay
 pub record IsSound (w : World) : Type 0 where
   pub no_delay : w.params.ttd ≡ 0
   pub begun : AllBegun w.now w.trace
   pub in_order : AllInOrder w.now w.taps
+  pub replies : AllReply w.taps
 
 -- the marks of a pass: a Begin exactly where a burst begins at the clock, and an End, with the burst's characters, exactly where one ends at the new clock
 abbrev pub marks_of_pass : ℕ → ℕ → Tap → List Entry → ℕ → ℕ → List Mark

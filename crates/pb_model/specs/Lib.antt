@@ -1,10 +1,6 @@
 pub mod Laws
-pub mod Marks
 pub mod Medium
-pub mod Ring
 pub mod Scenarios
-pub mod Station
 pub mod Step
 pub mod Trace
-pub mod Turn
 pub mod World

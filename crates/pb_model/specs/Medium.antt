@@ -6,8 +6,8 @@ use Rattle.pb_telegram.specs.Faults.{is_bad}
 use Rattle.pb_telegram.specs.declared.chars.RxChar.{RxChar}
 use Rattle.pb_telegram.specs.declared.chars.RxChar.TheVariants.{Bad}
 use Rattle.pb_turn.specs.Spans.{Span}
-use Rattle.pb_model.specs.Marks.{Mark, Begin, End}
-use Rattle.pb_model.specs.Station.{Station}
+use Rattle.pb_turn.specs.Marks.{Mark, Begin, End}
+use Rattle.pb_turn.specs.Stations.{Station}
 use Rattle.pb_model.specs.Trace.{Heard, Whole, Damaged, Unheard, Pending, Record, Entry, Sent, Noise, characters_at}
 
 -- what a tap is: its address, whether it is a master, and the data of its replies

@@ -1,8 +1,8 @@
 -- Worked scenarios: events, and what they lead to.
 use Rattle.std.specs.Prelude.{ℕ, Bool, true, List, [], ◌∷◌, map, Option, Some, None, Result, Ok, Err}
 use Rattle.pb_timers.specs.Timers.{Params}
-use Rattle.pb_model.specs.Station.{Phase, Pass as Passing, Checking, Use}
-use Rattle.pb_model.specs.Trace.{Entry, Sent, Own, Whole, Damaged}
+use Rattle.pb_turn.specs.Phases.{Phase, Checking, AwaitStatus}
+use Rattle.pb_model.specs.Trace.{Entry, Sent, Own, Whole, Damaged, Pending}
 use Rattle.pb_model.specs.Medium.{TapSpec}
 use Rattle.pb_model.specs.World.{World, NewFault, Event, Turn, Pass, Damage, Start, new_world}
 use Rattle.pb_model.specs.Step.{replay}
@@ -32,41 +32,62 @@ phases_of (Some w) = map (λ t. t.station.phase) w.taps
 abbrev pub two_masters : List TapSpec
 two_masters = master 1 ∷ master 2 ∷ []
 
--- two masters start, and the first claims the token and passes it to the second, which passes it back
-abbrev pub token_passed : List Event
-token_passed =
-    Start 0 ∷ Start 1 ∷ Pass 800 ∷ Turn 0 ∷ Pass 1 ∷ Turn 1 ∷ Pass 32 ∷ Turn 1 ∷ Pass 37 ∷ Turn 0 ∷ Pass 1 ∷
-    Turn 1 ∷ Pass 32 ∷ Turn 1 ∷ Pass 37 ∷ Turn 0 ∷ Pass 1 ∷ Turn 1 ∷ Pass 32 ∷ Turn 1 ∷ Pass 37 ∷ Turn 1 ∷ Pass 1 ∷
-    Turn 0 ∷ Pass 32 ∷ Turn 0 ∷ Pass 37 ∷ Turn 0 ∷ Pass 1 ∷ Turn 1 ∷ Pass 32 ∷ Turn 1 ∷ []
+-- a master alone claims the token, and asks a station of its GAP in each of its rotations
+abbrev pub alone : List Event
+alone =
+    Start 0 ∷ Pass 800 ∷ Turn 0 ∷ Pass 1 ∷ Pass 32 ∷ Pass 37 ∷ Turn 0 ∷ Pass 1 ∷ Pass 32 ∷ Pass 37 ∷
+    Turn 0 ∷ Pass 1 ∷ Pass 65 ∷ Pass 100 ∷ Turn 0 ∷ Pass 1 ∷ Pass 32 ∷ Pass 37 ∷ Turn 0 ∷ Pass 1 ∷
+    Pass 65 ∷ Pass 100 ∷ Turn 0 ∷ Pass 1 ∷ Pass 32 ∷ []
 
-abbrev pub token_passed_trace : List Entry
-token_passed_trace =
-    Sent (record { tap = 0; octets = 0xdc ∷ 0x01 ∷ 0x01 ∷ []; begin = 800; end = 833; hits = []; heard = Own ∷ Whole ∷ [] })
-    ∷ Sent (record { tap = 0; octets = 0xdc ∷ 0x01 ∷ 0x01 ∷ []; begin = 870; end = 903; hits = []; heard = Own ∷ Whole ∷ [] })
-    ∷ Sent (record { tap = 0; octets = 0xdc ∷ 0x02 ∷ 0x01 ∷ []; begin = 940; end = 973; hits = []; heard = Own ∷ Whole ∷ [] })
-    ∷ Sent (record { tap = 1; octets = 0xdc ∷ 0x01 ∷ 0x02 ∷ []; begin = 1010; end = 1043; hits = []; heard = Whole ∷ Own ∷ [] })
-    ∷ Sent (record { tap = 0; octets = 0xdc ∷ 0x02 ∷ 0x01 ∷ []; begin = 1080; end = 1113; hits = []; heard = Own ∷ Whole ∷ [] })
+abbrev pub alone_trace : List Entry
+alone_trace =
+    Sent (record { tap = 0; octets = 0xdc ∷ 0x01 ∷ 0x01 ∷ []; begin = 800; end = 833; hits = []; heard = Own ∷ [] })
+    ∷ Sent (record { tap = 0; octets = 0xdc ∷ 0x01 ∷ 0x01 ∷ []; begin = 870; end = 903; hits = []; heard = Own ∷ [] })
+    ∷ Sent (record { tap = 0; octets = 0x10 ∷ 0x02 ∷ 0x01 ∷ 0x49 ∷ 0x4c ∷ 0x16 ∷ []; begin = 940; end = 1006; hits = []; heard = Own ∷ [] })
+    ∷ Sent (record { tap = 0; octets = 0xdc ∷ 0x01 ∷ 0x01 ∷ []; begin = 1106; end = 1139; hits = []; heard = Own ∷ [] })
+    ∷ Sent (record { tap = 0; octets = 0x10 ∷ 0x03 ∷ 0x01 ∷ 0x49 ∷ 0x4d ∷ 0x16 ∷ []; begin = 1176; end = 1242; hits = []; heard = Own ∷ [] })
+    ∷ Sent (record { tap = 0; octets = 0xdc ∷ 0x01 ∷ 0x01 ∷ []; begin = 1342; end = 1375; hits = []; heard = Own ∷ [] })
     ∷ []
 
-abbrev pub three_masters : List TapSpec
-three_masters = master 1 ∷ master 2 ∷ master 3 ∷ []
+-- two masters start: the first claims the token, asks the second for its status and passes it the token
+abbrev pub ring_formed : List Event
+ring_formed =
+    Start 0 ∷ Start 1 ∷ Pass 800 ∷ Turn 0 ∷ Pass 1 ∷ Turn 1 ∷ Pass 32 ∷ Turn 1 ∷ Pass 37 ∷ Turn 0 ∷
+    Pass 1 ∷ Turn 1 ∷ Pass 32 ∷ Turn 1 ∷ Pass 37 ∷ Turn 0 ∷ Pass 1 ∷ Turn 1 ∷ Pass 65 ∷ Turn 1 ∷ Pass 11 ∷
+    Turn 1 ∷ Pass 1 ∷ Turn 0 ∷ Pass 65 ∷ Turn 0 ∷ Pass 37 ∷ Turn 0 ∷ Pass 1 ∷ Turn 1 ∷ Pass 32 ∷ Turn 1 ∷
+    Pass 37 ∷ Turn 1 ∷ Pass 1 ∷ Turn 0 ∷ Pass 65 ∷ Turn 0 ∷ Pass 100 ∷ Turn 1 ∷ Pass 1 ∷ Turn 0 ∷ Pass 32 ∷
+    Turn 0 ∷ []
 
--- of three masters, the first hears only damage of the token that the second passes on
+abbrev pub ring_formed_trace : List Entry
+ring_formed_trace =
+    Sent (record { tap = 0; octets = 0xdc ∷ 0x01 ∷ 0x01 ∷ []; begin = 800; end = 833; hits = []; heard = Own ∷ Whole ∷ [] })
+    ∷ Sent (record { tap = 0; octets = 0xdc ∷ 0x01 ∷ 0x01 ∷ []; begin = 870; end = 903; hits = []; heard = Own ∷ Whole ∷ [] })
+    ∷ Sent (record { tap = 0; octets = 0x10 ∷ 0x02 ∷ 0x01 ∷ 0x49 ∷ 0x4c ∷ 0x16 ∷ []; begin = 940; end = 1006; hits = []; heard = Own ∷ Whole ∷ [] })
+    ∷ Sent (record { tap = 1; octets = 0x10 ∷ 0x01 ∷ 0x02 ∷ 0x20 ∷ 0x23 ∷ 0x16 ∷ []; begin = 1017; end = 1083; hits = []; heard = Whole ∷ Own ∷ [] })
+    ∷ Sent (record { tap = 0; octets = 0xdc ∷ 0x02 ∷ 0x01 ∷ []; begin = 1120; end = 1153; hits = []; heard = Own ∷ Whole ∷ [] })
+    ∷ Sent (record { tap = 1; octets = 0x10 ∷ 0x03 ∷ 0x02 ∷ 0x49 ∷ 0x4e ∷ 0x16 ∷ []; begin = 1190; end = 1256; hits = []; heard = Whole ∷ Own ∷ [] })
+    ∷ Sent (record { tap = 1; octets = 0xdc ∷ 0x01 ∷ 0x02 ∷ []; begin = 1356; end = 1389; hits = []; heard = Whole ∷ Own ∷ [] })
+    ∷ []
+
+-- the first hears damage of what the second says with the token
 abbrev pub taker_damaged : List Event
 taker_damaged =
-    Start 0 ∷ Start 1 ∷ Start 2 ∷ Pass 800 ∷ Turn 0 ∷ Pass 1 ∷ Turn 1 ∷ Turn 2 ∷ Pass 32 ∷ Turn 1 ∷ Turn 2 ∷
-    Pass 37 ∷ Turn 0 ∷ Pass 1 ∷ Turn 1 ∷ Turn 2 ∷ Pass 32 ∷ Turn 1 ∷ Turn 2 ∷ Pass 37 ∷ Turn 0 ∷ Pass 1 ∷ Turn 1 ∷
-    Turn 2 ∷ Pass 32 ∷ Turn 1 ∷ Turn 2 ∷ Pass 37 ∷ Turn 1 ∷ Pass 1 ∷ Damage 0 1 None ∷ Turn 0 ∷ Turn 2 ∷ Pass 32 ∷
-    Turn 0 ∷ Turn 2 ∷ []
+    Start 0 ∷ Start 1 ∷ Pass 800 ∷ Turn 0 ∷ Pass 1 ∷ Turn 1 ∷ Pass 32 ∷ Turn 1 ∷ Pass 37 ∷ Turn 0 ∷
+    Pass 1 ∷ Turn 1 ∷ Pass 32 ∷ Turn 1 ∷ Pass 37 ∷ Turn 0 ∷ Pass 1 ∷ Turn 1 ∷ Pass 65 ∷ Turn 1 ∷ Pass 11 ∷
+    Turn 1 ∷ Pass 1 ∷ Turn 0 ∷ Pass 65 ∷ Turn 0 ∷ Pass 37 ∷ Turn 0 ∷ Pass 1 ∷ Turn 1 ∷ Pass 32 ∷ Turn 1 ∷
+    Pass 37 ∷ Turn 1 ∷ Pass 1 ∷ Damage 0 1 (Some 0) ∷ Turn 0 ∷ Pass 65 ∷ Turn 0 ∷ []
 
 abbrev pub taker_damaged_trace : List Entry
 taker_damaged_trace =
-    Sent (record { tap = 0; octets = 0xdc ∷ 0x01 ∷ 0x01 ∷ []; begin = 800; end = 833; hits = []; heard = Own ∷ Whole ∷ Whole ∷ [] })
-    ∷ Sent (record { tap = 0; octets = 0xdc ∷ 0x01 ∷ 0x01 ∷ []; begin = 870; end = 903; hits = []; heard = Own ∷ Whole ∷ Whole ∷ [] })
-    ∷ Sent (record { tap = 0; octets = 0xdc ∷ 0x02 ∷ 0x01 ∷ []; begin = 940; end = 973; hits = []; heard = Own ∷ Whole ∷ Whole ∷ [] })
-    ∷ Sent (record { tap = 1; octets = 0xdc ∷ 0x03 ∷ 0x02 ∷ []; begin = 1010; end = 1043; hits = record { tap = 0; place = None } ∷ []; heard = Damaged ∷ Own ∷ Whole ∷ [] })
+    Sent (record { tap = 0; octets = 0xdc ∷ 0x01 ∷ 0x01 ∷ []; begin = 800; end = 833; hits = []; heard = Own ∷ Whole ∷ [] })
+    ∷ Sent (record { tap = 0; octets = 0xdc ∷ 0x01 ∷ 0x01 ∷ []; begin = 870; end = 903; hits = []; heard = Own ∷ Whole ∷ [] })
+    ∷ Sent (record { tap = 0; octets = 0x10 ∷ 0x02 ∷ 0x01 ∷ 0x49 ∷ 0x4c ∷ 0x16 ∷ []; begin = 940; end = 1006; hits = []; heard = Own ∷ Whole ∷ [] })
+    ∷ Sent (record { tap = 1; octets = 0x10 ∷ 0x01 ∷ 0x02 ∷ 0x20 ∷ 0x23 ∷ 0x16 ∷ []; begin = 1017; end = 1083; hits = []; heard = Whole ∷ Own ∷ [] })
+    ∷ Sent (record { tap = 0; octets = 0xdc ∷ 0x02 ∷ 0x01 ∷ []; begin = 1120; end = 1153; hits = []; heard = Own ∷ Whole ∷ [] })
+    ∷ Sent (record { tap = 1; octets = 0x10 ∷ 0x03 ∷ 0x02 ∷ 0x49 ∷ 0x4e ∷ 0x16 ∷ []; begin = 1190; end = 1256; hits = record { tap = 0; place = Some 0 } ∷ []; heard = Damaged ∷ Own ∷ [] })
+    ∷ Sent (record { tap = 0; octets = 0xdc ∷ 0x02 ∷ 0x01 ∷ []; begin = 1256; end = 1289; hits = []; heard = Own ∷ Pending ∷ [] })
     ∷ []
 
--- two stations may initiate: the first is about to pass the token again, and the third has it
+-- the first has passed the token again, while the second waits for a reply
 abbrev pub taker_damaged_phases : List Phase
-taker_damaged_phases = Passing 1073 ∷ Checking ∷ Use 1080 ∷ []
+taker_damaged_phases = Checking 2 ∷ AwaitStatus 3 true ∷ []

@@ -3,8 +3,8 @@ use Rattle.std.specs.Prelude.{ℕ, ◌+◌, Bool, true, false, if◌then◌else�
 use Rattle.std.specs.List.{list_any}
 use Rattle.pb_timers.specs.Timers.{bits}
 use Rattle.pb_turn.specs.Spans.{Span}
-use Rattle.pb_model.specs.Station.{Station}
-use Rattle.pb_model.specs.Turn.{turn_of, started}
+use Rattle.pb_turn.specs.Stations.{Station, started}
+use Rattle.pb_turn.specs.Turns.{turn_of}
 use Rattle.pb_model.specs.Trace.{Record, Hit, Entry, Sent, Noise, with_entry, heard_at_first}
 use Rattle.pb_model.specs.Medium.{Tap, at_tap, contains_moment, new_marks, entry_at}
 use Rattle.pb_model.specs.World.{World, Event, Turn, Pass, Damage, Start, Reply, Fault, NoSuchTap, Running, NotRunning, NothingInAir, ZeroTime, TooFar, ClockFull, InboxFull, TraceFull, clock_limit, mark_limit, trace_limit, unless, next_end, is_in_air_by}
@@ -117,7 +117,7 @@ started_tap w tap t = record t {
   running = true;
   since = w.now;
   amid = list_any (reaches_now w.params.ttd tap w.now) w.trace;
-  station = started t.station t.spec.master w.now;
+  station = started w.params t.station t.spec.master w.now;
   marks = [];
 }
 

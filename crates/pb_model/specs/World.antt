@@ -1,8 +1,8 @@
 -- The world: taps on one medium, the clock and the trace; its events and their refusals.
-use Rattle.std.specs.Prelude.{ℕ, ◌+◌, Bool, false, if◌then◌else◌, ◌==◌, nat_lt, ◌&&◌, List, [], ◌∷◌, length, map, filter, Option, Some, None, Result, Ok, Err, is_some, unwrap_or}
+use Rattle.std.specs.Prelude.{ℕ, ◌+◌, Bool, false, if◌then◌else◌, ◌==◌, nat_lt, ◌&&◌, List, [], ◌∷◌, length, map, Option, Some, None, Result, Ok, Err, is_some, unwrap_or}
 use Rattle.pb_refusals.specs.FirstFault.{first_fault}
 use Rattle.pb_timers.specs.Timers.{Params}
-use Rattle.pb_model.specs.Station.{Offline, earlier}
+use Rattle.pb_turn.specs.Stations.{earlier, new_station}
 use Rattle.pb_model.specs.Trace.{Entry, Sent, Noise}
 use Rattle.pb_model.specs.Medium.{TapSpec, Tap, reaches}
 
@@ -71,18 +71,14 @@ unless tests x = unless_fault (first_fault tests) x
 
 -- ---- a new world
 
--- the ring of each master: until it learns the ring, it is the set of all master addresses
-abbrev pub master_addresses : List TapSpec → List ℕ
-master_addresses specs = map (λ spec. spec.address) (filter (λ spec. spec.master) specs)
-
-abbrev pub stopped_tap : List ℕ → TapSpec → Tap
-stopped_tap ring spec = record {
+abbrev pub stopped_tap : Params → TapSpec → Tap
+stopped_tap p spec = record {
   spec = spec;
   running = false;
   since = 0;
   amid = false;
   marks = [];
-  station = record { address = spec.address; ring = ring; phase = Offline; busy = false; quiet = 0; own = record { begin = 0; end = 0 } };
+  station = new_station p spec.address;
 }
 
 abbrev pub has_bad_address : Params → TapSpec → Bool
@@ -101,7 +97,7 @@ new_faults p specs =
     ∷ []
 
 abbrev pub new_world : Params → List TapSpec → Result World NewFault
-new_world p specs = unless (new_faults p specs) (record { params = p; now = 0; trace = []; taps = map (stopped_tap (master_addresses specs)) specs })
+new_world p specs = unless (new_faults p specs) (record { params = p; now = 0; trace = []; taps = map (stopped_tap p) specs })
 
 -- ---- what is in the air
 

@@ -1,13 +1,19 @@
-ghost use Rattle.std.specs.Prelude.{◌≡◌};
-ghost use Rattle.pb_model.specs.Scenarios.{world_of, trace_of, phases_of, two_masters, token_passed, token_passed_trace, three_masters, taker_damaged, taker_damaged_trace, taker_damaged_phases};
+ghost use Rattle.std.specs.Prelude.{◌≡◌, ◌∷◌, []};
+ghost use Rattle.pb_model.specs.Scenarios.{master, world_of, trace_of, phases_of, two_masters, alone, alone_trace, ring_formed, ring_formed_trace, taker_damaged, taker_damaged_trace, taker_damaged_phases};
 
-/// Two masters start; the first claims the token and passes it to the second, which passes it back.
-pub fn two_masters_pass_a_token()
-    ensures { trace_of (world_of two_masters token_passed) ≡ token_passed_trace }
+/// A master alone claims the token after its time-out, keeps it, and asks the stations of its GAP one by one.
+pub fn a_master_alone_keeps_the_token()
+    ensures { trace_of (world_of (master 1 ∷ []) alone) ≡ alone_trace }
 {}
 
-/// While the check of the token pass is weak, damage alone leads to two stations that may initiate.
+/// Two masters form a ring from silence: the first claims the token and asks the second, which is ready by
+/// then, and passes it the token.
+pub fn two_masters_form_a_ring()
+    ensures { trace_of (world_of two_masters ring_formed) ≡ ring_formed_trace }
+{}
+
+/// While the check of the token pass is weak, damage alone leads to two stations that initiate.
 pub fn damage_alone_makes_two_holders()
-    ensures trace { trace_of (world_of three_masters taker_damaged) ≡ taker_damaged_trace }
-    ensures phases { phases_of (world_of three_masters taker_damaged) ≡ taker_damaged_phases }
+    ensures trace { trace_of (world_of two_masters taker_damaged) ≡ taker_damaged_trace }
+    ensures phases { phases_of (world_of two_masters taker_damaged) ≡ taker_damaged_phases }
 {}

@@ -1,6 +1,6 @@
 //! Sets of station addresses.
 
-ghost use Rattle.std.specs.Prelude.{◌≡◌, ◌<◌, [], List, ◌∷◌, filter, not, nat_le, ◌&&◌};
+ghost use Rattle.std.specs.Prelude.{◌≡◌, ◌<◌, [], List, ◌∷◌, filter, not, nat_le, ◌&&◌, IfSome};
 ghost use Rattle.pb_ring.specs.AddressSets.{addresses, removes, is_member, with_address, without_address, is_between, is_same, first_of, last_of, from_behind, from_at};
 
 use crate::words::{highest_set, is_set, lowest_set, set_removed};
@@ -109,7 +109,8 @@ impl Addresses {
     /// The first address of the set behind an address, 0 to 126, in cyclic order; the address itself is the last.
     pub fn first_behind(self, address: u8) -> Option<u8>
         requires { address < 127 }
-        ensures { result ≡ first_of (from_behind address self) }
+        ensures value { result ≡ first_of (from_behind address self) }
+        ensures station { IfSome result (λ first. first < 127) }
     {
         match lowest_set(self.bits, address + 1, 127) {
             Some(above) => Some(above),

@@ -116,7 +116,8 @@ impl Las {
     /// lowest. A station is its own next one where no other is in the list.
     pub fn ns(&self, ts: u8) -> u8
         requires { ts < 127 }
-        ensures { result ≡ next_address ts (members_of self.now.stage) }
+        ensures value { result ≡ next_address ts (members_of self.now.stage) }
+        ensures station { result < 127 }
     {
         active_stations(self.stage).first_behind(ts).unwrap_or(ts)
     }

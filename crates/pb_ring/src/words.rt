@@ -1,6 +1,6 @@
 //! Sets of addresses in the bits of a number.
 
-ghost use Rattle.std.specs.Prelude.{◌≡◌, ◌<◌, ◌≤◌, ◌==◌, ◌&&◌, ◌^◌, nat_le, nat_lt, filter};
+ghost use Rattle.std.specs.Prelude.{◌≡◌, ◌<◌, ◌≤◌, ◌==◌, ◌&&◌, ◌^◌, nat_le, nat_lt, filter, IfSome};
 ghost use Rattle.std.specs.Int.{bit_at};
 ghost use Rattle.pb_ring.specs.AddressSets.{addresses, is_between, removes, first_of, last_of};
 ghost use Rattle.pb_ring.specs.Words.{listed};
@@ -27,7 +27,8 @@ pub fn is_set(bits: u128, address: u8) -> bool
 /// The lowest address from `low` on and below `high` whose bit is set.
 pub fn lowest_set(bits: u128, low: u8, high: u8) -> Option<u8>
     requires { high ≤ 127 }
-    ensures { result ≡ first_of (filter (λ x. nat_le low x && nat_lt x high) (listed bits)) }
+    ensures value { result ≡ first_of (filter (λ x. nat_le low x && nat_lt x high) (listed bits)) }
+    ensures below { IfSome result (λ address. address < high) }
 {
     for address in low..high {
         if is_set(bits, address) {

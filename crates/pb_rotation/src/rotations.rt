@@ -71,6 +71,13 @@ impl Rotation {
         Rotation { ttr, last: None }
     }
 
+    /// The target rotation time, in bit times.
+    pub fn ttr(&self) -> u32
+        ensures { result ≡ self.now.ttr }
+    {
+        self.ttr
+    }
+
     /// The station receives the token, at a moment: the rotation that began with the receipt before is
     /// over.
     pub fn received(&mut self, at: Moment)

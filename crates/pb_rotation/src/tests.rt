@@ -9,6 +9,7 @@ fn at(bits: u64) -> Result<Moment, ClockFull> {
 #[test]
 fn a_slow_rotation_leaves_one_high_cycle(rt: HostRuntime) -> Result<(), Fail> {
     let mut rotation = Rotation::new(256);
+    assert_eq!(rt; rotation.ttr(), 256);
     rotation.received(at(1000)?);
     assert_eq!(rt; rotation.holding_left(at(1000)?), 256);
     rotation.received(at(1300)?);

@@ -1,9 +1,9 @@
 ghost use Rattle.std.specs.Prelude.{◌≡◌};
-ghost use Rattle.pb_model.specs.Station as model;
-ghost use Rattle.pb_model.specs.Station.{may_initiate};
+ghost use Rattle.pb_turn.specs.Phases.{may_initiate};
 ghost use Rattle.pb_tokenfsm.specs.Phases.{phase_of, name_of};
 
-use crate::states::{Checking, Claim, Holding, Idle, Offline, Pass, PassiveIdle, Use};
+use crate::states::{AwaitStatus, Checking, Claim, Holding, Pass, Use};
+use crate::waiting::{Idle, Listening, Offline, PassiveIdle};
 
 /// The state that a station is in (IEC 61158-4-3, states of the data link layer of a master).
 #[derive(Debug, Drop)]
@@ -12,12 +12,16 @@ pub enum Phase {
     Offline(Offline),
     /// A passive station that runs.
     PassiveIdle(PassiveIdle),
-    /// A master without the token.
+    /// A master that listens for the ring.
+    Listening(Listening),
+    /// A master in the ring, without the token.
     Idle(Idle),
     /// It claims the token.
     Claim(Holding<Claim>),
     /// It uses the token.
     Use(Holding<Use>),
+    /// It has asked a station for its status.
+    AwaitStatus(Holding<AwaitStatus>),
     /// It passes the token.
     Pass(Holding<Pass>),
     /// It has passed the token, and waits for a sign that it was taken.
@@ -30,7 +34,14 @@ impl Phase {
     pub fn may_initiate(&self) -> bool
         ensures { result ≡ may_initiate (phase_of self.now) }
     {
-        matches!(self, Phase::Claim(_) | Phase::Use(_) | Phase::Pass(_))
+        match self {
+            Phase::Claim(_) | Phase::Use(_) | Phase::AwaitStatus(_) | Phase::Pass(_) => true,
+            Phase::Offline(_)
+            | Phase::PassiveIdle(_)
+            | Phase::Listening(_)
+            | Phase::Idle(_)
+            | Phase::Checking(_) => false,
+        }
     }
 
     /// The phase's name.
@@ -40,9 +51,11 @@ impl Phase {
         match self {
             Phase::Offline(_) => "Offline",
             Phase::PassiveIdle(_) => "PassiveIdle",
+            Phase::Listening(_) => "Listening",
             Phase::Idle(_) => "Idle",
             Phase::Claim(_) => "Claim",
             Phase::Use(_) => "Use",
+            Phase::AwaitStatus(_) => "AwaitStatus",
             Phase::Pass(_) => "Pass",
             Phase::Checking(_) => "Checking",
         }
@@ -55,9 +68,11 @@ impl Phase {
         match self {
             Phase::Offline(_) => Phase::Offline(Offline),
             Phase::PassiveIdle(_) => Phase::PassiveIdle(PassiveIdle),
+            Phase::Listening(listening) => Phase::Listening(listening.copy()),
             Phase::Idle(idle) => Phase::Idle(idle.copy()),
             Phase::Claim(holder) => Phase::Claim(holder.copy()),
             Phase::Use(holder) => Phase::Use(holder.copy()),
+            Phase::AwaitStatus(holder) => Phase::AwaitStatus(holder.copy()),
             Phase::Pass(holder) => Phase::Pass(holder.copy()),
             Phase::Checking(checking) => Phase::Checking(checking.copy()),
         }

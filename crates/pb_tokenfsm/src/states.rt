@@ -1,41 +1,32 @@
-ghost use Rattle.std.specs.Prelude.{◌≡◌, true, false, max, Some, None};
+//! The states of a station that has the token, or has just passed it.
+
+ghost use Rattle.std.specs.Prelude.{◌≡◌, ℕ, Bool, true, false, max, Some, None};
 ghost use Rattle.pb_telegram.specs.Grammar.{spelling};
 ghost use Rattle.pb_telegram.specs.Initiators.{IsInitiator};
-ghost use Rattle.pb_model.specs.Station as model;
-ghost use Rattle.pb_model.specs.Turn.{token_heard, claim_sent, token_sent};
-ghost use Rattle.pb_tokenfsm.specs.Phases.{phase_of, refused_by, ready_of, claims_sent, is_noted, MayFollowDamage};
+ghost use Rattle.pb_turn.specs.Phases as turn;
+ghost use Rattle.pb_tokenfsm.specs.Phases.{phase_of, claims_sent, has_asked, asked_station, has_slot, tries_of, is_noted, claim_sent, token_sent, not_taken, MayFollowDamage};
 
 use crate::phases::Phase;
+use crate::waiting::Idle;
 use arrayvec::ArrayVec;
-use pb_telegram::{Telegram, TokenTelegram, write};
+use pb_telegram::{Telegram, write};
+use pb_timers::Moment;
 
-/// The station does not run.
-#[derive(Debug, Drop)]
-pub struct Offline;
-
-/// A passive station, which says nothing as an initiator.
-#[derive(Debug, Drop)]
-pub struct PassiveIdle;
-
-/// A master that waits for the token.
-#[derive(Debug, Drop)]
-pub struct Idle {
-    /// The station whose token to this one was not accepted, if any.
-    refused: Option<u8>,
-}
+/// How often the token is tried at a successor.
+const TRIES: u8 = 3;
 
 /// The token has been passed, and the station waits for a sign that it was taken.
 #[derive(Debug, Drop)]
 pub struct Checking {
+    /// How often the token was sent to this successor, 1 to 3.
+    tries: u8,
     /// Whether a whole telegram came in the slot.
     noted: bool,
 }
 
-/// A station that may initiate, and the earliest moment at which it speaks.
+/// A station that may initiate.
 #[derive(Debug, Drop)]
 pub struct Holding<S> {
-    /// The moment at which it speaks, in bit times.
-    ready: u64,
     /// What it is about.
     state: S,
 }
@@ -45,78 +36,42 @@ pub struct Holding<S> {
 pub struct Claim {
     /// How many of the two are sent.
     sent: u8,
+    /// The earliest moment at which it speaks.
+    ready: Moment,
 }
 
 /// It uses the token.
 #[derive(Clone, Copy, Debug)]
-pub struct Use;
+pub struct Use {
+    /// Whether a station was asked for its status since the receipt of the token.
+    asked: bool,
+    /// The earliest moment at which it speaks.
+    ready: Moment,
+}
+
+/// It has asked a station for its status.
+#[derive(Clone, Copy, Debug)]
+pub struct AwaitStatus {
+    /// The station that was asked.
+    of: u8,
+    /// Whether its slot still runs.
+    slot: bool,
+}
 
 /// It passes the token.
 #[derive(Clone, Copy, Debug)]
-pub struct Pass;
-
-impl Idle {
-    pub(crate) fn copy(&self) -> Idle
-        ensures { result ≡ self.now }
-    {
-        Idle {
-            refused: self.refused,
-        }
-    }
-
-    /// A station that has refused nobody's token.
-    pub fn new() -> Idle
-        ensures { phase_of (Phase.Idle result) ≡ model.Idle None }
-    {
-        Idle { refused: None }
-    }
-
-    /// A whole token telegram is heard by the station `ts` with the previous station `ps`. A token
-    /// to `ts` is accepted from `ps`, and from the station whose token was not accepted before
-    /// (EN 50170-2, token passing); the station speaks at `ready` then. From another station it is
-    /// not accepted, and that station is remembered.
-    pub fn hear_token(self, token: &TokenTelegram, ts: u8, ps: u8, ready: u64) -> Phase
-        ensures { phase_of result ≡ token_heard (refused_by self) token.now.da token.now.sa ts ps ready }
-    {
-        if token.da != ts {
-            return Phase::Idle(self);
-        }
-        let Idle { refused } = self;
-        if token.sa == ps || refused == Some(token.sa) {
-            return Phase::Use(Holding { ready, state: Use });
-        }
-        Phase::Idle(Idle {
-            refused: Some(token.sa),
-        })
-    }
-
-    /// The time-out has ended: the station claims the token at `ready`.
-    pub fn on_timeout(self, ready: u64) -> Holding<Claim>
-        ensures { phase_of (Phase.Claim result) ≡ model.Claim 0 ready }
-    {
-        let Idle { refused: _ } = self;
-        Holding {
-            ready,
-            state: Claim { sent: 0 },
-        }
-    }
+pub struct Pass {
+    /// How often the token was sent to this successor, 0 to 3.
+    tries: u8,
+    /// The earliest moment at which it speaks.
+    ready: Moment,
 }
 
 impl<S: Copy> Holding<S> {
     pub(crate) fn copy(&self) -> Holding<S>
         ensures { result ≡ self.now }
     {
-        Holding {
-            ready: self.ready,
-            state: self.state,
-        }
-    }
-
-    /// The moment at which the station speaks, in bit times.
-    pub fn ready(&self) -> u64
-        ensures { result ≡ ready_of self.now }
-    {
-        self.ready
+        Holding { state: self.state }
     }
 
     /// The octets of a telegram that the station says: a token or a request, the caller's condition.
@@ -129,98 +84,230 @@ impl<S: Copy> Holding<S> {
 
     /// Another station is heard: the token is lost.
     pub fn on_foreign(self) -> Idle
-        ensures { phase_of (Phase.Idle result) ≡ model.Idle None }
+        ensures { phase_of (Phase.Idle result) ≡ turn.Idle None }
     {
-        let Holding { ready: _, state: _ } = self;
+        let Holding { state: _ } = self;
         Idle::new()
     }
 }
 
 impl Holding<Claim> {
+    /// A station that has sent no claim token yet.
+    pub(crate) fn claiming(ready: Moment) -> Holding<Claim>
+        ensures { phase_of (Phase.Claim result) ≡ turn.Claim 0 ready }
+    {
+        Holding {
+            state: Claim { sent: 0, ready },
+        }
+    }
+
+    /// The earliest moment at which the station speaks.
+    pub fn ready(&self) -> Moment
+        ensures { phase_of (Phase.Claim self.now) ≡ turn.Claim (claims_sent self.now) result }
+    {
+        self.state.ready
+    }
+
     /// A claim token is sent, and the station speaks again at `ready`: its second claim token after
     /// the first, and then as it uses the token.
-    pub fn on_sent(self, ready: u64) -> Phase
-        ensures { phase_of result ≡ claim_sent (claims_sent self) ready }
+    pub fn on_sent(self, ready: Moment) -> Phase
+        ensures phase { phase_of result ≡ claim_sent (claims_sent self) ready }
+        ensures fresh { is_noted result ≡ false }
     {
         let Holding {
-            ready: _,
-            state: Claim { sent },
+            state: Claim { sent, ready: _ },
         } = self;
         if sent == 0 {
             return Phase::Claim(Holding {
-                ready,
-                state: Claim { sent: 1 },
+                state: Claim { sent: 1, ready },
             });
         }
-        Phase::Use(Holding { ready, state: Use })
+        Phase::Use(Holding::using(ready))
     }
 }
 
 impl Holding<Use> {
-    /// Nothing is left to say but the token: it is passed at the moment at which the station was to
-    /// speak.
-    pub fn done(self) -> Holding<Pass>
-        ensures { ready_of result ≡ ready_of self }
+    /// A station that has just received the token.
+    pub(crate) fn using(ready: Moment) -> Holding<Use>
+        ensures { phase_of (Phase.Use result) ≡ turn.Use false ready }
     {
-        let Holding { ready, state: Use } = self;
-        let state = Pass;
-        Holding { ready, state }
+        Holding {
+            state: Use {
+                asked: false,
+                ready,
+            },
+        }
+    }
+
+    /// The earliest moment at which the station speaks.
+    pub fn ready(&self) -> Moment
+        ensures { phase_of (Phase.Use self.now) ≡ turn.Use (has_asked self.now) result }
+    {
+        let Use { ready, .. } = self.state;
+        ready
+    }
+
+    /// Whether a station was asked for its status since the receipt of the token.
+    pub fn asked(&self) -> bool
+        ensures { result ≡ has_asked self.now }
+    {
+        self.state.asked
+    }
+
+    /// A station is asked for its status, and its slot runs (EN 50170-2, request FDL status).
+    pub fn ask_status(self, of: u8) -> Holding<AwaitStatus>
+        ensures { phase_of (Phase.AwaitStatus result) ≡ turn.AwaitStatus of true }
+    {
+        let Holding {
+            state: Use { asked: _, ready: _ },
+        } = self;
+        Holding {
+            state: AwaitStatus { of, slot: true },
+        }
+    }
+
+    /// Nothing is left to say but the token: it is passed at the moment at which the station was to
+    /// speak, to a successor that it was not sent to before.
+    pub fn done(self) -> Holding<Pass>
+        ensures { (asked : Bool) (ready : ℕ) → phase_of (Phase.Use self) ≡ turn.Use asked ready → phase_of (Phase.Pass result) ≡ turn.Pass 0 ready }
+    {
+        let Holding {
+            state: Use { asked: _, ready },
+        } = self;
+        Holding {
+            state: Pass { tries: 0, ready },
+        }
+    }
+}
+
+impl Holding<AwaitStatus> {
+    /// The station that was asked.
+    pub fn of(&self) -> u8
+        ensures { result ≡ asked_station self.now }
+    {
+        self.state.of
+    }
+
+    /// Whether its slot still runs.
+    pub fn slot(&self) -> bool
+        ensures { result ≡ has_slot self.now }
+    {
+        self.state.slot
+    }
+
+    /// Activity has begun: the slot is over, and the station waits for the activity's end.
+    pub fn on_activity(self) -> Holding<AwaitStatus>
+        ensures { phase_of (Phase.AwaitStatus result) ≡ turn.AwaitStatus (asked_station self) false }
+    {
+        let Holding {
+            state: AwaitStatus { of, slot: _ },
+        } = self;
+        Holding {
+            state: AwaitStatus { of, slot: false },
+        }
+    }
+
+    /// A reply came, or none: the station uses the token again, and speaks at `ready`.
+    pub fn on_outcome(self, ready: Moment) -> Holding<Use>
+        ensures { phase_of (Phase.Use result) ≡ turn.Use true ready }
+    {
+        let Holding {
+            state: AwaitStatus { of: _, slot: _ },
+        } = self;
+        Holding {
+            state: Use { asked: true, ready },
+        }
     }
 }
 
 impl Holding<Pass> {
+    /// The earliest moment at which the station speaks.
+    pub fn ready(&self) -> Moment
+        ensures { phase_of (Phase.Pass self.now) ≡ turn.Pass (tries_of (Phase.Pass self.now)) result }
+    {
+        let Pass { ready, .. } = self.state;
+        ready
+    }
+
     /// The token is sent from `ts` to the next station `ns`. A token to the own address is a
     /// receipt, and the station speaks at `ready`.
-    pub fn on_sent(self, ns: u8, ts: u8, ready: u64) -> Phase
-        ensures phase { phase_of result ≡ token_sent ns ts ready }
+    pub fn on_sent(self, ns: u8, ts: u8, ready: Moment) -> Phase
+        ensures phase { phase_of result ≡ token_sent (tries_of (Phase.Pass self)) ns ts ready }
         ensures fresh { is_noted result ≡ false }
     {
         let Holding {
-            ready: _,
-            state: Pass,
+            state: Pass { tries, ready: _ },
         } = self;
         if ns == ts {
-            return Phase::Use(Holding { ready, state: Use });
+            return Phase::Use(Holding::using(ready));
         }
-        Phase::Checking(Checking { noted: false })
+        Phase::Checking(Checking {
+            tries: if tries < TRIES { tries + 1 } else { TRIES },
+            noted: false,
+        })
     }
+}
+
+/// The later of two moments.
+fn later(a: Moment, b: Moment) -> Moment
+    ensures { result ≡ max a b }
+{
+    if a.get() < b.get() { b } else { a }
 }
 
 impl Checking {
     pub(crate) fn copy(&self) -> Checking
         ensures { result ≡ self.now }
     {
-        Checking { noted: self.noted }
+        Checking {
+            tries: self.tries,
+            noted: self.noted,
+        }
+    }
+
+    /// How often the token was sent to this successor.
+    pub fn tries(&self) -> u8
+        ensures { result ≡ tries_of (Phase.Checking self.now) }
+    {
+        self.tries
     }
 
     /// A whole telegram came in the slot.
     pub fn noted_whole(self) -> Checking
-        ensures { is_noted (Phase.Checking result) ≡ true }
+        ensures noted { is_noted (Phase.Checking result) ≡ true }
+        ensures tries { tries_of (Phase.Checking result) ≡ tries_of (Phase.Checking self) }
     {
-        let Checking { noted: _ } = self;
-        Checking { noted: true }
+        let Checking { tries, noted: _ } = self;
+        Checking { tries, noted: true }
     }
 
     /// An end came in the slot at `at`, whose slot ends at `slot_end`. The station may pass the
     /// token again only where no whole telegram was noted.
-    pub fn on_damaged(self, at: u64, slot_end: u64) -> Phase
-        ensures { MayFollowDamage (is_noted (Phase.Checking self)) (max at slot_end) result }
+    pub fn on_damaged(self, at: Moment, slot_end: Moment) -> Phase
+        ensures phase { MayFollowDamage (is_noted (Phase.Checking self)) (tries_of (Phase.Checking self)) (max at slot_end) result }
+        ensures fresh { is_noted result ≡ false }
     {
-        let Checking { noted } = self;
+        let Checking { tries, noted } = self;
         if noted {
             return Phase::Idle(Idle::new());
         }
         Phase::Pass(Holding {
-            ready: at.max(slot_end),
-            state: Pass,
+            state: Pass {
+                tries,
+                ready: later(at, slot_end),
+            },
         })
     }
 
-    /// The slot ended in silence: the token is passed again at `ready`.
-    pub fn on_silence(self, ready: u64) -> Holding<Pass>
-        ensures { ready_of result ≡ ready }
+    /// The slot ended in silence: the token is passed again at `ready`. After the third time the
+    /// successor is given up (EN 50170-2, token passing), and the next one was not tried yet.
+    pub fn on_silence(self, ready: Moment) -> Holding<Pass>
+        ensures { phase_of (Phase.Pass result) ≡ not_taken (tries_of (Phase.Checking self)) ready }
     {
-        let Checking { noted: _ } = self;
-        Holding { ready, state: Pass }
+        let Checking { tries, noted: _ } = self;
+        let tries = if tries < TRIES { tries } else { 0 };
+        Holding {
+            state: Pass { tries, ready },
+        }
     }
 }

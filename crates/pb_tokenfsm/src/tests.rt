@@ -1,102 +1,162 @@
 use super::*;
-use pb_telegram::{Telegram, TokenTelegram};
+use pb_telegram::{ShortTelegram, Telegram, TokenTelegram};
+use pb_timers::{ClockFull, Moment};
 use std::test::Fail;
 
-/// A station with address 1 and no other in its ring claims the token and keeps it.
+fn at(bits: u64) -> Result<Moment, ClockFull> {
+    Moment::new(bits).ok_or(ClockFull)
+}
+
+/// A station with address 1 that hears nobody claims the token and keeps it.
 #[test]
-fn a_lone_station_claims_and_keeps_the_token(rt: HostRuntime) {
-    let claim = Idle::new().on_timeout(800);
+fn a_lone_station_claims_and_keeps_the_token(rt: HostRuntime) -> Result<(), Fail> {
+    let claim = Listening::new().on_timeout(at(800)?);
+    assert_eq!(rt; claim.ready().get(), 800);
     let token = Telegram::Token(TokenTelegram { da: 1, sa: 1 });
     assert_eq!(rt; claim.initiate(&token).as_slice(), [0xdc, 1, 1].as_slice());
-    let phase = claim.on_sent(870);
+    let phase = claim.on_sent(at(870)?);
     assert!(rt; phase.may_initiate());
     assert_eq!(rt; phase.name(), "Claim");
     let Phase::Claim(claim) = phase else {
-        assert!(rt; false, "another phase");
-        return;
+        return Err(Fail::from("another phase"));
     };
-    let phase = claim.on_sent(940);
-    assert_eq!(rt; phase.name(), "Use");
+    let phase = claim.on_sent(at(940)?);
     let Phase::Use(holder) = phase else {
-        assert!(rt; false, "another phase");
-        return;
+        return Err(Fail::from("another phase"));
     };
-    let phase = holder.done().on_sent(1, 1, 1010);
+    assert_eq!(rt; holder.ready().get(), 940);
+    let phase = holder.done().on_sent(1, 1, at(1010)?);
     assert_eq!(rt; phase.name(), "Use");
+    Ok(())
+}
+
+/// A master that listens joins the ring once it has said that it is ready, and gives way to a namesake.
+#[test]
+fn a_listener_joins_or_gives_way(rt: HostRuntime) {
+    let listening = Listening::new();
+    assert!(rt; !listening.doubled());
+    let listening = listening.on_namesake();
+    assert!(rt; listening.doubled());
+    let phase = Phase::Offline(listening.on_double());
+    assert_eq!(rt; phase.name(), "Offline");
+    let phase = Phase::Idle(Listening::new().on_ready());
+    assert_eq!(rt; phase.name(), "Idle");
+    assert!(rt; !phase.may_initiate());
 }
 
 /// A station with address 1 and the previous station 3 takes a token from it, and one from another
 /// station only when that offers it again.
 #[test]
-fn a_token_is_taken_from_the_previous_station(rt: HostRuntime) {
+fn a_token_is_taken_from_the_previous_station(rt: HostRuntime) -> Result<(), Fail> {
     let from_three = TokenTelegram { da: 1, sa: 3 };
     let from_two = TokenTelegram { da: 1, sa: 2 };
     let to_two = TokenTelegram { da: 2, sa: 3 };
-    let phase = Idle::new().hear_token(&to_two, 1, 3, 100);
+    let phase = Listening::new()
+        .on_ready()
+        .hear_token(&to_two, 1, 3, at(100)?);
     assert_eq!(rt; phase.name(), "Idle");
-    assert!(rt; !phase.may_initiate());
-    let phase = Idle::new().hear_token(&from_three, 1, 3, 100);
+    let phase = Listening::new()
+        .on_ready()
+        .hear_token(&from_three, 1, 3, at(100)?);
     assert_eq!(rt; phase.name(), "Use");
-    let phase = Idle::new().hear_token(&from_two, 1, 3, 100);
+    let phase = Listening::new()
+        .on_ready()
+        .hear_token(&from_two, 1, 3, at(100)?);
     let Phase::Idle(idle) = phase else {
-        assert!(rt; false, "another phase");
-        return;
+        return Err(Fail::from("another phase"));
     };
-    let phase = idle.hear_token(&from_two, 1, 3, 200);
+    let phase = idle.hear_token(&from_two, 1, 3, at(200)?);
     assert_eq!(rt; phase.name(), "Use");
+    let phase = Phase::Listening(Listening::new().on_ready().on_skipped());
+    assert_eq!(rt; phase.name(), "Listening");
+    let claim = Listening::new().on_ready().on_timeout(at(800)?);
+    assert_eq!(rt; claim.ready().get(), 800);
+    Ok(())
 }
 
 /// A holder that hears another station gives the token up.
 #[test]
-fn a_holder_gives_way(rt: HostRuntime) {
-    let phase = Phase::Idle(Idle::new().on_timeout(800).on_foreign());
+fn a_holder_gives_way(rt: HostRuntime) -> Result<(), Fail> {
+    let phase = Phase::Idle(Listening::new().on_timeout(at(800)?).on_foreign());
     assert!(rt; !phase.may_initiate());
     assert_eq!(rt; phase.name(), "Idle");
+    Ok(())
 }
 
-/// A station with address 1 that has taken the token from station 3 and passed it to station 2.
-fn checking() -> Option<Checking> {
+/// A station with address 1 that has taken the token from station 3.
+fn holder() -> Result<Holding<Use>, Fail> {
     let token = TokenTelegram { da: 1, sa: 3 };
-    match Idle::new().hear_token(&token, 1, 3, 900) {
-        Phase::Use(holder) => match holder.done().on_sent(2, 1, 1010) {
-            Phase::Checking(checking) => Some(checking),
-            _ => None,
-        },
-        _ => None,
+    match Listening::new()
+        .on_ready()
+        .hear_token(&token, 1, 3, at(900)?)
+    {
+        Phase::Use(holder) => Ok(holder),
+        _ => Err(Fail::from("another phase")),
     }
 }
 
-/// After its token a station that hears nothing passes it again, and one that has heard a whole
-/// telegram does not.
+/// A station that has asked another for its status waits for the reply, and uses the token again.
 #[test]
-fn a_token_is_passed_again_only_without_a_sign(rt: HostRuntime) {
-    if let Some(silent) = checking() {
-        let again = silent.on_silence(1073);
-        assert_eq!(rt; again.ready(), 1073);
-        let phase = again.on_sent(2, 1, 1143);
-        assert_eq!(rt; phase.name(), "Checking");
+fn a_status_is_asked_once(rt: HostRuntime) -> Result<(), Fail> {
+    let holder = holder()?;
+    assert!(rt; !holder.asked());
+    let request = Telegram::Short(ShortTelegram {
+        da: 2,
+        sa: 1,
+        fc: 0x49,
+    });
+    let asked = [0x10, 2, 1, 0x49, 0x4c, 0x16];
+    assert_eq!(rt; holder.initiate(&request).as_slice(), asked.as_slice());
+    let waiting = holder.ask_status(2);
+    assert_eq!(rt; waiting.of(), 2);
+    assert!(rt; waiting.slot());
+    let waiting = waiting.on_activity();
+    assert!(rt; !waiting.slot());
+    let holder = waiting.on_outcome(at(1120)?);
+    assert!(rt; holder.asked());
+    assert_eq!(rt; holder.ready().get(), 1120);
+    Ok(())
+}
+
+/// That station after it has passed the token to station 2.
+fn checking() -> Result<Checking, Fail> {
+    match holder()?.done().on_sent(2, 1, at(1010)?) {
+        Phase::Checking(checking) => Ok(checking),
+        _ => Err(Fail::from("another phase")),
     }
-    if let Some(damaged) = checking() {
-        let phase = damaged.on_damaged(1043, 1073);
-        assert_eq!(rt; phase.name(), "Pass");
+}
+
+/// After its token a station that hears nothing passes it again, three times to one successor; and one that
+/// has heard a whole telegram does not.
+#[test]
+fn a_token_is_passed_again_only_without_a_sign(rt: HostRuntime) -> Result<(), Fail> {
+    let mut silent = checking()?;
+    for tries in 1..4 {
+        assert_eq!(rt; silent.tries(), tries);
+        let again = silent.on_silence(at(1073)?);
+        assert_eq!(rt; again.ready().get(), 1073);
+        let Phase::Checking(checking) = again.on_sent(2, 1, at(1143)?) else {
+            return Err(Fail::from("another phase"));
+        };
+        silent = checking;
     }
-    let Some(taken) = checking() else {
-        assert!(rt; false, "no check of the token pass");
-        return;
-    };
-    let phase = taken.noted_whole().on_damaged(1043, 1073);
+    assert_eq!(rt; silent.tries(), 1);
+    let phase = checking()?.on_damaged(at(1043)?, at(1073)?);
+    assert_eq!(rt; phase.name(), "Pass");
+    let phase = checking()?.noted_whole().on_damaged(at(1043)?, at(1073)?);
     assert_eq!(rt; phase.name(), "Idle");
+    Ok(())
 }
 
 /// An equal phase leaves the first as it is.
 #[test]
-fn a_phase_has_an_equal_one(rt: HostRuntime) {
-    let phase = Phase::Claim(Idle::new().on_timeout(800));
+fn a_phase_has_an_equal_one(rt: HostRuntime) -> Result<(), Fail> {
+    let phase = Phase::Claim(Listening::new().on_timeout(at(800)?));
     let equal = phase.copy();
     assert_eq!(rt; equal.name(), phase.name());
     let (Phase::Claim(claim), Phase::Claim(other)) = (phase, equal) else {
-        assert!(rt; false, "another phase");
-        return;
+        return Err(Fail::from("another phase"));
     };
     assert_eq!(rt; claim.ready(), other.ready());
+    Ok(())
 }

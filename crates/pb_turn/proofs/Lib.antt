@@ -1,3 +1,4 @@
+pub mod Addresses
 pub mod Busy
 pub mod Cases
 pub mod Initiating

@@ -15,6 +15,11 @@ pub fn a_turn_leaves_the_due_later()
     ensures { (p : Params) (again : Bool) (s : Station) (marks : List Mark) (now : ℕ) → IsDueLater p (turn_of p again s marks now).0 now }
 {}
 
+/// A turn never changes the address of a station.
+pub fn a_turn_keeps_the_address()
+    ensures { (p : Params) (again : Bool) (s : Station) (marks : List Mark) (now : ℕ) → (turn_of p again s marks now).0.address ≡ s.address }
+{}
+
 /// A turn with nothing to read and nothing due changes nothing and says nothing.
 pub fn nothing_due_changes_nothing()
     ensures { (p : Params) (again : Bool) (s : Station) (now : ℕ) → IsDueLater p s now → turn_of p again s [] now ≡ (s, None) }

@@ -7,10 +7,10 @@ mod rules;
 pub use laws::{
     a_busy_station_says_nothing, a_busy_station_waits,
     a_first_token_is_taken_from_the_previous_station, a_mark_comes_before_a_timer_at_its_moment,
-    a_slot_counts_from_the_end, a_station_that_is_due_speaks, a_turn_leaves_the_due_later,
-    nothing_due_changes_nothing, one_that_listens_takes_no_token, only_a_holder_initiates,
-    the_choice_is_asked_at_most_once, the_tables_stand_for_what_was_heard_asked_and_received,
-    who_is_offline_says_nothing,
+    a_slot_counts_from_the_end, a_station_that_is_due_speaks, a_turn_keeps_the_address,
+    a_turn_leaves_the_due_later, nothing_due_changes_nothing, one_that_listens_takes_no_token,
+    only_a_holder_initiates, the_choice_is_asked_at_most_once,
+    the_tables_stand_for_what_was_heard_asked_and_received, who_is_offline_says_nothing,
 };
 pub use rules::{
     a_claim_waits_for_a_time_out, a_foreign_request_takes_the_token_away, a_namesake_is_given_way,

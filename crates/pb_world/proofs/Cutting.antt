@@ -3,7 +3,7 @@ use Rattle.std.proofs.Common.{◌≡◌, ◌∙◌, ap, sym, refl, subst, ℕ, �
 use Rattle.std.specs.Prelude.{take, drop}
 use Rattle.std.proofs.lemmas.Bool.{ltb-false}
 use Rattle.std.proofs.lemmas.List.{take-append-drop, take_all, drop_all}
-use Rattle.pb_model.specs.Station.{earlier}
+use Rattle.pb_turn.specs.Stations.{earlier}
 use Rattle.pb_model.specs.Trace.{Entry, Sent, Noise}
 use Rattle.pb_model.specs.World.{later_end, next_end_of}
 use Rattle.pb_model.specs.Laws.{AllBegun, AllOver, AllFrom}

@@ -4,7 +4,7 @@ use Rattle.std.specs.Prelude.{is_some, unwrap_or}
 use Rattle.std.proofs.lemmas.Bool.{eqb-false}
 use Rattle.pb_refusals.specs.FirstFault.{first_fault}
 use Rattle.pb_refusals.proofs.FirstFaults.{none_holds, first_fault-append}
-use Rattle.pb_model.specs.Marks.{Mark}
+use Rattle.pb_turn.specs.Marks.{Mark}
 use Rattle.pb_model.specs.Trace.{Heard, Record, Entry, Sent, Noise}
 use Rattle.pb_model.specs.Medium.{Tap, heard_by, entry_at, reaches, ends_between, heard_in_the_end, is_whole_at}
 use Rattle.pb_model.specs.World.{World, Reply, Fault, InboxFull, next_end_of, unless_fault}

@@ -3,6 +3,7 @@ use Rattle.std.proofs.Common.{◌≡◌, ◌∙◌, ap, sym, ℕ, ◌<◌, ◌+�
 use Rattle.std.specs.Prelude.{slice_get, slice_index_or, Result, Ok, Err, OnErr, Option, None, MatchOption}
 use Rattle.std.proofs.lemmas.Option.{slice_get-get_or, slice_get-map, same_Some}
 use Rattle.std.proofs.Math.Nat.{eq-or-lt_of_le}
+use Rattle.std.proofs.lemmas.List.{length-map}
 use Rattle.std.specs.Option.{option_map}
 
 -- an item of a list, seen through a function
@@ -35,3 +36,11 @@ below-more P xs i x there is new before k d below = by_place (eq-or-lt_of_le {n 
 pub if-found : {X : Type 0} (A B : Type 0) (P Q : X → Type 0) (o : Option X) → (A → B) → ((x : X) → P x → Q x) → MatchOption o A P → MatchOption o B Q
 if-found A B P Q None none some m = none m
 if-found A B P Q (Some x) none some m = some x m
+
+-- an item of a list
+pub found-at : {X : Type 0} (xs : List X) (i : ℕ) (x : X) → i < length xs → x ≡ slice_index_or xs i x → slice_get xs i ≡ Some x
+found-at xs i x there is = slice_get-get_or xs i x there ∙ ap (λ y. Some y) (sym is)
+
+-- lists that look alike are as long
+pub as-many : {X Y : Type 0} (f : X → Y) (xs ys : List X) → map f xs ≡ map f ys → length xs ≡ length ys
+as-many f xs ys same = sym (length-map xs f) ∙ ap length same ∙ length-map ys f

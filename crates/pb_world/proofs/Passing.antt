@@ -10,7 +10,7 @@ use Rattle.std.proofs.Math.ListN.{get_or-map}
 use Rattle.pb_telegram.specs.Faults.{is_bad}
 use Rattle.pb_telegram.specs.declared.chars.RxChar.{RxChar}
 use Rattle.pb_turn.specs.Spans.{Span}
-use Rattle.pb_model.specs.Marks.{Mark, Begin, End}
+use Rattle.pb_turn.specs.Marks.{Mark, Begin, End}
 use Rattle.pb_model.specs.Trace.{Heard, Own, Whole, Damaged, Unheard, Pending, Record, Entry, Sent, Noise, characters_at}
 use Rattle.pb_model.specs.Medium.{Tap, overlaps, part_after, reaches, is_unheard, at_tap, sensed, hears_from, sends_during, fills_burst, fills_burst_to, entry_characters, burst_begins, burst_ends, burst_characters, is_whole_at, heard_in_the_end, heard_by, ends_between, entry_at}
 use Rattle.pb_model.specs.Step.{first_full}

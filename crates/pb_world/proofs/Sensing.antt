@@ -8,7 +8,7 @@ use Rattle.pb_telegram.specs.declared.chars.RxChar.{RxChar}
 use Rattle.pb_telegram.specs.declared.chars.RxChar.TheVariants.{Good, Bad}
 use Rattle.pb_turn.specs.Spans.{Span}
 use Rattle.pb_model.specs.Medium.{Tap, reaches, is_unheard, sensed, hears_from, overlaps, sends_during, fills_burst, is_whole_at}
-use Rattle.pb_model.specs.Station.{earlier}
+use Rattle.pb_turn.specs.Stations.{earlier}
 use Rattle.pb_model.specs.Trace.{Hit, Record, Entry, Sent, Noise, entry_end, hits_place, characters_from, characters_at}
 use Rattle.pb_model.specs.World.{later_end, entry_next_end, next_end_of}
 use Rattle.pb_world.specs.Senses.{at_once, span_of, is_alone, is_undamaged}

@@ -1,11 +1,8 @@
 -- Taps made from what they are to be.
-use Rattle.std.proofs.Common.{◌≡◌, ◌∙◌, ap, ℕ, ◌+◌, ◌++◌, List, ◌∷◌, map, Bool, true, false, if◌then◌else◌, Some}
-use Rattle.std.specs.Prelude.{filter}
-use Rattle.std.proofs.lemmas.List.{map-append}
-use Rattle.std.proofs.lemmas.List.Elements.{filter-append}
+use Rattle.std.proofs.Common.{◌≡◌, ◌∙◌, ap, ℕ, ◌+◌, List, ◌∷◌, Bool, true, false, if◌then◌else◌, Some}
 use Rattle.pb_timers.specs.Timers.{Params}
 use Rattle.pb_model.specs.Medium.{TapSpec}
-use Rattle.pb_model.specs.World.{has_bad_address, first_bad_address, master_addresses}
+use Rattle.pb_model.specs.World.{has_bad_address, first_bad_address}
 
 -- the first of what is left, if its address is bad
 pub first-bad : (p : Params) (k : ℕ) (s : TapSpec) (left rest : List TapSpec) → left ≡ s ∷ rest → has_bad_address p s ≡ true → first_bad_address p k left ≡ Some k
@@ -14,8 +11,3 @@ first-bad p k s left rest here bad = ap (first_bad_address p k) here ∙ ap (λ 
 pub no-bad : (p : Params) (k : ℕ) (s : TapSpec) (left rest : List TapSpec) → left ≡ s ∷ rest → has_bad_address p s ≡ false
     → first_bad_address p k left ≡ first_bad_address p (k + 1) rest
 no-bad p k s left rest here good = ap (first_bad_address p k) here ∙ ap (λ (b : Bool). if b then Some k else first_bad_address p (k + 1) rest) good
-
-pub masters-append : (xs ys : List TapSpec) → master_addresses (xs ++ ys) ≡ master_addresses xs ++ master_addresses ys
-masters-append xs ys =
-    ap (map (λ spec. spec.address)) (filter-append (λ spec. spec.master) xs ys)
-    ∙ map-append (λ spec. spec.address) (filter (λ spec. spec.master) xs) (filter (λ spec. spec.master) ys)

@@ -4,12 +4,12 @@ use Rattle.std.specs.Prelude.{take, drop, find, is_none, slice_get, slice_set, I
 use Rattle.std.proofs.lemmas.List.{take-append-drop, length-take-le}
 use Rattle.std.proofs.Math.Seq.{take-append_seam, drop-append_seam}
 use Rattle.std.proofs.lemmas.Option.{slice_get-get_or}
-use Rattle.pb_model.specs.Station.{Station}
+use Rattle.pb_turn.specs.Stations.{Station}
 use Rattle.pb_model.specs.Trace.{Hit, Entry, Sent, Noise, entry_begin, goes_before, with_entry}
 use Rattle.pb_model.specs.Medium.{Tap, entry_at, ends_between, reaches, heard_by}
-use Rattle.pb_model.specs.Turn.{turn_of}
-use Rattle.pb_model.specs.World.{World, Event, Turn, Reply, Fault, NoSuchTap, Running, NotRunning, NothingInAir, TraceFull, unless, is_in_air_by}
-use Rattle.pb_model.specs.Step.{told, pass_faults, step_pass, with_hit, change_first, has_place, step_damage, started_tap, step_start, with_speech, after_turn, step_turn, sending, step, world_after}
+use Rattle.pb_turn.specs.Turns.{turn_of}
+use Rattle.pb_model.specs.World.{World, Event, Turn, Pass, Damage, Start, Reply, Fault, NoSuchTap, Running, NotRunning, NothingInAir, TraceFull, unless, is_in_air_by}
+use Rattle.pb_model.specs.Step.{told, pass_faults, step_pass, with_hit, change_first, has_place, step_damage, step_start, with_speech, after_turn, step_turn, sending, step, world_after}
 use Rattle.pb_model.specs.Laws.{AllBegun, AllOver, AllFrom, IsSound}
 use Rattle.pb_model.proofs.Cases.{by_test}
 use Rattle.pb_model.proofs.Worlds.{sound-step, unless-Ok}
@@ -18,13 +18,12 @@ use Rattle.pb_world.specs.Clocks.{IsFault, PassesTo}
 use Rattle.pb_world.specs.Damaging.{can_hit, RefusesHit}
 use Rattle.pb_world.specs.Faults.{Refuses}
 use Rattle.pb_world.specs.Senses.{at_once}
-use Rattle.pb_world.specs.Starting.{IsStarted, RefusesStart}
-use Rattle.pb_world.specs.Turning.{with_said, is_full}
+use Rattle.pb_world.specs.Turning.{with_said, is_full, RefusesSaid}
 use Rattle.pb_world.specs.declared.faults.WorldFault.{WorldFault}
 use Rattle.pb_world.specs.declared.faults.WorldFault.TheVariants as fault
 use Rattle.pb_world.proofs.Cutting.{begun-behind}
 use Rattle.pb_world.proofs.Entering.{entered-behind}
-use Rattle.pb_world.proofs.Widening.{widened, pass-whole, damage-whole, start-whole}
+use Rattle.pb_world.proofs.Widening.{widened, pass-whole, damage-whole, is_sending, started_amid, start-whole}
 
 -- the world of the recent entries
 abbrev pub recent_of : ℕ → World → World
@@ -60,6 +59,7 @@ sound-recent over w sound = record {
   no_delay = refl;
   begun = begun-behind w.now (take over w.trace) (drop over w.trace) (subst (AllBegun w.now) (sym (take-append-drop over w.trace)) sound.begun);
   in_order = sound.in_order;
+  replies = sound.replies;
 }
 
 -- other entries behind those that are over, none of which began before they had ended
@@ -104,11 +104,11 @@ pass-done w over d to entries taps none cut (recent, are, passed) =
     ∙ ap (λ es. Ok (record w { now = to; trace = es; taps = taps }, record { now = to; spoke = None })) (sym are)
 
 pub pass-refused : (w : World) (over d : ℕ) (reason : WorldFault) → w.params.ttd ≡ 0 → IsCut w.now over w.trace
-    → IsFault (step_pass (recent_of over w) d) reason → Refuses (step_pass w d) reason
+    → IsFault (step_pass (recent_of over w) d) reason → Refuses (Pass d) (step_pass w d) reason
 pass-refused w over d reason none cut refused =
-    subst (λ r. Refuses r reason) (sym (pass-whole w over d none cut)) (by (step_pass (recent_of over w) d) refused)
+    subst (λ r. Refuses (Pass d) r reason) (sym (pass-whole w over d none cut)) (by (step_pass (recent_of over w) d) refused)
   where
-    by : (r : Result (World × Reply) Fault) → IsFault r reason → Refuses (widened (take over w.trace) w.params r) reason
+    by : (r : Result (World × Reply) Fault) → IsFault r reason → Refuses (Pass d) (widened (take over w.trace) w.params r) reason
     by (Ok next) refused = absurd refused
     by (Err f) refused = refused
 
@@ -143,15 +143,15 @@ damage-done w over tap speaker place at from none cut there can =
 
 pub damage-refused : (w : World) (over tap speaker : ℕ) (place : Option ℕ) (at from : Option Tap) (reason : WorldFault) → w.params.ttd ≡ 0 → IsCut w.now over w.trace
     → (is_none at || is_none from) ≡ false → RefusesHit (can_hit speaker w.now (record { tap = tap; place = place }) (drop over w.trace)) reason
-    → Refuses (step_damage w tap speaker place at from) reason
+    → Refuses (Damage tap speaker place) (step_damage w tap speaker place at from) reason
 damage-refused w over tap speaker place at from fault.NoMemory none cut there can =
-    subst (λ r. Refuses r fault.NoMemory) (sym (damage-done w over tap speaker place at from none cut there can)) refl
+    subst (λ r. Refuses (Damage tap speaker place) r fault.NoMemory) (sym (damage-done w over tap speaker place at from none cut there can)) (refl, refl)
 damage-refused w over tap speaker place at from fault.NothingInAir none cut there can =
     let es = drop over w.trace in
     let test = tap == speaker || not (has_place (find (is_in_air_by at_once w.now speaker) es) place) in
     let next : World = record w { params = plain; trace = change_first (is_in_air_by at_once w.now speaker) (with_hit (record { tap = tap; place = place })) es } in
     let reply : Reply = record { now = w.now; spoke = None } in
-    subst (λ r. Refuses r fault.NothingInAir)
+    subst (λ r. Refuses (Damage tap speaker place) r fault.NothingInAir)
     (sym (
     damage-whole w over tap speaker place at from none cut
     ∙ ap (λ (b : Bool). widened (take over w.trace) w.params (unless ((b, NoSuchTap) ∷ (test, NothingInAir) ∷ []) (next, reply))) there
@@ -162,31 +162,24 @@ damage-refused w over tap speaker place at from other none cut there can = absur
 
 -- ---- Start
 
-pub start-done : (w : World) (over tap : ℕ) (taps : List Tap) → w.params.ttd ≡ 0 → IsCut w.now over w.trace → IsStarted (recent_of over w) tap taps
-    → step_start w tap (slice_get w.taps tap) ≡ Ok (record w { taps = taps }, record { now = w.now; spoke = None })
-start-done w over tap taps none cut (t, at, up, are) =
-    let s = recent_of over w in
-    let reply : Reply = record { now = w.now; spoke = None } in
-    start-whole w over tap (slice_get w.taps tap) none cut
-    ∙ ap (λ o. widened (take over w.trace) w.params (step_start s tap o)) at
-    ∙ ap (λ (b : Bool). widened (take over w.trace) w.params (unless ((b, Running) ∷ []) (record s { taps = slice_set w.taps tap (started_tap s tap t) }, reply))) up
-    ∙ ap (λ ts. Ok (record w { trace = take over w.trace ++ drop over w.trace; taps = ts }, reply)) (sym are)
-    ∙ ap (λ es. Ok (record w { trace = es; taps = taps }, reply)) (take-append-drop over w.trace)
+pub start-done : (w : World) (over tap : ℕ) (t : Tap) → w.params.ttd ≡ 0 → IsCut w.now over w.trace → slice_get w.taps tap ≡ Some t → is_sending over w tap t ≡ false
+    → step_start w tap (slice_get w.taps tap) ≡ Ok (record w { taps = slice_set w.taps tap (started_amid over w tap t) }, record { now = w.now; spoke = None })
+start-done w over tap t none cut at up =
+    ap (λ o. step_start w tap o) at ∙ start-whole w over tap t none cut
+    ∙ ap (λ (b : Bool). unless ((b, Running) ∷ []) (record w { taps = slice_set w.taps tap (started_amid over w tap t) }, record { now = w.now; spoke = None })) up
 
-pub start-refused : (w : World) (over tap : ℕ) (reason : WorldFault) → w.params.ttd ≡ 0 → IsCut w.now over w.trace → RefusesStart (recent_of over w) tap reason
-    → Refuses (step_start w tap (slice_get w.taps tap)) reason
-start-refused w over tap fault.NoSuchTap none cut missing = subst (λ o. Refuses (step_start w tap o) fault.NoSuchTap) (sym missing) refl
-start-refused w over tap fault.Running none cut (t, at, up) =
-    let s = recent_of over w in
-    let reply : Reply = record { now = w.now; spoke = None } in
-    subst (λ r. Refuses r fault.Running)
+pub start-missing : (w : World) (tap : ℕ) → slice_get w.taps tap ≡ None → Refuses (Start tap) (step_start w tap (slice_get w.taps tap)) fault.NoSuchTap
+start-missing w tap missing = subst (λ o. Refuses (Start tap) (step_start w tap o) fault.NoSuchTap) (sym missing) refl
+
+pub start-running : (w : World) (over tap : ℕ) (t : Tap) → w.params.ttd ≡ 0 → IsCut w.now over w.trace → slice_get w.taps tap ≡ Some t → is_sending over w tap t ≡ true
+    → Refuses (Start tap) (step_start w tap (slice_get w.taps tap)) fault.Running
+start-running w over tap t none cut at up =
+    subst (λ r. Refuses (Start tap) r fault.Running)
     (sym (
-    start-whole w over tap (slice_get w.taps tap) none cut
-    ∙ ap (λ o. widened (take over w.trace) w.params (step_start s tap o)) at
-    ∙ ap (λ (b : Bool). widened (take over w.trace) w.params (unless ((b, Running) ∷ []) (record s { taps = slice_set w.taps tap (started_tap s tap t) }, reply))) up
+    ap (λ o. step_start w tap o) at ∙ start-whole w over tap t none cut
+    ∙ ap (λ (b : Bool). unless ((b, Running) ∷ []) (record w { taps = slice_set w.taps tap (started_amid over w tap t) }, record { now = w.now; spoke = None })) up
     ))
     refl
-start-refused w over tap other none cut refused = absurd refused
 
 -- ---- Turn
 
@@ -226,6 +219,18 @@ turn-done again w over tap t s said at runs turns cut room =
     turn-by again w tap t s said at runs turns
     ∙ ap (λ (b : Bool). unless ((b, TraceFull) ∷ []) (record w { trace = with_speech w tap said; taps = taps }, reply)) room
     ∙ ap (λ es. Ok (record w { trace = es; taps = taps }, reply)) (said-behind w over tap said cut)
+
+pub turn-refused : (again : Bool) (w : World) (tap : ℕ) (t : Tap) (s : Station) (said : Option (List ℕ)) (reason : WorldFault) → slice_get w.taps tap ≡ Some t → t.running ≡ true
+    → (s, said) ≡ turn_of w.params again t.station t.marks w.now → RefusesSaid said (length w.trace) reason → Refuses (Turn tap) (step again w (Turn tap)) reason
+turn-refused again w tap t s said fault.TraceFull at runs turns full =
+    let next = record w { trace = with_speech w tap said; taps = slice_set w.taps tap (record t { station = s; marks = [] }) } in
+    let reply : Reply = record { now = w.now; spoke = said } in
+    subst (λ r. Refuses (Turn tap) r fault.TraceFull) (sym (turn-by again w tap t s said at runs turns ∙ ap (λ (b : Bool). unless ((b, TraceFull) ∷ []) (next, reply)) full)) refl
+turn-refused again w tap t s said fault.NoMemory at runs turns room =
+    let next = record w { trace = with_speech w tap said; taps = slice_set w.taps tap (record t { station = s; marks = [] }) } in
+    let reply : Reply = record { now = w.now; spoke = said } in
+    subst (λ r. Refuses (Turn tap) r fault.NoMemory) (sym (turn-by again w tap t s said at runs turns ∙ ap (λ (b : Bool). unless ((b, TraceFull) ∷ []) (next, reply)) room.0)) (room.1, refl)
+turn-refused again w tap t s said other at runs turns wrong = absurd wrong
 
 -- what is said at the clock goes behind what is over
 pub from-said : (m tap now : ℕ) (said : Option (List ℕ)) (ts : List Tap) (es : List Entry) → m ≤ now → AllFrom m es → AllFrom m (with_said tap said now ts es)

@@ -8,8 +8,8 @@ use Rattle.std.proofs.lemmas.List.Folds.{list_any-append}
 use Rattle.pb_refusals.specs.FirstFault.{first_fault}
 use Rattle.pb_timers.specs.Timers.{Params}
 use Rattle.pb_turn.specs.Spans.{Span}
-use Rattle.pb_model.specs.Marks.{Mark}
-use Rattle.pb_model.specs.Turn.{started}
+use Rattle.pb_turn.specs.Marks.{Mark}
+use Rattle.pb_turn.specs.Stations.{started}
 use Rattle.pb_model.specs.Trace.{Entry, Sent, Noise}
 use Rattle.pb_model.specs.Medium.{Tap, is_unheard, new_marks, entry_at, reaches}
 use Rattle.pb_model.specs.World.{World, Reply, Fault, NoSuchTap, Running, NothingInAir, ZeroTime, TooFar, ClockFull, InboxFull, clock_limit, unless, unless_fault, next_end_of, is_in_air_by}
@@ -18,6 +18,7 @@ use Rattle.pb_model.specs.Laws.{AllOver, AllFrom}
 use Rattle.pb_model.proofs.Cases.{by_test}
 use Rattle.pb_model.proofs.Past.{marks_between-skip, next_end_of-skip, trace_at-skip}
 use Rattle.pb_world.specs.Airs.{plain, IsCut}
+use Rattle.pb_world.specs.Senses.{at_once}
 
 -- ---- a world with old entries in front of its own, and other parameters
 
@@ -143,36 +144,35 @@ damage-whole w over tap speaker place at from none (m, later, some, old, begun) 
 
 -- ---- Start
 
-start-wide : (p : Params) (old recent : List Entry) (now m tap : ℕ) (o : Option Tap) (taps : List Tap) → p.ttd ≡ 0 → AllOver m old → m ≤ now
-    → step_start (record { params = p; now = now; trace = old ++ recent; taps = taps }) tap o
-    ≡ widened old p (step_start (record { params = plain; now = now; trace = recent; taps = taps }) tap o)
-start-wide p old recent now m tap None taps none over later = refl
-start-wide p old recent now m tap (Some t) taps none over later =
-    let reply : Reply = record { now = now; spoke = None } in
-    let ending : Bool → Bool → Result (World × Reply) Fault
-    = λ sends amid. unless ((t.running || sends, Running) ∷ []) (
-      record {
-        params = p;
-        now = now;
-        trace = old ++ recent;
-        taps = slice_set taps tap (record t { running = true; since = now; amid = amid; station = started t.station t.spec.master now; marks = [] });
-      },
-      reply,
-    ) in
-    ap (λ sends. ending sends (list_any (reaches_now p.ttd tap now) (old ++ recent))) (any-behind (is_in_air_by p.ttd now tap) old recent (over-landed p.ttd m now tap old none over later))
-    ∙ ap (λ amid. ending (list_any (is_in_air_by p.ttd now tap) recent) amid) (any-behind (reaches_now p.ttd tap now) old recent (over-passed p.ttd m now tap old none over later))
-    ∙ ap (λ delay. ending (list_any (is_in_air_by delay now tap) recent) (list_any (reaches_now delay tap now) recent)) none
-    ∙ widened-unless old p ((t.running || list_any (is_in_air_by 0 now tap) recent, Running) ∷ []) (
-    record {
-      params = plain;
-      now = now;
-      trace = recent;
-      taps = slice_set taps tap (record t { running = true; since = now; amid = list_any (reaches_now 0 tap now) recent; station = started t.station t.spec.master now; marks = [] });
-    }
-    ) reply
+-- whether a tap runs, or a telegram of its own is among the recent entries in the air
+abbrev pub is_sending : ℕ → World → ℕ → Tap → Bool
+is_sending over w tap t = t.running || list_any (is_in_air_by at_once w.now tap) (drop over w.trace)
 
-pub start-whole : (w : World) (over tap : ℕ) (o : Option Tap) → w.params.ttd ≡ 0 → IsCut w.now over w.trace
-    → step_start w tap o ≡ widened (take over w.trace) w.params (step_start (record w { params = plain; trace = drop over w.trace }) tap o)
-start-whole w over tap o none (m, later, some, old, begun) =
-    ap (λ es. step_start (record w { trace = es }) tap o) (sym (take-append-drop over w.trace))
-    ∙ start-wide w.params (take over w.trace) (drop over w.trace) w.now m tap o w.taps none old later
+-- a tap that starts, as the recent entries tell it
+abbrev pub started_amid : ℕ → World → ℕ → Tap → Tap
+started_amid over w tap t = record t {
+  running = true;
+  since = w.now;
+  amid = list_any (reaches_now at_once tap w.now) (drop over w.trace);
+  station = started w.params t.station t.spec.master w.now;
+  marks = [];
+}
+
+pub start-whole : (w : World) (over tap : ℕ) (t : Tap) → w.params.ttd ≡ 0 → IsCut w.now over w.trace
+    → step_start w tap (Some t) ≡ unless ((is_sending over w tap t, Running) ∷ []) (record w { taps = slice_set w.taps tap (started_amid over w tap t) }, record { now = w.now; spoke = None })
+start-whole w over tap t none (m, later, some, old, begun) =
+    let past = take over w.trace in
+    let recent = drop over w.trace in
+    let parts = sym (take-append-drop over w.trace) in
+    let sends = ap (list_any (is_in_air_by w.params.ttd w.now tap)) parts
+    ∙ any-behind (is_in_air_by w.params.ttd w.now tap) past recent (over-landed w.params.ttd m w.now tap past none old later)
+    ∙ ap (λ delay. list_any (is_in_air_by delay w.now tap) recent) none in
+    let amid = ap (list_any (reaches_now w.params.ttd tap w.now)) parts
+    ∙ any-behind (reaches_now w.params.ttd tap w.now) past recent (over-passed w.params.ttd m w.now tap past none old later)
+    ∙ ap (λ delay. list_any (reaches_now delay tap w.now) recent) none in
+    let ending : Bool → Bool → Result (World × Reply) Fault
+    = λ s a. unless ((t.running || s, Running) ∷ []) (
+      record w { taps = slice_set w.taps tap (record t { running = true; since = w.now; amid = a; station = started w.params t.station t.spec.master w.now; marks = [] }) },
+      record { now = w.now; spoke = None },
+    ) in
+    ap (λ s. ending s (list_any (reaches_now w.params.ttd tap w.now) w.trace)) sends ∙ ap (ending (list_any (is_in_air_by at_once w.now tap) recent)) amid

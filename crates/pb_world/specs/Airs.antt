@@ -10,13 +10,13 @@ use Rattle.pb_world.specs.Entries.{entry_of}
 use Rattle.pb_world.specs.Senses.{at_once}
 use Rattle.pb_world.specs.Taps.{tap_of}
 
--- parameters of a bus without a cable delay; what doesn't turn a station asks for nothing else of them
+-- parameters of a bus without a cable delay; what neither turns a station nor starts it asks for nothing else of them
 abbrev pub plain : Params
 plain = record { tsl = 0; tid1 = 0; tid2 = 0; tsdr = 0; lag = 0; ttr = 0; gap = 0; hsa = 0; retries = 0; ttd = at_once }
 
--- some entries and taps of a ring as a world of the model, at a moment
-abbrev pub air : List ℕ → ℕ → List Entry → List Tap → model.World
-air ring now entries taps = record { params = plain; now = now; trace = map entry_of entries; taps = map (tap_of ring) taps }
+-- some entries and taps as a world of the model, at a moment
+abbrev pub air : ℕ → List Entry → List Tap → model.World
+air now entries taps = record { params = plain; now = now; trace = map entry_of entries; taps = map tap_of taps }
 
 -- some entries have ended by a moment that is not later than the clock, before all others began
 abbrev pub IsCut : ℕ → ℕ → List trace.Entry → Type 0

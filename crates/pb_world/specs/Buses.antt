@@ -4,15 +4,16 @@ use Rattle.pb_model.specs.World.{World}
 use Rattle.pb_model.specs.Laws.{IsSound}
 use Rattle.pb_world.specs.Airs.{IsCut}
 use Rattle.pb_world.specs.Entries.{entry_of}
-use Rattle.pb_world.specs.Taps.{tap_of}
+use Rattle.pb_world.specs.Taps.{tap_of, seat_of, AreSeated}
 use Rattle.pb_world.specs.declared.buses.Bus.{Bus}
 
 abbrev pub world_of : Bus → World
-world_of w = record { params = w.params; now = w.now; trace = map entry_of w.trace.items; taps = map (tap_of w.ring) w.taps.items }
+world_of w = record { params = w.params; now = w.now; trace = map entry_of w.trace.items; taps = map tap_of w.taps.items }
 
 -- what its fields keep
 pub record IsKept (w : Bus) : Type 0 where
   pub sound : IsSound (world_of w)
   pub clock : w.now ≤ 1000000000000
   pub room : length w.taps.items ≤ 32
+  pub seats : AreSeated w.params 0 (map seat_of w.taps.items)
   pub cut : IsCut w.now w.over (map entry_of w.trace.items)

@@ -1,5 +1,5 @@
 -- The faults of a world, as numbers and as the model says them.
-use Rattle.std.specs.Prelude.{◌≡◌, ℕ, Result, Ok, Err}
+use Rattle.std.specs.Prelude.{◌≡◌, ℕ, Bool, true, false, Result, Ok, Err, is_some}
 use Rattle.pb_model.specs.World as model
 use Rattle.pb_world.specs.declared.faults.NewFault.{NewFault}
 use Rattle.pb_world.specs.declared.faults.NewFault.TheVariants as new
@@ -42,10 +42,17 @@ world_fault model.QueueFull = fault.QueueFull
 world_fault (model.InboxFull tap) = fault.InboxFull tap
 world_fault model.TraceFull = fault.TraceFull
 
--- why a step is refused: by its own fault; where it has none, only for want of memory
-abbrev pub Refuses : {X : Type 0} → Result X model.Fault → WorldFault → Type 0
-Refuses (Err f) reason = reason ≡ world_fault f
-Refuses (Ok next) reason = reason ≡ fault.NoMemory
+-- whether an event takes memory, with the reply that it would have: what a turn says, and damage, are kept
+abbrev pub takes_memory : model.Event → model.Reply → Bool
+takes_memory (model.Turn tap) reply = is_some reply.spoke
+takes_memory (model.Pass bits) reply = false
+takes_memory (model.Damage tap speaker place) reply = true
+takes_memory (model.Start tap) reply = false
+
+-- why an event is refused, by what its step is: by its own fault; where it has none, for want of the memory that it takes
+abbrev pub Refuses : model.Event → Result (model.World × model.Reply) model.Fault → WorldFault → Type 0
+Refuses event (Err f) reason = reason ≡ world_fault f
+Refuses event (Ok next) reason = (takes_memory event next.1 ≡ true) × (reason ≡ fault.NoMemory)
 
 -- why there is no new world
 abbrev pub RefusesNew : {X : Type 0} → Result X model.NewFault → NewFault → Type 0

@@ -1,11 +1,7 @@
-pub mod Arrivals
 pub mod Entries
-pub mod Stations
-pub mod MarkViews
 pub mod Taps
 pub mod Passes
 pub mod Senses
-pub mod Speeches
 pub mod Airs
 pub mod Events
 pub mod Faults

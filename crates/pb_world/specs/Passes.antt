@@ -1,6 +1,6 @@
 -- What a pass does to the taps and to the entries of the trace.
 use Rattle.std.specs.Prelude.{ℕ, ◌+◌, List, [], ◌∷◌, ◌++◌, if◌then◌else◌, Option, Some, None}
-use Rattle.pb_model.specs.Marks.{Mark}
+use Rattle.pb_turn.specs.Marks.{Mark}
 use Rattle.pb_model.specs.Trace.{Heard, Record, Entry, Sent, Noise}
 use Rattle.pb_model.specs.Medium.{Tap, is_whole_at, heard_in_the_end}
 use Rattle.pb_model.specs.Laws.{marks_of_pass}

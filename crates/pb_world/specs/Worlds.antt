@@ -3,9 +3,9 @@ use Rattle.std.specs.Prelude.{◌≡◌, ℕ, Bool, List, [], ◌∷◌, if◌th
 use Rattle.std.specs.Option.{option_and_then}
 use Rattle.pb_model.specs.World.{World, Event, Reply}
 use Rattle.pb_model.specs.Medium as medium
-use Rattle.pb_model.specs.Station as model_station
-use Rattle.pb_model.specs.Station.{due_of}
+use Rattle.pb_turn.specs.Stations.{due_of}
 use Rattle.pb_model.specs.Step.{step}
+use Rattle.pb_station.specs.Stations.{StationView}
 use Rattle.pb_world.specs.declared.events.Reply as events
 use Rattle.pb_world.specs.declared.faults.WorldFault.{WorldFault}
 use Rattle.pb_world.specs.Faults.{Refuses}
@@ -15,15 +15,16 @@ use Rattle.pb_world.specs.Events.{reply_of}
 abbrev pub Follows : World → Event → Result events.Reply WorldFault → World → Type 0
 Follows w event result next = (again : Bool) × MatchResult result
     (λ reply. step again w event ≡ Ok (next, reply_of reply))
-    (λ fault. (next ≡ w) × Refuses (step again w event) fault)
+    (λ fault. (next ≡ w) × Refuses event (step again w event) fault)
 
 -- when a tap is due, if it runs
 abbrev pub due_at : World → ℕ → Option ℕ
 due_at w tap = option_and_then (λ t. if t.running then due_of w.params t.station t.marks else None) (slice_get w.taps tap)
 
--- a station as a reader sees it, and the model's at the tap
-abbrev pub IsStationAt : World → ℕ → model_station.Station → Type 0
-IsStationAt w tap s = (t : medium.Tap) × (slice_get w.taps tap ≡ Some t) × (t.station ≡ s)
+-- a station as a reader sees it is the one at the tap
+abbrev pub IsStationAt : World → ℕ → StationView → Type 0
+IsStationAt w tap s = (t : medium.Tap) × (slice_get w.taps tap ≡ Some t)
+    × (s ≡ record { tap = tap; params = w.params; master = t.spec.master; reply_data = t.spec.reply; station = t.station })
 
 -- events lead from one world to another, each by some choice
 abbrev pub RunsTo : World → List Event → World → Type 0
@@ -33,4 +34,4 @@ RunsTo w (e ∷ es) next = (again : Bool) × (between : World) × (reply : Reply
 -- events lead to a world that refuses, by some choice, the one at a place
 abbrev pub StopsAt : World → List Event → ℕ → WorldFault → World → Type 0
 StopsAt w events place fault next = RunsTo w (take place events) next
-    × (event : Event) × (slice_get events place ≡ Some event) × (again : Bool) × Refuses (step again next event) fault
+    × (event : Event) × (slice_get events place ≡ Some event) × (again : Bool) × Refuses event (step again next event) fault

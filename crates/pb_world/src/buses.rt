@@ -7,11 +7,10 @@ use crate::entries::{Entry, Hit};
 use crate::events::{Event, Reply};
 use crate::faults::WorldFault;
 use crate::recents::recent;
-use crate::rings::Ring;
 use crate::starting::start;
-use crate::stations::Station;
 use crate::taps::Tap;
 use crate::turning::{Speaker, keep_turn, say, turn_at};
+use pb_station::{Station, due};
 use pb_timers::{BusParams, Moment};
 use std::alloc::Global;
 
@@ -19,7 +18,6 @@ use std::alloc::Global;
 #[derive(Drop)]
 pub(crate) struct Bus {
     pub(crate) params: BusParams,
-    pub(crate) ring: Ring,
     pub(crate) now: Moment,
     pub(crate) trace: Vec<Entry>,
     /// How many entries had ended before all others began.
@@ -28,14 +26,12 @@ pub(crate) struct Bus {
 }
 
 impl Bus {
-    ghost use Rattle.std.specs.Prelude.{◌≡◌, Some, None, MatchOption, slice_get};
-    ghost use Rattle.pb_model.specs.Medium as model;
+    ghost use Rattle.std.specs.Prelude.{◌≡◌, None, MatchOption, slice_get};
     ghost use Rattle.pb_model.specs.World as events;
     ghost use Rattle.pb_world.specs.Buses.{world_of, IsKept};
     ghost use Rattle.pb_world.specs.Entries.{hit_of};
     ghost use Rattle.pb_world.specs.Events.{event_of};
-    ghost use Rattle.pb_world.specs.Stations.{station_of};
-    ghost use Rattle.pb_world.specs.Worlds.{due_at, Follows};
+    ghost use Rattle.pb_world.specs.Worlds.{due_at, Follows, IsStationAt};
 
     /// What comes of an event.
     pub(crate) fn apply(&mut self, alloc: Global, event: Event) -> Result<Reply, WorldFault>
@@ -60,17 +56,17 @@ impl Bus {
         ensures follows { Follows (world_of self.old) (events.Turn tap) result (world_of self.new) }
         ensures kept { IsKept self.new }
     {
-        let turn = turn_at(&self.taps, tap, &self.params, &self.ring, self.now)?;
+        let turn = turn_at(&self.taps, tap, self.now)?;
         let speaker = Speaker {
             tap,
             taps: self.taps.len(),
             clock: self.now,
         };
-        say(&mut self.trace, self.over, alloc, &turn.spoke, speaker)?;
+        say(&mut self.trace, self.over, alloc, &turn.speak, speaker)?;
         keep_turn(&mut self.taps, tap, turn.after);
         Ok(Reply {
             now: self.now,
-            spoke: turn.spoke,
+            spoke: turn.speak,
         })
     }
 
@@ -111,19 +107,21 @@ impl Bus {
     }
 
     /// When the station at a tap has to take its turn.
-    pub(crate) fn due(&self, tap: usize) -> Option<u64>
+    pub(crate) fn due(&self, tap: usize) -> Option<Moment>
+        requires { IsKept self.now }
         ensures { result ≡ due_at (world_of self.entry.now) tap }
     {
-        match self.taps.get(tap) {
-            Some(tap) if tap.running => tap.station.due(&self.params, tap.marks.marks()),
-            _ => None,
+        let tap = self.taps.get(tap)?;
+        if !tap.running {
+            return None;
         }
+        due(&tap.station, tap.marks.marks())
     }
 
     /// The station at a tap.
     pub(crate) fn station(&self, tap: usize) -> Option<&Station>
-        ensures { MatchOption result (slice_get (world_of self.entry.now).taps tap ≡ None)
-            (λ s. (t : model.Tap) × (slice_get (world_of self.entry.now).taps tap ≡ Some t) × (t.station ≡ station_of self.entry.now.ring s.now)) }
+        requires { IsKept self.now }
+        ensures { MatchOption result (slice_get (world_of self.entry.now).taps tap ≡ None) (λ s. IsStationAt (world_of self.entry.now) tap s.now) }
     {
         match self.taps.get(tap) {
             Some(tap) => Some(&tap.station),

@@ -1,4 +1,4 @@
-ghost use Rattle.std.specs.Prelude.{◌≡◌, ◌+◌, ◌≤◌, ℕ, List, None, Ok, IfOk, IfErr, OnErr, MatchResult, length, map, take, drop};
+ghost use Rattle.std.specs.Prelude.{◌≡◌, ◌+◌, ◌≤◌, ℕ, None, Ok, IfOk, IfErr, OnErr, MatchResult, length, map, take, drop};
 ghost use Rattle.pb_refusals.specs.FirstFault.{first_fault};
 ghost use Rattle.pb_model.specs.Laws.{AllBegun, IsSound};
 ghost use Rattle.pb_model.specs.Step.{step_pass};
@@ -7,7 +7,7 @@ ghost use Rattle.pb_world.specs.Airs.{air, IsCut};
 ghost use Rattle.pb_world.specs.Clocks.{time_faults, IsFault, IsFirstOf, PassesTo};
 ghost use Rattle.pb_world.specs.Entries.{entry_of};
 ghost use Rattle.pb_world.specs.Senses.{at_once};
-ghost use Rattle.pb_world.specs.Taps.{tap_of};
+ghost use Rattle.pb_world.specs.Taps.{seat_of, tap_of};
 
 use crate::entries::Entry;
 use crate::faults::WorldFault;
@@ -48,14 +48,14 @@ pub(crate) fn pass_recent(
     bits: u64,
 ) -> Result<Moment, WorldFault>
     requires over { over ≤ length trace.old }
-    requires sound { (ring : List ℕ) → IsSound (air ring now (drop over trace.old) taps.old) }
-    ensures ok { (ring : List ℕ) → IfOk result (λ to. PassesTo (air ring now (drop over trace.old) taps.old) bits (take over (map entry_of trace.old))
-        to (map entry_of trace.new) (map (tap_of ring) taps.new)) }
+    requires sound { IsSound (air now (drop over trace.old) taps.old) }
+    ensures ok { IfOk result (λ to. PassesTo (air now (drop over trace.old) taps.old) bits (take over (map entry_of trace.old))
+        to (map entry_of trace.new) (map tap_of taps.new)) }
     ensures clock { IfOk result (λ to. (now ≤ to) × (to ≤ 1000000000000)) }
-    ensures taps { length taps.new ≡ length taps.old }
+    ensures seats { map seat_of taps.new ≡ map seat_of taps.old }
     ensures length { length trace.new ≡ length trace.old }
     ensures err { OnErr result ((map entry_of trace.new ≡ map entry_of trace.old) × (taps.new ≡ taps.old)) }
-    ensures fault { (ring : List ℕ) → IfErr result (IsFault (step_pass (air ring now (drop over trace.old) taps.old) bits)) }
+    ensures fault { IfErr result (IsFault (step_pass (air now (drop over trace.old) taps.old) bits)) }
 {
     pass(&mut trace[over..], taps, now, bits)
 }
@@ -67,13 +67,13 @@ fn pass(
     now: Moment,
     bits: u64,
 ) -> Result<Moment, WorldFault>
-    requires { (ring : List ℕ) → IsSound (air ring now entries.old taps.old) }
-    ensures ok { (ring : List ℕ) → IfOk result (λ to. step_pass (air ring now entries.old taps.old) bits ≡ Ok (air ring to entries.new taps.new, record { now = to; spoke = None })) }
+    requires { IsSound (air now entries.old taps.old) }
+    ensures ok { IfOk result (λ to. step_pass (air now entries.old taps.old) bits ≡ Ok (air to entries.new taps.new, record { now = to; spoke = None })) }
     ensures clock { IfOk result (λ to. (now ≤ to) × (to ≤ 1000000000000)) }
-    ensures taps { length taps.new ≡ length taps.old }
+    ensures seats { map seat_of taps.new ≡ map seat_of taps.old }
     ensures length { length entries.new ≡ length entries.old }
     ensures err { OnErr result ((entries.new ≡ entries.old) × (taps.new ≡ taps.old)) }
-    ensures fault { (ring : List ℕ) → IfErr result (IsFault (step_pass (air ring now entries.old taps.old) bits)) }
+    ensures fault { IfErr result (IsFault (step_pass (air now entries.old taps.old) bits)) }
 {
     let to = later(next_end(entries, now.get()), now, bits)?;
     if let Some(tap) = first_full(entries, taps, now, to) {

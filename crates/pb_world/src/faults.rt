@@ -3,6 +3,7 @@ ghost use Rattle.pb_world.specs.Faults.{number_of, number_of_new};
 ghost use Rattle.pb_world.specs.declared.faults.NewFault.TheVariants as new;
 ghost use Rattle.pb_world.specs.declared.faults.WorldFault.TheVariants as world;
 
+use pb_station::NoMemory;
 use std::alloc::{AllocError, AllocFailed};
 use thiserror::Error;
 
@@ -42,6 +43,14 @@ impl From<AllocError> for NewFault {
     ghost from_gives = { λ _ fault. fault ≡ new.NoMemory };
 
     fn from(_refused: AllocError) -> NewFault {
+        NewFault::NoMemory
+    }
+}
+
+impl From<NoMemory> for NewFault {
+    ghost from_gives = { λ _ fault. fault ≡ new.NoMemory };
+
+    fn from(_refused: NoMemory) -> NewFault {
         NewFault::NoMemory
     }
 }

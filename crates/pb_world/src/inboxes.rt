@@ -1,4 +1,4 @@
-use crate::marks::Mark;
+use pb_station::Mark;
 use std::alloc::{AllocError, Global};
 use std::marker::Model;
 
@@ -14,8 +14,8 @@ pub(crate) struct Inbox {
 impl Model for Inbox {
     ghost use Rattle.std.specs.Prelude.{◌≤◌, List, length, map};
     ghost use Rattle.std.specs.Vec.{vec_capacity};
-    ghost use Rattle.pb_model.specs.Marks as model;
-    ghost use Rattle.pb_world.specs.MarkViews.{mark_of};
+    ghost use Rattle.pb_turn.specs.Marks as model;
+    ghost use Rattle.pb_station.specs.MarkViews.{mark_of};
 
     ghost Value = { List model.Mark };
 
@@ -26,7 +26,7 @@ impl Model for Inbox {
 
 impl Inbox {
     ghost use Rattle.std.specs.Prelude.{◌≡◌, ◌<◌, ◌++◌, [], ◌∷◌, IfOk, length, map};
-    ghost use Rattle.pb_world.specs.MarkViews.{mark_of};
+    ghost use Rattle.pb_station.specs.MarkViews.{mark_of};
 
     pub(crate) fn new(alloc: Global) -> Result<Inbox, AllocError>
         ensures { IfOk result (λ b. b ≡ []) }

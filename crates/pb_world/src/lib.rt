@@ -4,10 +4,9 @@
 //! passing time, damage, a start) and answers what came of it. The trace, the clock, and each station with
 //! the moment of its next turn are read from it. All times are in bit times.
 //!
-//! Interim: the ring is the set of all masters, and a station may pass its token again after damage.
+//! Interim: a station that waits for a sign that its token was taken may pass it again after damage.
 #![tactic(auto)]
 
-mod arrivals;
 mod buses;
 mod clocks;
 mod damaging;
@@ -16,27 +15,20 @@ mod events;
 mod faults;
 mod inboxes;
 mod making;
-mod marks;
 mod moments;
-mod neighbours;
 mod passes;
-mod past;
 mod recents;
-mod rings;
 mod senses;
 mod spans;
-mod speeches;
 mod starting;
-mod stations;
 mod taps;
-mod transitions;
 mod turning;
 mod worlds;
 
 pub use entries::{Entry, Heard, Record};
 pub use events::{Event, Reply};
 pub use faults::{NewFault, WorldFault};
-pub use stations::Station;
+pub use pb_station::Station;
 pub use taps::{Kind, TapSpec};
 pub use worlds::{World, run};
 

@@ -1,22 +1,22 @@
-ghost use Rattle.std.specs.Prelude.{◌≡◌, ◌≤◌, ◌<◌, ◌+◌, ◌++◌, [], ◌∷◌, false, ℕ, List, None, Some, IfOk, IfErr, OnOk, IfSome, All, length, map};
+ghost use Rattle.std.specs.Prelude.{◌≡◌, ◌≤◌, ◌<◌, ◌+◌, false, None, Some, IfOk, IfErr, OnOk, MatchResult, All, map};
 ghost use Rattle.std.specs.Option.{option_map};
 ghost use Rattle.pb_refusals.specs.FirstFault.{first_fault};
 ghost use Rattle.pb_timers.specs.Timers.{Params};
 ghost use Rattle.pb_model.specs.World as world;
-ghost use Rattle.pb_model.specs.World.{new_faults, master_addresses, stopped_tap};
+ghost use Rattle.pb_model.specs.World.{new_faults, stopped_tap};
 ghost use Rattle.pb_timers.specs.ParamRules.{IsValid};
 ghost use Rattle.pb_world.specs.Faults.{new_fault};
-ghost use Rattle.pb_world.specs.Making.{AreStations};
-ghost use Rattle.pb_world.specs.Taps.{is_master, spec_of, tap_of};
+ghost use Rattle.pb_turn.specs.Stations as turn;
+ghost use Rattle.pb_world.specs.Making.{AreStations, IsNoMemory};
+ghost use Rattle.pb_world.specs.Taps.{is_master, spec_of, seat_of, tap_of, AreSeated};
 
 use crate::faults::NewFault;
 use crate::inboxes::Inbox;
-use crate::rings::{Address, Ring};
-use crate::stations::Station;
 use crate::taps::{Kind, Tap, TapSpec, is_master};
 use arrayvec::ArrayVec;
+use pb_station::Station;
 use pb_timers::BusParams;
-use std::alloc::{AllocError, Global};
+use std::alloc::Global;
 
 /// How many taps a bus may have.
 const TAP_LIMIT: usize = 32;
@@ -68,65 +68,72 @@ fn has_bad_address(highest: u32, spec: &TapSpec) -> bool
     }
 }
 
-/// The addresses of the masters.
-pub(crate) fn ring_of(specs: &[TapSpec]) -> Ring
-    requires { AreStations specs.now }
-    ensures { result ≡ master_addresses (map spec_of specs.now) }
-{
-    let mut ring = Ring::new();
-    for spec in specs {
-        enter(&mut ring, spec);
-    }
-    ring
-}
-
-/// Enters the address of a master.
-fn enter(ring: &mut Ring, spec: &TapSpec)
-    requires { (length ring.old < 32) × (spec.now.address ≤ 126) }
-    ensures ring { ring.new ≡ ring.old ++ master_addresses (spec_of spec.now ∷ []) }
-    ensures bound { length ring.new ≤ length ring.old + 1 }
-{
-    if is_master(spec.kind) {
-        ring.push(Address::new(spec.address));
-    }
-}
-
 /// The taps of a new world: none of them runs.
-pub(crate) fn new_taps(alloc: Global, specs: &[TapSpec]) -> Result<Vec<Tap>, AllocError>
+pub(crate) fn new_taps(
+    alloc: Global,
+    params: &BusParams,
+    specs: &[TapSpec],
+) -> Result<Vec<Tap>, NewFault>
     requires { AreStations specs.now }
-    ensures { (ring : List ℕ) → IfOk result (λ taps. map (tap_of ring) taps.items ≡ map (stopped_tap ring) (map spec_of specs.now)) }
+    ensures taps { IfOk result (λ taps. map tap_of taps.items ≡ map (stopped_tap params.now) (map spec_of specs.now)) }
+    ensures seats { IfOk result (λ taps. AreSeated params.now 0 (map seat_of taps.items)) }
+    ensures fault { IfErr result IsNoMemory }
 {
     let mut taps = Vec::with_capacity(alloc, specs.len())?;
     for (tap, spec) in specs.iter().enumerate() {
-        taps.push_reserved(new_tap(alloc, tap, spec)?);
+        taps.push_reserved(new_tap(alloc, params, tap, spec)?);
     }
     Ok(taps)
 }
 
-fn new_tap(alloc: Global, tap: usize, spec: &TapSpec) -> Result<Tap, AllocError>
+fn new_tap(alloc: Global, params: &BusParams, tap: usize, spec: &TapSpec) -> Result<Tap, NewFault>
     requires { spec.now.address ≤ 126 }
-    ensures { (ring : List ℕ) → IfOk result (λ t. tap_of ring t ≡ stopped_tap ring (spec_of spec.now)) }
+    ensures tap { IfOk result (λ t. tap_of t ≡ stopped_tap params.now (spec_of spec.now)) }
+    ensures seat { IfOk result (λ t. seat_of t ≡ record { tap = tap; params = params.now }) }
+    ensures fault { IfErr result IsNoMemory }
 {
     let marks = Inbox::new(alloc)?;
-    let address = Address::new(spec.address);
+    let station = new_station(alloc, params, tap, spec)?;
     Ok(Tap {
-        spec: copied(spec),
         running: false,
         since: 0,
         amid: false,
-        station: Station::new(tap, address),
+        station,
         marks,
     })
 }
 
-fn copied(spec: &TapSpec) -> TapSpec
-    ensures { spec_of result ≡ spec_of spec.now }
+fn new_station(
+    alloc: Global,
+    params: &BusParams,
+    tap: usize,
+    spec: &TapSpec,
+) -> Result<Station, NewFault>
+    requires { spec.now.address ≤ 126 }
+    ensures { MatchResult result (λ s. s ≡ record {
+      tap = tap;
+      params = params.now;
+      master = is_master spec.now.kind;
+      reply_data = spec.now.reply.items;
+      station = turn.new_station params.now spec.now.address;
+    }) IsNoMemory }
 {
-    let mut reply = ArrayVec::new();
-    reply.try_extend_from_slice(&spec.reply).unwrap();
-    TapSpec {
-        address: spec.address,
-        kind: spec.kind,
-        reply,
-    }
+    let station = Station::new(
+        alloc,
+        tap,
+        *params,
+        spec.address,
+        is_master(spec.kind),
+        copied(&spec.reply),
+    )?;
+    Ok(station)
+}
+
+/// The same octets.
+fn copied(octets: &ArrayVec<u8, 246>) -> ArrayVec<u8, 246>
+    ensures { result.items ≡ octets.now.items }
+{
+    let mut copy = ArrayVec::new();
+    copy.try_extend_from_slice(octets).unwrap();
+    copy
 }

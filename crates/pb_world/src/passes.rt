@@ -5,19 +5,19 @@ ghost use Rattle.pb_model.specs.Step as step;
 ghost use Rattle.pb_world.specs.Entries.{entry_of, heard_of, record_of};
 ghost use Rattle.pb_world.specs.Passes.{news, told_news, with_news, heard_with, settled_as};
 ghost use Rattle.pb_world.specs.Senses.{at_once};
-ghost use Rattle.pb_world.specs.Taps.{tap_of};
+ghost use Rattle.pb_world.specs.Taps.{seat_of, tap_of};
 
 use crate::entries::{Entry, Heard, Record};
 use crate::inboxes::MARK_LIMIT;
-use crate::marks::Mark;
 use crate::senses::{burst_begins, burst_characters, burst_ends, is_whole_at};
 use crate::taps::Tap;
 use arrayvec::ArrayVec;
+use pb_station::Mark;
 use pb_timers::Moment;
 
 /// How many marks a pass tells the tap at a position.
 fn news_count(entries: &[Entry], position: usize, tap: &Tap, from: Moment, to: Moment) -> usize
-    ensures count { (ring : List ℕ) → result ≡ length (news at_once position (tap_of ring tap.now) (map entry_of entries.now) from to) }
+    ensures count { result ≡ length (news at_once position (tap_of tap.now) (map entry_of entries.now) from to) }
     ensures few { result ≤ 2 }
 {
     if !tap.running {
@@ -29,7 +29,7 @@ fn news_count(entries: &[Entry], position: usize, tap: &Tap, from: Moment, to: M
 
 /// The first tap that a pass would tell more than it may have unread.
 pub(crate) fn first_full(entries: &[Entry], taps: &[Tap], from: Moment, to: Moment) -> Option<usize>
-    ensures { (ring : List ℕ) → result ≡ step.first_full 0 (told_news at_once (map entry_of entries.now) from to 0 (map (tap_of ring) taps.now)) }
+    ensures { result ≡ step.first_full 0 (told_news at_once (map entry_of entries.now) from to 0 (map tap_of taps.now)) }
 {
     for (position, tap) in taps.iter().enumerate() {
         if tap.marks.marks().len() + news_count(entries, position, tap, from, to) > MARK_LIMIT {
@@ -41,8 +41,9 @@ pub(crate) fn first_full(entries: &[Entry], taps: &[Tap], from: Moment, to: Mome
 
 /// A pass tells the tap at a position.
 fn tell(entries: &[Entry], position: usize, tap: &mut Tap, from: Moment, to: Moment)
-    requires { (ring : List ℕ) → length tap.old.marks + length (news at_once position (tap_of ring tap.old) (map entry_of entries.now) from to) ≤ 64 }
-    ensures { (ring : List ℕ) → tap_of ring tap.new ≡ with_news at_once position (tap_of ring tap.old) (map entry_of entries.now) from to }
+    requires { length tap.old.marks + length (news at_once position (tap_of tap.old) (map entry_of entries.now) from to) ≤ 64 }
+    ensures told { tap_of tap.new ≡ with_news at_once position (tap_of tap.old) (map entry_of entries.now) from to }
+    ensures seat { seat_of tap.new ≡ seat_of tap.old }
 {
     if !tap.running {
         return;
@@ -62,8 +63,9 @@ fn tell(entries: &[Entry], position: usize, tap: &mut Tap, from: Moment, to: Mom
 
 /// A pass tells every tap. None of them is told more than it may have unread.
 pub(crate) fn tell_all(entries: &[Entry], taps: &mut [Tap], from: Moment, to: Moment)
-    requires { (ring : List ℕ) → step.first_full 0 (told_news at_once (map entry_of entries.now) from to 0 (map (tap_of ring) taps.old)) ≡ None }
-    ensures { (ring : List ℕ) → map (tap_of ring) taps.new ≡ told_news at_once (map entry_of entries.now) from to 0 (map (tap_of ring) taps.old) }
+    requires { step.first_full 0 (told_news at_once (map entry_of entries.now) from to 0 (map tap_of taps.old)) ≡ None }
+    ensures seats { map seat_of taps.new ≡ map seat_of taps.old }
+    ensures told { map tap_of taps.new ≡ told_news at_once (map entry_of entries.now) from to 0 (map tap_of taps.old) }
 {
     for (position, tap) in taps.iter_mut().enumerate() {
         tell(entries, position, tap, from, to);
@@ -72,7 +74,7 @@ pub(crate) fn tell_all(entries: &[Entry], taps: &mut [Tap], from: Moment, to: Mo
 
 /// Time has passed: telegrams that have reached the taps are no longer pending.
 pub(crate) fn settle(entries: &mut [Entry], taps: &[Tap], from: Moment, to: Moment)
-    ensures { (ring : List ℕ) → map entry_of entries.new ≡ map (entry_at at_once (map (tap_of ring) taps.now) (map entry_of entries.old) from to) (map entry_of entries.old) }
+    ensures { map entry_of entries.new ≡ map (entry_at at_once (map tap_of taps.now) (map entry_of entries.old) from to) (map entry_of entries.old) }
 {
     for place in 0..entries.len() {
         let known = &entries[..];
@@ -98,8 +100,8 @@ fn outcome(
     from: Moment,
     to: Moment,
 ) -> Option<ArrayVec<Heard, 32>>
-    ensures { (ring : List ℕ) → settled_as (option_map (λ heard. map heard_of heard.items) result) (entry_of entry.now)
-        ≡ entry_at at_once (map (tap_of ring) taps.now) (map entry_of entries.now) from to (entry_of entry.now) }
+    ensures { settled_as (option_map (λ heard. map heard_of heard.items) result) (entry_of entry.now)
+        ≡ entry_at at_once (map tap_of taps.now) (map entry_of entries.now) from to (entry_of entry.now) }
 {
     match entry {
         Entry::Sent(telegram) if from.get() < telegram.end && telegram.end <= to.get() => {
@@ -111,7 +113,7 @@ fn outcome(
 
 /// What a telegram of the entries was to each tap, once it has ended.
 fn heard_in_the_end(entries: &[Entry], telegram: &Record, taps: &[Tap]) -> ArrayVec<Heard, 32>
-    ensures { (ring : List ℕ) → map heard_of result.items ≡ heard_by at_once (map entry_of entries.now) (record_of telegram.now) 0 (map (tap_of ring) taps.now) (record_of telegram.now).heard }
+    ensures { map heard_of result.items ≡ heard_by at_once (map entry_of entries.now) (record_of telegram.now) 0 (map tap_of taps.now) (record_of telegram.now).heard }
 {
     let mut heard = ArrayVec::new();
     for (position, before) in telegram.heard.iter().enumerate() {
@@ -128,8 +130,8 @@ fn heard_at(
     position: usize,
     before: Heard,
 ) -> Heard
-    ensures { (ring : List ℕ) → heard_of result ≡ heard_with at_once (map entry_of entries.now) (record_of telegram.now) position
-        (slice_get (map (tap_of ring) taps.now) position) (heard_of before) }
+    ensures { heard_of result ≡ heard_with at_once (map entry_of entries.now) (record_of telegram.now) position
+        (slice_get (map tap_of taps.now) position) (heard_of before) }
 {
     let Some(tap) = taps.get(position) else {
         return before;

@@ -118,7 +118,7 @@ fn is_alone(entries: &[Entry], position: usize, since: u64, telegram: &Record) -
 
 /// Whether a telegram fills a burst of the tap at a position alone.
 pub(crate) fn fills_burst(entries: &[Entry], position: usize, tap: &Tap, telegram: &Record) -> bool
-    ensures { (ring : List ℕ) → result ≡ model.fills_burst at_once position (tap_of ring tap.now) (map entry_of entries.now) (record_of telegram.now) }
+    ensures { result ≡ model.fills_burst at_once position (tap_of tap.now) (map entry_of entries.now) (record_of telegram.now) }
 {
     tap.hears_from(telegram.begin) && is_alone(entries, position, tap.since, telegram)
 }
@@ -166,7 +166,7 @@ fn characters_at(telegram: &Record, position: usize) -> ArrayVec<RxChar, 255>
 
 /// Whether an entry is a telegram that ends at a moment and fills a burst alone.
 fn fills_burst_to(entries: &[Entry], position: usize, tap: &Tap, moment: u64, entry: &Entry) -> bool
-    ensures { (ring : List ℕ) → result ≡ model.fills_burst_to at_once position (tap_of ring tap.now) (map entry_of entries.now) moment (entry_of entry.now) }
+    ensures { result ≡ model.fills_burst_to at_once position (tap_of tap.now) (map entry_of entries.now) moment (entry_of entry.now) }
 {
     match entry {
         Entry::Noise { .. } => false,
@@ -194,7 +194,7 @@ pub(crate) fn burst_characters(
     tap: &Tap,
     moment: u64,
 ) -> ArrayVec<RxChar, 255>
-    ensures { (ring : List ℕ) → result.items ≡ model.burst_characters at_once position (tap_of ring tap.now) (map entry_of entries.now) moment }
+    ensures { result.items ≡ model.burst_characters at_once position (tap_of tap.now) (map entry_of entries.now) moment }
 {
     let filling = entries.iter().find(|entry| fills_burst_to(
         entries, position, tap, moment, entry,
@@ -218,7 +218,7 @@ fn is_undamaged_at(telegram: &Record, position: usize) -> bool
 
 /// Whether a telegram of the entries came whole to the tap at a position.
 pub(crate) fn is_whole_at(entries: &[Entry], position: usize, tap: &Tap, telegram: &Record) -> bool
-    ensures { (ring : List ℕ) → result ≡ model.is_whole_at at_once position (tap_of ring tap.now) (map entry_of entries.now) (record_of telegram.now) }
+    ensures { result ≡ model.is_whole_at at_once position (tap_of tap.now) (map entry_of entries.now) (record_of telegram.now) }
 {
     if !tap.running {
         return false;

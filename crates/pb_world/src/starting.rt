@@ -1,16 +1,14 @@
-ghost use Rattle.std.specs.Prelude.{◌≡◌, ◌||◌, ℕ, List, IfErr, OnOk, OnErr, length, map};
+ghost use Rattle.std.specs.Prelude.{◌≡◌, ◌≤◌, IfErr, OnOk, OnErr, map};
 ghost use Rattle.std.specs.List.{list_any};
 ghost use Rattle.pb_model.specs.World as world;
-ghost use Rattle.pb_world.specs.Airs.{air};
 ghost use Rattle.pb_world.specs.Entries.{entry_of};
 ghost use Rattle.pb_world.specs.Senses.{at_once};
-ghost use Rattle.pb_world.specs.Starting.{fresh_tap, IsStarted, RefusesStart};
-ghost use Rattle.pb_world.specs.Taps.{tap_of};
+ghost use Rattle.pb_world.specs.Starting.{fresh_tap, is_up, IsStarted, RefusesStart};
 
 use crate::entries::Entry;
 use crate::faults::WorldFault;
 use crate::senses::{is_in_air_by, is_reached};
-use crate::taps::{Tap, is_master};
+use crate::taps::Tap;
 use pb_timers::Moment;
 
 /// Starts the station at a tap.
@@ -20,10 +18,10 @@ pub(crate) fn start(
     tap: usize,
     now: Moment,
 ) -> Result<(), WorldFault>
-    ensures length { length taps.new ≡ length taps.old }
-    ensures ok { (ring : List ℕ) → OnOk result (IsStarted (air ring now entries.now taps.old) tap (map (tap_of ring) taps.new)) }
+    requires { now ≤ 1000000000000 }
+    ensures ok { OnOk result (IsStarted now (map entry_of entries.now) taps.old tap taps.new) }
     ensures err { OnErr result (taps.new ≡ taps.old) }
-    ensures fault { (ring : List ℕ) → IfErr result (RefusesStart (air ring now entries.now taps.old) tap) }
+    ensures fault { IfErr result (RefusesStart now (map entry_of entries.now) taps.old tap) }
 {
     if tap >= taps.len() {
         return Err(WorldFault::NoSuchTap);
@@ -38,7 +36,7 @@ pub(crate) fn start(
 
 /// Whether the tap at a position runs, or a telegram of its own is in the air.
 fn is_up(entries: &[Entry], tap: &Tap, position: usize, now: Moment) -> bool
-    ensures { result ≡ (tap.now.running || list_any (world.is_in_air_by at_once now position) (map entry_of entries.now)) }
+    ensures { result ≡ is_up now (map entry_of entries.now) position tap.now }
 {
     tap.running || is_sending(entries, position, now)
 }
@@ -54,11 +52,12 @@ fn is_sending(entries: &[Entry], tap: usize, now: Moment) -> bool
 
 /// The tap starts; whether amid something that is reaching it is told.
 fn start_tap(tap: &mut Tap, amid: bool, now: Moment)
-    ensures { (ring : List ℕ) → tap_of ring tap.new ≡ fresh_tap (tap_of ring tap.old) amid now }
+    requires { now ≤ 1000000000000 }
+    ensures { tap.new ≡ fresh_tap tap.old amid now }
 {
     tap.running = true;
     tap.since = now.get();
     tap.amid = amid;
-    tap.station = tap.station.started(is_master(tap.spec.kind), now);
+    tap.station.start(now);
     tap.marks.clear();
 }

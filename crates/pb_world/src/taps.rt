@@ -3,8 +3,8 @@ ghost use Rattle.pb_model.specs.Medium.{hears_from};
 ghost use Rattle.pb_world.specs.Taps.{is_master, tap_of};
 
 use crate::inboxes::Inbox;
-use crate::stations::Station;
 use arrayvec::ArrayVec;
+use pb_station::Station;
 
 /// Whether a tap is a master or a passive station.
 #[derive(Clone, Copy, Debug, PartialEq, Eq)]
@@ -35,12 +35,11 @@ pub struct TapSpec {
     pub reply: ArrayVec<u8, 246>,
 }
 
-/// A tap of the bus: its station, and what it has not read yet.
+/// A tap of the bus: its station, and what that has not read yet.
 #[derive(Debug, Drop)]
 pub(crate) struct Tap {
-    pub(crate) spec: TapSpec,
     pub(crate) running: bool,
-    /// The moment of its last start.
+    /// The moment of its last start, also of a tap that has stopped.
     pub(crate) since: u64,
     /// Whether something was reaching it when it started.
     pub(crate) amid: bool,
@@ -51,7 +50,7 @@ pub(crate) struct Tap {
 impl Tap {
     /// Whether the tap ran when a telegram began that begins at a moment, and heard it from there.
     pub(crate) fn hears_from(&self, moment: u64) -> bool
-        ensures { (ring : List ℕ) → result ≡ hears_from (tap_of ring self.now) moment }
+        ensures { result ≡ hears_from (tap_of self.now) moment }
     {
         self.since < moment || (self.since == moment && !self.amid)
     }

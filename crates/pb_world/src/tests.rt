@@ -4,6 +4,7 @@ mod memory;
 mod passing;
 mod reading;
 mod refusals;
+mod ring;
 mod running;
 
 use crate::{Entry, Event, Heard, Kind, Record, TapSpec, World, WorldFault};
@@ -49,12 +50,21 @@ fn masters(alloc: Global, addresses: &[u8]) -> Result<World, Fail> {
     Ok(World::new(alloc, usual()?, &specs)?)
 }
 
-/// Two masters with addresses 1 and 2 that start at 0.
-fn two_started(alloc: Global) -> Result<World, Fail> {
-    let mut world = masters(alloc, &[1, 2])?;
-    world.apply(alloc, Event::Start(0))?;
-    world.apply(alloc, Event::Start(1))?;
+/// A new world with masters of some addresses, which all start at 0.
+fn started(alloc: Global, addresses: &[u8]) -> Result<World, Fail> {
+    let mut world = masters(alloc, addresses)?;
+    for tap in 0..addresses.len() {
+        world.apply(alloc, Event::Start(tap))?;
+    }
     Ok(world)
+}
+
+fn damage(tap: usize, speaker: usize, place: Option<u8>) -> Event {
+    Event::Damage {
+        tap,
+        speaker,
+        place,
+    }
 }
 
 /// An event, and the moment at which it happens.
@@ -87,7 +97,7 @@ fn take_steps(alloc: Global, world: &mut World, steps: &[Step]) -> Result<(), Wo
 fn take_turns(alloc: Global, world: &mut World) -> Result<(), WorldFault> {
     for tap in 0..TAPS {
         let now = world.now().get();
-        if world.due(tap).is_some_and(|due| due <= now) {
+        if due(world, tap).is_some_and(|due| due <= now) {
             world.apply(alloc, Event::Turn(tap))?;
         }
     }
@@ -113,7 +123,7 @@ fn next_instant(world: &World, steps: &[Step]) -> Option<u64> {
         next = sooner(now, next, Some(entry.end()));
     }
     for tap in 0..TAPS {
-        next = sooner(now, next, world.due(tap));
+        next = sooner(now, next, due(world, tap));
     }
     next
 }
@@ -137,7 +147,8 @@ fn begins_at(entry: &Entry, moment: u64) -> bool {
     matches!(entry, Entry::Sent(record) if record.begin == moment)
 }
 
-/// The trace, a line for each telegram: when it begins and ends, its tap, and its octets in hex.
+/// The trace, a line for each telegram: when it begins and ends, its tap, its octets in hex, and how each
+/// tap heard it.
 fn trace_text(alloc: Global, world: &World) -> Result<String, AllocError> {
     let mut text = String::new(alloc);
     for entry in world.trace() {
@@ -149,20 +160,30 @@ fn trace_text(alloc: Global, world: &World) -> Result<String, AllocError> {
 }
 
 fn write_line(text: &mut String, record: &Record) -> Result<(), AllocError> {
-    let (begin, end, tap) = (record.begin, record.end, record.tap);
-    write!(text, "{begin} {end} tap {tap} ")?;
+    write!(text, "{} {} tap {} ", record.begin, record.end, record.tap)?;
     for octet in record.octets.iter() {
         write!(text, "{octet:02x}")?;
     }
-    writeln!(text)
+    text.push(' ')?;
+    for heard in record.heard.iter() {
+        text.push(letter(*heard))?;
+    }
+    text.push('\n')
 }
 
-/// How the telegram at a place of the trace reached the first two taps.
-fn heard(world: &World, place: usize) -> Option<[Heard; 2]> {
-    match world.trace().get(place)? {
-        Entry::Sent(record) => Some([*record.heard.get(0)?, *record.heard.get(1)?]),
-        Entry::Noise { .. } => None,
+fn letter(heard: Heard) -> char {
+    match heard {
+        Heard::Own => '-',
+        Heard::Whole => 'w',
+        Heard::Damaged => 'd',
+        Heard::Unheard => 'u',
+        Heard::Pending => '.',
     }
+}
+
+/// When a tap has to take its turn, in bit times.
+fn due(world: &World, tap: usize) -> Option<u64> {
+    Some(world.due(tap)?.get())
 }
 
 fn phase_name(world: &World, tap: usize) -> Option<&'static str> {

@@ -5,33 +5,37 @@ ghost use Rattle.pb_model.specs.Step as step;
 ghost use Rattle.pb_model.specs.Trace as trace;
 ghost use Rattle.pb_model.specs.Trace.{with_entry};
 ghost use Rattle.pb_world.specs.Entries.{entry_of, heard_of, record_of};
-ghost use Rattle.pb_world.specs.Stations.{station_of};
+ghost use Rattle.pb_model.specs.Laws.{AllInOrder, InOrder};
+ghost use Rattle.pb_world.specs.declared.taps.Tap as declared;
 ghost use Rattle.pb_world.specs.Taps.{tap_of};
-ghost use Rattle.pb_world.specs.Turning.{TurnsAt, RefusesTurn, RefusesEntry, RefusesSaid, octets_of, with_said, is_full};
+ghost use Rattle.pb_world.specs.Turning.{Turns, TurnsAt, RefusesTurn, RefusesEntry, RefusesSaid, octets_of, with_said, is_full};
 
 use crate::entries::{Entry, Heard, Record};
 use crate::faults::WorldFault;
 use crate::recents::recent;
-use crate::rings::Ring;
-use crate::stations::{Station, Turn};
 use crate::taps::Tap;
 use arrayvec::ArrayVec;
-use pb_timers::{BusParams, Moment, bits};
+use pb_station::{Station, Turn};
+use pb_timers::{Moment, bits};
 use std::alloc::Global;
 
 /// How many entries a trace may have.
 const TRACE_LIMIT: usize = 100_000;
 
+/// The turn of a tap's station, with the marks that it has not read.
+fn turn(tap: &Tap, now: Moment) -> Turn
+    requires clock { now ≤ 1000000000000 }
+    requires order { InOrder 0 tap.now.marks now }
+    ensures { Turns tap.now now result }
+{
+    tap.station.turn(tap.marks.marks(), now)
+}
+
 /// The turn of the station at a tap.
-pub(crate) fn turn_at(
-    taps: &[Tap],
-    tap: usize,
-    params: &BusParams,
-    ring: &Ring,
-    now: Moment,
-) -> Result<Turn, WorldFault>
-    requires { now ≤ 1000000000000 }
-    ensures { MatchResult result (TurnsAt params.now ring.now taps.now tap now) (RefusesTurn ring.now taps.now tap) }
+pub(crate) fn turn_at(taps: &[Tap], tap: usize, now: Moment) -> Result<Turn, WorldFault>
+    requires clock { now ≤ 1000000000000 }
+    requires order { AllInOrder now (map tap_of taps.now) }
+    ensures { MatchResult result (TurnsAt taps.now tap now) (RefusesTurn taps.now tap) }
 {
     let Some(tap) = taps.get(tap) else {
         return Err(WorldFault::NoSuchTap);
@@ -39,15 +43,13 @@ pub(crate) fn turn_at(
     if !tap.running {
         return Err(WorldFault::NotRunning);
     }
-    Ok(tap.station.turn(params, ring, tap.marks.marks(), now))
+    Ok(turn(tap, now))
 }
 
 /// The tap's station after its turn, in which it has read all its marks.
 pub(crate) fn keep_turn(taps: &mut [Tap], tap: usize, after: Station)
     requires { tap < length taps.old }
-    ensures length { length taps.new ≡ length taps.old }
-    ensures kept { (ring : List ℕ) (t : model.Tap) → slice_get (map (tap_of ring) taps.old) tap ≡ Some t
-        → map (tap_of ring) taps.new ≡ slice_set (map (tap_of ring) taps.old) tap (record t { station = station_of ring after; marks = [] }) }
+    ensures { (t : declared.Tap) → slice_get taps.old tap ≡ Some t → taps.new ≡ slice_set taps.old tap (record t { station = after; marks = [] }) }
 {
     let kept = &mut taps[tap];
     kept.station = after;

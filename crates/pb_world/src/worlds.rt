@@ -6,10 +6,10 @@ use crate::buses::Bus;
 use crate::entries::Entry;
 use crate::events::{Event, Reply};
 use crate::faults::{NewFault, WorldFault};
-use crate::making::{check_taps, new_taps, ring_of};
+use crate::making::{check_taps, new_taps};
 use crate::moments::beginning;
-use crate::stations::Station;
 use crate::taps::TapSpec;
+use pb_station::Station;
 use pb_timers::{BusParams, Moment};
 use std::alloc::Global;
 use std::marker::Model;
@@ -35,17 +35,15 @@ impl Model for World {
 }
 
 impl World {
-    ghost use Rattle.std.specs.Prelude.{◌≡◌, List, ℕ, Ok, None, IfOk, IfErr, MatchOption, map, slice_get};
+    ghost use Rattle.std.specs.Prelude.{◌≡◌, Ok, None, IfOk, IfErr, MatchOption, map, slice_get};
     ghost use Rattle.pb_model.specs.World.{new_world};
     ghost use Rattle.pb_world.specs.Entries.{entry_of};
     ghost use Rattle.pb_world.specs.Events.{event_of};
     ghost use Rattle.pb_world.specs.Faults.{RefusesNew};
-    ghost use Rattle.pb_world.specs.Stations.{station_of};
     ghost use Rattle.pb_world.specs.Taps.{spec_of};
     ghost use Rattle.pb_world.specs.Worlds.{due_at, Follows, IsStationAt};
 
-    /// A world whose taps don't run yet, at clock 0. The ring of each master is the set of the addresses
-    /// of all masters.
+    /// A world whose taps don't run yet, at clock 0.
     ///
     /// Faults, the first that applies: `NoTaps` for an empty list; `TooManyTaps` over 32; `BadAddress` with
     /// the least tap that is a master with an address over the highest station address, or a passive
@@ -55,11 +53,10 @@ impl World {
         ensures fault { IfErr result (RefusesNew (new_world params (map spec_of specs.now))) }
     {
         check_taps(&params, specs)?;
-        let taps = new_taps(alloc, specs)?;
+        let taps = new_taps(alloc, &params, specs)?;
         Ok(World {
             bus: Bus {
                 params,
-                ring: ring_of(specs),
                 now: beginning(),
                 trace: Vec::new(alloc),
                 over: 0,
@@ -80,7 +77,7 @@ impl World {
     /// - `Damage`: what a tap hears of the speaker's telegram in the air is damaged, at a place or at every
     ///   character. Faults: `NoSuchTap`; `NothingInAir` where the speaker sends nothing, is the tap itself,
     ///   or the place isn't among the octets that were meant; `NoMemory`.
-    /// - `Start`: the station starts afresh: a master waits for the token. Faults: `NoSuchTap`; `Running`
+    /// - `Start`: the station starts afresh: a master listens for the ring. Faults: `NoSuchTap`; `Running`
     ///   where it runs or a telegram of its own is in the air.
     pub fn apply(&mut self, alloc: Global, event: Event) -> Result<Reply, WorldFault>
         ensures { Follows self.old (event_of event) result self.new }
@@ -106,7 +103,7 @@ impl World {
     /// When the station at a tap has to take its turn, in bit times: at the first unread mark, its timer or
     /// its speaking moment, whichever is the earliest. None where there is no such tap, where it doesn't run,
     /// and where nothing is to come.
-    pub fn due(&self, tap: usize) -> Option<u64>
+    pub fn due(&self, tap: usize) -> Option<Moment>
         ensures { result ≡ due_at self.entry.now tap }
     {
         self.bus.due(tap)
@@ -114,7 +111,7 @@ impl World {
 
     /// The station at a tap, if there is such a tap.
     pub fn station(&self, tap: usize) -> Option<&Station>
-        ensures { MatchOption result (slice_get self.entry.now.taps tap ≡ None) (λ s. (ring : List ℕ) × IsStationAt self.entry.now tap (station_of ring s.now)) }
+        ensures { MatchOption result (slice_get self.entry.now.taps tap ≡ None) (λ s. IsStationAt self.entry.now tap s.now) }
     {
         self.bus.station(tap)
     }

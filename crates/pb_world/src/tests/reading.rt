@@ -1,4 +1,4 @@
-use super::{master, masters, passive, phase_name, usual};
+use super::{due, master, masters, passive, phase_name, usual};
 use crate::{Event, World};
 use std::test::Fail;
 
@@ -8,7 +8,7 @@ fn unknown_taps_have_no_station(rt: HostRuntime) -> Result<(), Fail> {
     let world = masters(alloc, &[1, 2])?;
     for tap in [2, 31, 32, usize::MAX] {
         assert!(rt; world.station(tap).is_none(), "{tap}");
-        assert_eq!(rt; world.due(tap), None, "{tap}");
+        assert_eq!(rt; due(&world, tap), None, "{tap}");
     }
     Ok(())
 }
@@ -23,7 +23,7 @@ fn stations_are_read_by_tap(rt: HostRuntime) -> Result<(), Fail> {
         assert_eq!(rt; station.tap(), tap);
         assert_eq!(rt; station.address(), address, "{tap}");
         assert_eq!(rt; station.phase().name(), "Offline", "{tap}");
-        assert_eq!(rt; world.due(tap), None, "{tap}");
+        assert_eq!(rt; due(&world, tap), None, "{tap}");
     }
     Ok(())
 }
@@ -39,12 +39,12 @@ fn stations_start(rt: HostRuntime) -> Result<(), Fail> {
     world.apply(alloc, Event::Start(1))?;
     world.apply(alloc, Event::Pass(700))?;
     assert_eq!(rt; phase_name(&world, 0), Some("PassiveIdle"));
-    assert_eq!(rt; phase_name(&world, 1), Some("Idle"));
+    assert_eq!(rt; phase_name(&world, 1), Some("Listening"));
     assert_eq!(rt; phase_name(&world, 2), Some("Offline"));
-    assert_eq!(rt; world.due(0), None);
-    assert_eq!(rt; world.due(1), Some(800));
-    assert_eq!(rt; world.due(2), None);
+    assert_eq!(rt; due(&world, 0), None);
+    assert_eq!(rt; due(&world, 1), Some(800));
+    assert_eq!(rt; due(&world, 2), None);
     world.apply(alloc, Event::Start(2))?;
-    assert_eq!(rt; world.due(2), Some(1700));
+    assert_eq!(rt; due(&world, 2), Some(1700));
     Ok(())
 }

@@ -1,15 +1,8 @@
-use super::{masters, phase_name, trace_text, two_started};
+use super::{damage, due, masters, pass_to, phase_name, started, trace_text};
 use crate::{Event, NewFault, World, WorldFault};
+use pb_timers::bits;
 use std::alloc::Global;
 use std::test::Fail;
-
-fn damage(tap: usize, speaker: usize, place: Option<u8>) -> Event {
-    Event::Damage {
-        tap,
-        speaker,
-        place,
-    }
-}
 
 #[test]
 fn events_are_refused_in_a_new_world(rt: HostRuntime) -> Result<(), Fail> {
@@ -36,6 +29,33 @@ fn events_are_refused_in_a_new_world(rt: HostRuntime) -> Result<(), Fail> {
     Ok(())
 }
 
+/// Each fault that a new bus can give, one after another on the same one, and then its first telegram.
+#[test]
+fn faults_come_one_after_another(rt: HostRuntime) -> Result<(), Fail> {
+    let alloc = rt.alloc();
+    let mut world = masters(alloc, &[1, 2])?;
+    for (event, fault) in [
+        (Event::Turn(9), Some(WorldFault::NoSuchTap)),
+        (Event::Turn(0), Some(WorldFault::NotRunning)),
+        (Event::Start(0), None),
+        (Event::Start(0), Some(WorldFault::Running)),
+        (Event::Pass(0), Some(WorldFault::ZeroTime)),
+        (damage(1, 0, None), Some(WorldFault::NothingInAir)),
+        (Event::Pass(1_000_000_000_001), Some(WorldFault::ClockFull)),
+        (Event::Pass(800), None),
+        (Event::Turn(0), None),
+        (Event::Pass(34), Some(WorldFault::TooFar(833))),
+        (Event::Pass(33), None),
+    ] {
+        assert_eq!(rt; world.apply(alloc, event).err(), fault, "{fault:?}");
+    }
+    assert_eq!(rt;
+        trace_text(alloc, &world)?.as_str(),
+        "800 833 tap 0 dc0101 -d\n"
+    );
+    Ok(())
+}
+
 #[test]
 fn the_clock_ends_at_its_limit(rt: HostRuntime) -> Result<(), Fail> {
     let alloc = rt.alloc();
@@ -53,7 +73,7 @@ fn the_clock_ends_at_its_limit(rt: HostRuntime) -> Result<(), Fail> {
 #[test]
 fn time_passes_to_the_next_end_at_most(rt: HostRuntime) -> Result<(), Fail> {
     let alloc = rt.alloc();
-    let mut world = two_started(alloc)?;
+    let mut world = started(alloc, &[1, 2])?;
     let reply = world.apply(alloc, Event::Pass(800))?;
     assert_eq!(rt; reply.now.get(), 800);
     assert!(rt; reply.spoke.is_none());
@@ -71,7 +91,7 @@ fn time_passes_to_the_next_end_at_most(rt: HostRuntime) -> Result<(), Fail> {
 
 /// At 800 the first of two masters has begun its claim, and the second has not taken a turn.
 fn claiming(alloc: Global) -> Result<World, Fail> {
-    let mut world = two_started(alloc)?;
+    let mut world = started(alloc, &[1, 2])?;
     world.apply(alloc, Event::Pass(800))?;
     world.apply(alloc, Event::Turn(0))?;
     Ok(world)
@@ -94,42 +114,38 @@ fn a_refused_event_changes_nothing(rt: HostRuntime) -> Result<(), Fail> {
     ] {
         assert_eq!(rt; world.apply(alloc, event).err(), Some(fault), "{fault}");
         assert_eq!(rt; world.now().get(), 800, "{fault}");
-        assert_eq!(rt; world.due(0), Some(870), "{fault}");
-        assert_eq!(rt; world.due(1), Some(1000), "{fault}");
+        assert_eq!(rt; due(&world, 0), Some(870), "{fault}");
+        assert_eq!(rt; due(&world, 1), Some(1000), "{fault}");
         assert_eq!(rt; phase_name(&world, 0), Some("Claim"), "{fault}");
-        assert_eq!(rt; phase_name(&world, 1), Some("Idle"), "{fault}");
+        assert_eq!(rt; phase_name(&world, 1), Some("Listening"), "{fault}");
         let text = trace_text(alloc, &world)?;
-        assert_eq!(rt; text.as_str(), "800 833 tap 0 dc0101\n", "{fault}");
+        assert_eq!(rt; text.as_str(), "800 833 tap 0 dc0101 -.\n", "{fault}");
     }
     Ok(())
 }
 
-/// Some masters start, and the one at a tap alone takes turns, 32 times; nobody answers it, and it is
-/// about to be heard for the 33rd time.
+/// Some masters start, and the one at a tap alone takes turns. It speaks 32 times, nobody answers it, and
+/// its 33rd telegram begins.
 fn unheeded(alloc: Global, addresses: &[u8], speaker: usize) -> Result<World, Fail> {
-    let mut world = masters(alloc, addresses)?;
-    for tap in 0..addresses.len() {
-        world.apply(alloc, Event::Start(tap))?;
-    }
+    let mut world = started(alloc, addresses)?;
     for _ in 0..32 {
-        speak(alloc, &mut world, speaker)?;
-        world.apply(alloc, Event::Pass(33))?;
+        let end = speak(alloc, &mut world, speaker)?;
+        pass_to(alloc, &mut world, end)?;
     }
     speak(alloc, &mut world, speaker)?;
     Ok(world)
 }
 
-/// Time passes until a tap is due, and it takes its turn.
-fn speak(alloc: Global, world: &mut World, tap: usize) -> Result<(), Fail> {
-    let due = world.due(tap).ok_or("never due")?;
-    world.apply(alloc, Event::Pass(due.saturating_sub(world.now().get())))?;
+/// Time passes until a tap is due, and it takes its turn and speaks: until when.
+fn speak(alloc: Global, world: &mut World, tap: usize) -> Result<u64, Fail> {
+    let due = due(world, tap).ok_or("never due")?;
+    pass_to(alloc, world, due)?;
     let reply = world.apply(alloc, Event::Turn(tap))?;
-    reply.spoke.ok_or("silent")?;
-    Ok(())
+    let spoke = reply.spoke.ok_or("silent")?;
+    Ok(due.saturating_add(bits(spoke.len())))
 }
 
-/// A tap that takes no turns has 64 unread marks after 32 telegrams. The claims begin at 800 and 870,
-/// the token at 940, and it is passed again each 133 bits later.
+/// A tap that takes no turns has 64 unread marks after 32 telegrams.
 #[test]
 fn a_full_tap_stops_the_clock(rt: HostRuntime) -> Result<(), Fail> {
     let alloc = rt.alloc();
@@ -137,11 +153,11 @@ fn a_full_tap_stops_the_clock(rt: HostRuntime) -> Result<(), Fail> {
     for bits in [1, 33] {
         let refused = world.apply(alloc, Event::Pass(bits));
         assert_eq!(rt; refused.err(), Some(WorldFault::InboxFull(1)), "{bits}");
-        assert_eq!(rt; world.now().get(), 4930, "{bits}");
+        assert_eq!(rt; world.now().get(), 3520, "{bits}");
     }
     assert_eq!(rt; world.trace().len(), 33);
     world.apply(alloc, Event::Turn(1))?;
-    assert_eq!(rt; world.apply(alloc, Event::Pass(33))?.now.get(), 4963);
+    assert_eq!(rt; world.apply(alloc, Event::Pass(33))?.now.get(), 3553);
     Ok(())
 }
 

@@ -15,21 +15,21 @@ use Rattle.pb_world.proofs.Elapsing.{pass-by}
 use Rattle.pb_world.proofs.clocks.pass.Goals as goal
 
 pub returns-in-Some-clause-fault : goal.returns-in-Some-clause-fault
-returns-in-Some-clause-fault c = λ ring.
-    let w = air ring c.args.now c.args.entries.now c.args.taps.now in
+returns-in-Some-clause-fault c =
+    let w = air c.args.now c.args.entries.now c.args.taps.now in
     let none = ap (λ o. first_fault (time_faults c.args.now c.args.bits o)) (sym (c.next_end.ensures ∙ ap (λ n. next_end_of at_once n w.trace) c.get.ensures.value)) ∙ c.in_ok-to.ensures.ok.2 in
-    let full = ap (λ n. first_full 0 (told_news at_once w.trace c.args.now n 0 w.taps)) (sym c.in_ok-to.ensures.ok.0) ∙ sym (c.first_full.ensures ring) ∙ c.in-Some.is in
-    subst (λ r. IsFault r (fault.InboxFull c.in-Some.tap)) (sym (pass-by w c.args.bits (Some c.in-Some.tap) (c.requires ring) none full)) refl
+    let full = ap (λ n. first_full 0 (told_news at_once w.trace c.args.now n 0 w.taps)) (sym c.in_ok-to.ensures.ok.0) ∙ sym (c.first_full.ensures) ∙ c.in-Some.is in
+    subst (λ r. IsFault r (fault.InboxFull c.in-Some.tap)) (sym (pass-by w c.args.bits (Some c.in-Some.tap) (c.requires) none full)) refl
 
 pub returns-clause-ok : goal.returns-clause-ok
-returns-clause-ok c = λ ring.
-    let w = air ring c.args.now c.args.entries.now c.args.taps.now in
+returns-clause-ok c =
+    let w = air c.args.now c.args.entries.now c.args.taps.now in
     let none = ap (λ o. first_fault (time_faults c.args.now c.args.bits o)) (sym (c.next_end.ensures ∙ ap (λ n. next_end_of at_once n w.trace) c.get.ensures.value)) ∙ c.in_ok-to.ensures.ok.2 in
-    let full = ap (λ n. first_full 0 (told_news at_once w.trace c.args.now n 0 w.taps)) (sym c.in_ok-to.ensures.ok.0) ∙ sym (c.first_full.ensures ring) ∙ c.in_default.is in
-    let taps = map (tap_of ring) c.args.taps.now in
+    let full = ap (λ n. first_full 0 (told_news at_once w.trace c.args.now n 0 w.taps)) (sym c.in_ok-to.ensures.ok.0) ∙ sym (c.first_full.ensures) ∙ c.in_default.is in
+    let taps = map tap_of c.args.taps.now in
     let after : ℕ → List model.Tap → World
     = λ to ts. record { params = plain; now = to; trace = map (entry_at at_once ts w.trace c.args.now to) w.trace; taps = ts } in
-    pass-by w c.args.bits None (c.requires ring) none full
+    pass-by w c.args.bits None (c.requires) none full
     ∙ ap (λ to. Ok (after to (told_news at_once w.trace c.args.now to 0 taps), record { now = to; spoke = None })) (sym c.in_ok-to.ensures.ok.0)
-    ∙ ap (λ ts. Ok (after c.in_ok-to.to ts, record { now = c.in_ok-to.to; spoke = None })) (sym (c.tell_all.ensures ring))
-    ∙ ap (λ (es : List trace.Entry). Ok (record (air ring c.in_ok-to.to c.settle.new.entries c.tell_all.new.taps) { trace = es }, record { now = c.in_ok-to.to; spoke = None })) (sym (c.settle.ensures ring))
+    ∙ ap (λ ts. Ok (after c.in_ok-to.to ts, record { now = c.in_ok-to.to; spoke = None })) (sym c.tell_all.ensures.told)
+    ∙ ap (λ (es : List trace.Entry). Ok (record (air c.in_ok-to.to c.settle.new.entries c.tell_all.new.taps) { trace = es }, record { now = c.in_ok-to.to; spoke = None })) (sym (c.settle.ensures))

@@ -1,16 +1,12 @@
-use Rattle.std.proofs.Common.{ap, ◌∙◌, false, List, ℕ}
-use Rattle.pb_model.specs.Medium as model
-use Rattle.pb_model.specs.Station.{Station, Offline}
-use Rattle.pb_model.specs.Marks.{Mark}
-use Rattle.pb_world.specs.Stations.{station_of}
-use Rattle.pb_world.specs.Taps.{spec_of}
+use Rattle.std.proofs.Common.{ap, ◌∙◌, false}
+use Rattle.pb_world.specs.Taps.{spec_at, spec_of}
+use Rattle.pb_model.specs.World.{stopped_tap}
 use Rattle.pb_world.proofs.making.new_tap.Goals as goal
 
-pub returns : goal.returns
-returns c = λ ring.
-    let made : model.TapSpec → Station → List Mark → model.Tap
-    = λ spec station marks. record { spec = spec; running = false; since = 0; amid = false; station = station; marks = marks } in
-    let placed : ℕ → Station = λ a. record { address = a; ring = ring; phase = Offline; busy = false; quiet = 0; own = record { begin = 0; end = 0 } } in
-    ap (λ spec. made spec (station_of ring c.new-2.result) c.in_ok-marks.marks) c.copied.ensures
-    ∙ ap (λ station. made (spec_of c.args.spec.now) station c.in_ok-marks.marks) (c.new-2.ensures ring ∙ ap placed c.new-address.ensures)
-    ∙ ap (λ marks. made (spec_of c.args.spec.now) (placed c.args.spec.now.address) marks) c.in_ok-marks.ensures
+pub returns-clause-tap : goal.returns-clause-tap
+returns-clause-tap c =
+    ap (λ s. record { spec = spec_at s; running = false; since = 0; amid = false; station = s.station; marks = c.in_ok-marks.marks }) c.in_ok-station.ensures
+    ∙ ap (λ marks. record (stopped_tap c.args.params.now (spec_of c.args.spec.now)) { marks = marks }) c.in_ok-marks.ensures
+
+pub returns-clause-seat : goal.returns-clause-seat
+returns-clause-seat c = ap (λ s. record { tap = s.tap; params = s.params }) c.in_ok-station.ensures

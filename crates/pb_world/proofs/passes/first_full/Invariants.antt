@@ -1,5 +1,5 @@
 -- The first full tap is among those from the position on.
-use Rattle.std.proofs.Common.{◌≡◌, ℕ, List, map, drop}
+use Rattle.std.proofs.Common.{◌≡◌, map, drop}
 use Rattle.pb_model.specs.Step as step
 use Rattle.pb_world.specs.Entries.{entry_of}
 use Rattle.pb_world.specs.Passes.{told_news}
@@ -8,6 +8,6 @@ use Rattle.pb_world.specs.Taps.{tap_of}
 use Rattle.pb_world.proofs.passes.first_full.Given as goal
 
 abbrev pub invariant-loop-position : goal.invariant-loop-position
-invariant-loop-position l = (ring : List ℕ)
-    → step.first_full 0 (told_news at_once (map entry_of l.entries) l.from l.to 0 (map (tap_of ring) l.taps))
-    ≡ step.first_full l.position (told_news at_once (map entry_of l.entries) l.from l.to l.position (map (tap_of ring) (drop l.position l.taps)))
+invariant-loop-position l =
+    step.first_full 0 (told_news at_once (map entry_of l.entries) l.from l.to 0 (map tap_of l.taps))
+    ≡ step.first_full l.position (told_news at_once (map entry_of l.entries) l.from l.to l.position (map tap_of (drop l.position l.taps)))

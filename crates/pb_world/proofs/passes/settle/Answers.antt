@@ -12,9 +12,9 @@ use Rattle.pb_world.proofs.Passing.{changed-more, changed-at, changed-all, settl
 use Rattle.pb_world.proofs.passes.settle.Goals as goal
 
 pub loop-place-preserved : goal.loop-place-preserved
-loop-place-preserved c = λ ring.
+loop-place-preserved c =
     let es = map entry_of c.args.entries.now in
-    let taps = map (tap_of ring) c.args.taps.now in
+    let taps = map tap_of c.args.taps.now in
     let change : model.Entry → model.Entry = entry_at at_once taps es c.args.from c.args.to in
     let now = c.loop-place.entries in
     let at = c.loop-place.place in
@@ -24,17 +24,17 @@ loop-place-preserved c = λ ring.
     get_or_default now at c.index-entries-place.result x (omega arith) ∙ sym c.index-known-place.is in
     let is : entry_of c.settle_entry.new.entry ≡ get_or (map change es) at (change (entry_of x)) =
     (rw same at c.settle_entry.ensures)
-    ∙ c.outcome-heard.ensures ring
-    ∙ settled-partly at_once taps es (map entry_of now) c.args.from c.args.to at (entry_of x) (c.loop-place.invariant ring)
+    ∙ c.outcome-heard.ensures
+    ∙ settled-partly at_once taps es (map entry_of now) c.args.from c.args.to at (entry_of x) (c.loop-place.invariant)
     ∙ ap (λ (e : Entry). change (entry_of e)) c.index-known-place.is
-    ∙ ap change (changed-at entry_of (map change es) c.args.entries.now now at x (c.loop-place.invariant ring) long c.loop-place-test.true)
+    ∙ ap change (changed-at entry_of (map change es) c.args.entries.now now at x (c.loop-place.invariant) long c.loop-place-test.true)
     ∙ sym (get_or-map change es at (entry_of x)) in
-    changed-more entry_of (map change es) c.args.entries.now now at c.settle_entry.new.entry (change (entry_of x)) (c.loop-place.invariant ring) long c.loop-place-test.true is
+    changed-more entry_of (map change es) c.args.entries.now now at c.settle_entry.new.entry (change (entry_of x)) (c.loop-place.invariant) long c.loop-place-test.true is
 
 pub returns : goal.returns
-returns c = λ ring.
+returns c =
     let es = map entry_of c.args.entries.now in
-    let taps = map (tap_of ring) c.args.taps.now in
+    let taps = map tap_of c.args.taps.now in
     let change : model.Entry → model.Entry = entry_at at_once taps es c.args.from c.args.to in
-    changed-all entry_of (map change es) c.args.entries.now c.loop-place.entries c.loop-place.place (c.loop-place.invariant ring)
+    changed-all entry_of (map change es) c.args.entries.now c.loop-place.entries c.loop-place.place (c.loop-place.invariant)
     (length-map es change ∙ length-map c.args.entries.now entry_of) (omega arith)

@@ -10,9 +10,9 @@ use Rattle.pb_world.proofs.senses.burst_characters.Goals as goal
 use borrow.Author.Tests.{tests}
 
 pub returns : goal.returns
-returns c = λ ring.
+returns c =
     let entries = c.args.entries.now in
-    let test = fills_burst_to at_once c.args.position (tap_of ring c.args.tap.now) (map entry_of entries) c.args.moment in
+    let test = fills_burst_to at_once c.args.position (tap_of c.args.tap.now) (map entry_of entries) c.args.moment in
     c.entry_characters.ensures
     ∙ ap (entry_characters c.args.position) (found-map test entry_of (λ e. e.now) entries c.find-filling.result
     (find_from_yields_List (λ e. test (entry_of e)) _ _ c.find-filling.result c.find-filling.ensures.ran (YieldsList-from_slice entries cc) (λ x b q k. search (rules, tests))))

@@ -6,14 +6,14 @@ use Rattle.pb_world.proofs.Sensing.{burst-filled}
 use Rattle.pb_world.proofs.senses.fills_burst.Goals as goal
 
 pub returns-then-hears_from : goal.returns-then-hears_from
-returns-then-hears_from c = λ ring.
+returns-then-hears_from c =
     ap (λ b. b && c.is_alone.result) (sym c.if-hears_from.true)
-    ∙ burst-filled c.args.position (tap_of ring c.args.tap.now) (map entry_of c.args.entries.now) (record_of c.args.telegram.now) _ _ (c.hears_from.ensures ring) c.is_alone.ensures
+    ∙ burst-filled c.args.position (tap_of c.args.tap.now) (map entry_of c.args.entries.now) (record_of c.args.telegram.now) _ _ (c.hears_from.ensures) c.is_alone.ensures
 
 pub returns-else-hears_from : goal.returns-else-hears_from
-returns-else-hears_from c = λ ring.
-    let t = tap_of ring c.args.tap.now in
+returns-else-hears_from c =
+    let t = tap_of c.args.tap.now in
     let trace = map entry_of c.args.entries.now in
     let r = record_of c.args.telegram.now in
     c.if-hears_from.false ∙ ap (λ b. b && is_alone c.args.position t.since trace r) (sym c.if-hears_from.false)
-    ∙ burst-filled c.args.position t trace r _ _ (c.hears_from.ensures ring) refl
+    ∙ burst-filled c.args.position t trace r _ _ (c.hears_from.ensures) refl

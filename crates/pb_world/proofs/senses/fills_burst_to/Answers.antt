@@ -3,4 +3,4 @@ use Rattle.std.proofs.Common.{rules}
 use borrow.Author.Tests.{tests}
 
 pub returns-then-telegram-moment : goal.returns-then-telegram-moment
-returns-then-telegram-moment c = λ ring. search (rules, tests, c.fills_burst.ensures ring)
+returns-then-telegram-moment c = search (rules, tests, c.fills_burst.ensures)

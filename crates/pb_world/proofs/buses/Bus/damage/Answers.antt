@@ -24,7 +24,7 @@ returns-in_err-damage_recent-clause-follows c =
     let hit = c.args.hit in
     let at = slice_get w.taps hit.tap in
     let from = slice_get w.taps c.args.speaker in
-    let taps = length-map bus.taps.items (tap_of bus.ring) in
+    let taps = length-map bus.taps.items tap_of in
     let one : hit.tap < length w.taps = omega (arith, taps, c.if-hit-len.false) in
     let two : c.args.speaker < length w.taps = omega (arith, taps, c.if-speaker-len.false) in
     let there = both-there (is_none at) (is_none from) (is-there w.taps hit.tap one) (is-there w.taps c.args.speaker two) in
@@ -45,7 +45,7 @@ returns-clause-follows c =
     let hit = c.args.hit in
     let at = slice_get w.taps hit.tap in
     let from = slice_get w.taps c.args.speaker in
-    let taps = length-map bus.taps.items (tap_of bus.ring) in
+    let taps = length-map bus.taps.items tap_of in
     let one : hit.tap < length w.taps = omega (arith, taps, c.if-hit-len.false) in
     let two : c.args.speaker < length w.taps = omega (arith, taps, c.if-speaker-len.false) in
     let there = both-there (is_none at) (is_none from) (is-there w.taps hit.tap one) (is-there w.taps c.args.speaker two) in
@@ -74,6 +74,7 @@ returns-clause-kept c =
       sound = sound-after true w (Damage hit.tap c.args.speaker hit.place) _ _ (returns-clause-follows c).1 c.requires.sound;
       clock = c.requires.clock;
       room = c.requires.room;
+      seats = c.requires.seats;
       cut = subst (IsCut w.now bus.over) (sym hits ∙ ap (map entry_of) (sym back))
           (cut-with w.now bus.over w.trace (change_first test (with_hit (hit_of hit)) (drop bus.over w.trace)) (λ m at from. from-changed m test (hit_of hit) (drop bus.over w.trace) from) c.requires.cut);
     }

@@ -1,8 +1,0 @@
-use Rattle.pb_model.proofs.Turns.{turn_of-due, turn_of-not_due}
-use Rattle.pb_model.proofs.turn_laws.a_station_that_is_due_speaks.Goals as goal
-
-pub returns-clause-due : goal.returns-clause-due
-returns-clause-due c = turn_of-due
-
-pub returns-clause-not_due : goal.returns-clause-not_due
-returns-clause-not_due c = turn_of-not_due

@@ -1,0 +1,174 @@
+-- A station that uses the token has received it, whatever it hears and says.
+use Rattle.std.proofs.Common.{◌≡◌, ◌∙◌, refl, ap, sym, subst, ℕ, ◌+◌, ◌==◌, List, [], ◌∷◌, Bool, false, Option, Some, None}
+use Rattle.std.specs.Prelude.{nat_lt, nat_le, max, IsSome}
+use Rattle.pb_timers.specs.Timers.{Params}
+use Rattle.pb_ring.specs.Gap.{last_asked, next_asked, round_after}
+use Rattle.pb_ring.specs.Las.{place_of, skips_of}
+use Rattle.pb_cycles.specs.Messages.{has_bit}
+use Rattle.pb_cycles.specs.Outcomes.{status_reply}
+use Rattle.pb_cycles.specs.declared.messages.Message.TheVariants as message
+use Rattle.pb_turn.specs.Arrivals.{Arrival, Token, Framed, Acknowledgement, NoTelegram, arrival_of}
+use Rattle.pb_turn.specs.Hearing.{phase_timed_out, timed_out, after_timer, tries_limit, taking, is_taken_from, skips_limit, own_token, foreign_token, idle_hears, listening_hears, holder_hears, status_told, awaiting_status_hears, checking_hears, with_token, lost, phase_ended, heard, after_mark}
+use Rattle.pb_turn.specs.Marks.{Mark, Begin, End, moment_of}
+use Rattle.pb_turn.specs.Phases.{Phase, Offline, PassiveIdle, Listening, Idle, Claim, Use, AwaitStatus, Pass, Checking, is_offline}
+use Rattle.pb_turn.specs.Stations.{Station, Reply, timer_of, speaks_at, next_station, previous_station}
+use Rattle.pb_turn.specs.Turns.{after_marks, settled, token_octets, saying, received_own, says_token, looks_at_gap, says_look, says_in_use, joining, replying, says_reply, says_ready, phase_says, speech, turn_of}
+use Rattle.pb_turn.proofs.Cases.{by_test}
+use Rattle.pb_turn.proofs.Paths.{phase-doubled}
+use Rattle.pb_station.specs.Cores.{has_received, HasReceived}
+
+-- ---- timers
+
+by-timed_out : (s : Station) (ph : Phase) (t : ℕ) → has_received ph s.rotation.last → HasReceived (phase_timed_out (record s { phase = ph }) ph t)
+by-timed_out s Offline t h = h
+by-timed_out s PassiveIdle t h = h
+by-timed_out s (Listening doubled) t h = tt
+by-timed_out s (Idle refused) t h = tt
+by-timed_out s (Claim sent ready) t h = h
+by-timed_out s (Use asked ready) t h = h
+by-timed_out s (AwaitStatus of slot) t h = h
+by-timed_out s (Pass tries ready) t h = h
+by-timed_out s (Checking tries) t h = by_test HasReceived (nat_le tries_limit tries) _ _ (λ _. tt) (λ _. tt)
+
+by-timer : (p : Params) (limit : ℕ) (s : Station) → HasReceived s → HasReceived (after_timer p limit s)
+by-timer p limit s h = by_moment (timer_of p s)
+  where
+    by_moment : (o : Option ℕ) → HasReceived (timed_out s o limit)
+    by_moment None = h
+    by_moment (Some t) = by_test HasReceived (nat_lt t limit) (phase_timed_out s s.phase t) s (λ _. by-timed_out s s.phase t h) (λ _. h)
+
+-- ---- marks
+
+by-begin : (s : Station) (ph : Phase) (at seen : ℕ) (p : Params) (again : Bool) → has_received ph s.rotation.last → HasReceived (heard p again (record s { phase = ph }) (Begin at seen))
+by-begin s Offline at seen p again h = h
+by-begin s PassiveIdle at seen p again h = h
+by-begin s (Listening doubled) at seen p again h = h
+by-begin s (Idle refused) at seen p again h = h
+by-begin s (Claim sent ready) at seen p again h = tt
+by-begin s (Use asked ready) at seen p again h = tt
+by-begin s (AwaitStatus of slot) at seen p again h = h
+by-begin s (Pass tries ready) at seen p again h = tt
+by-begin s (Checking tries) at seen p again h = h
+
+by-own_token : (p : Params) (s : Station) (taken : Bool) (sa at : ℕ) → HasReceived (own_token p s taken sa at)
+by-own_token p s taken sa at = by_test HasReceived taken (taking p s at) _ (λ _. refl) (λ _. tt)
+
+by-idle : (p : Params) (s : Station) (refused : Option ℕ) (at : ℕ) (a : Arrival) → HasReceived s → HasReceived (idle_hears p s refused at a)
+by-idle p s refused at (Token da sa) h =
+    let x = with_token s da sa in
+    by_test HasReceived (da == s.address) (own_token p x (is_taken_from refused (previous_station s) sa) sa at) (foreign_token x)
+    (λ _. by-own_token p x (is_taken_from refused (previous_station s) sa) sa at)
+    (λ _. by_test HasReceived (nat_le skips_limit (skips_of (place_of x.las.stage))) _ x (λ _. tt) (λ _. h))
+by-idle p s refused at (Framed f) h = h
+by-idle p s refused at Acknowledgement h = h
+by-idle p s refused at NoTelegram h = h
+
+by-listening : (p : Params) (s : Station) (doubled : Bool) (at : ℕ) (a : Arrival) → HasReceived s → HasReceived (listening_hears p s doubled at a)
+by-listening p s doubled at (Token da sa) h = phase-doubled (λ ph. has_received ph s.rotation.last) doubled sa s.address tt (λ _. tt)
+by-listening p s doubled at (Framed f) h = h
+by-listening p s doubled at Acknowledgement h = h
+by-listening p s doubled at NoTelegram h = h
+
+by-told : (p : Params) (s : Station) (of at : ℕ) (fc : Option ℕ) → IsSome s.rotation.last → HasReceived (status_told p s of at fc)
+by-told p s of at None h = h
+by-told p s of at (Some fc) h = h
+
+by-awaiting : (p : Params) (s : Station) (of at : ℕ) (a : Arrival) → IsSome s.rotation.last → HasReceived (awaiting_status_hears p s of at a)
+by-awaiting p s of at (Token da sa) h = tt
+by-awaiting p s of at (Framed f) h =
+    by_test HasReceived (has_bit f.fc 6) (lost s) _ (λ _. tt) (λ _. by-told p s of at (status_reply s.address of (message.Framed f)) h)
+by-awaiting p s of at Acknowledgement h = h
+by-awaiting p s of at NoTelegram h = h
+
+by-checking : (p : Params) (again : Bool) (s : Station) (tries at : ℕ) (a : Arrival) → HasReceived (checking_hears p again s tries at a)
+by-checking p again s tries at (Token da sa) = by-idle p (lost s) None at (Token da sa) tt
+by-checking p again s tries at (Framed f) = tt
+by-checking p again s tries at Acknowledgement = tt
+by-checking p again s tries at NoTelegram = by_test HasReceived again _ (lost s) (λ _. tt) (λ _. tt)
+
+by-holder : (s : Station) (a : Arrival) → HasReceived s → HasReceived (holder_hears s a)
+by-holder s (Token da sa) h = h
+by-holder s (Framed f) h = h
+by-holder s Acknowledgement h = h
+by-holder s NoTelegram h = h
+
+by-ended : (p : Params) (again : Bool) (s : Station) (ph : Phase) (at : ℕ) (a : Arrival) → has_received ph s.rotation.last → HasReceived (phase_ended p again (record s { phase = ph }) ph at a)
+by-ended p again s Offline at a h = h
+by-ended p again s PassiveIdle at a h = h
+by-ended p again s (Listening doubled) at a h = by-listening p (record s { phase = Listening doubled }) doubled at a tt
+by-ended p again s (Idle refused) at a h = by-idle p (record s { phase = Idle refused }) refused at a tt
+by-ended p again s (Claim sent ready) at a h = by-holder (record s { phase = Claim sent ready }) a tt
+by-ended p again s (Use asked ready) at a h = by-holder (record s { phase = Use asked ready }) a h
+by-ended p again s (AwaitStatus of slot) at a h = by-awaiting p (record s { phase = AwaitStatus of slot }) of at a h
+by-ended p again s (Pass tries ready) at a h = by-holder (record s { phase = Pass tries ready }) a tt
+by-ended p again s (Checking tries) at a h = by-checking p again (record s { phase = Checking tries }) tries at a
+
+by-heard : (p : Params) (again : Bool) (s : Station) (m : Mark) → HasReceived s → HasReceived (heard p again s m)
+by-heard p again s (Begin at seen) h = by-begin s s.phase at seen p again h
+by-heard p again s (End at seen chars) h =
+    by-ended p again (record s { busy = false; quiet = max s.quiet at; reply = None }) s.phase at (arrival_of chars) h
+
+by-mark : (p : Params) (again : Bool) (s : Station) (m : Mark) → HasReceived s → HasReceived (after_mark p again s m)
+by-mark p again s m h = by_test HasReceived (is_offline s.phase) s (heard p again s m) (λ _. h) (λ _. by-heard p again s m h)
+
+by-marks : (p : Params) (again : Bool) (s : Station) (marks : List Mark) → HasReceived s → HasReceived (after_marks p again s marks)
+by-marks p again s [] h = h
+by-marks p again s (m ∷ ms) h =
+    by-marks p again (after_mark p again (after_timer p (moment_of m) s) m) ms
+    (by-mark p again (after_timer p (moment_of m) s) m (by-timer p (moment_of m) s h))
+
+pub received-settled : (p : Params) (again : Bool) (s : Station) (marks : List Mark) (now : ℕ) → HasReceived s → HasReceived (settled p again s marks now)
+received-settled p again s marks now h = by-timer p (now + 1) (after_marks p again s marks) (by-marks p again s marks h)
+
+-- ---- speech
+
+by-token : (p : Params) (s : Station) (tries now : ℕ) → HasReceived (says_token p s tries now).0
+by-token p s tries now =
+    let x = saying s now (token_octets (next_station s) s.address) in
+    by_test HasReceived (next_station s == s.address) (received_own p x) _ (λ _. refl) (λ _. tt)
+
+by-look : (p : Params) (s : Station) (a : Option ℕ) (now : ℕ) → IsSome s.rotation.last → HasReceived (says_look p s a now).0
+by-look p s None now h = by-token p (record s { gap = round_after None now }) 0 now
+by-look p s (Some a) now h = h
+
+by-use : (p : Params) (s : Station) (asked : Bool) (now : ℕ) → IsSome s.rotation.last → HasReceived (says_in_use p s asked now).0
+by-use p s asked now h =
+    by_test (λ (x : Station × Option (List ℕ)). HasReceived x.0) (looks_at_gap p s asked now) _ _
+    (λ _. by-look p s (next_asked s.address (next_station s) p.hsa (last_asked s.gap)) now h) (λ _. by-token p s 0 now)
+
+by-reply : (s : Station) (r : Option Reply) (now : ℕ) → HasReceived s → HasReceived (says_reply s r now).0
+by-reply s None now h = h
+by-reply s (Some r) now h = h
+
+by-ready : (s : Station) (r : Option Reply) (now : ℕ) → HasReceived s → HasReceived (says_ready s r now).0
+by-ready s None now h = h
+by-ready s (Some r) now h = by_test HasReceived r.joins (joining (replying s now r)) (replying s now r) (λ _. tt) (λ _. h)
+
+by-says : (p : Params) (s : Station) (ph : Phase) (now : ℕ) → has_received ph s.rotation.last → HasReceived (phase_says p (record s { phase = ph }) ph now).0
+by-says p s Offline now h = h
+by-says p s PassiveIdle now h = by-reply (record s { phase = PassiveIdle }) s.reply now tt
+by-says p s (Listening doubled) now h = by-ready (record s { phase = Listening doubled }) s.reply now tt
+by-says p s (Idle refused) now h = by-reply (record s { phase = Idle refused }) s.reply now tt
+by-says p s (Claim sent ready) now h = by_test HasReceived (sent == 0) _ _ (λ _. tt) (λ _. refl)
+by-says p s (Use asked ready) now h = by-use p (record s { phase = Use asked ready }) asked now h
+by-says p s (AwaitStatus of slot) now h = h
+by-says p s (Pass tries ready) now h = by-token p (record s { phase = Pass tries ready }) tries now
+by-says p s (Checking tries) now h = h
+
+pub received-speech : (p : Params) (s : Station) (o : Option ℕ) (now : ℕ) → HasReceived s → HasReceived (speech p s o now).0
+received-speech p s None now h = h
+received-speech p s (Some moment) now h =
+    by_test (λ (x : Station × Option (List ℕ)). HasReceived x.0) (nat_le moment now) (phase_says p s s.phase now) (s, None) (λ _. by-says p s s.phase now h) (λ _. h)
+
+pub received-turn : (p : Params) (again : Bool) (s : Station) (marks : List Mark) (now : ℕ) → HasReceived s → HasReceived (turn_of p again s marks now).0
+received-turn p again s marks now h =
+    let x = settled p again s marks now in
+    received-speech p x (speaks_at x) now (received-settled p again s marks now h)
+
+-- the station at the clock, from the parts that are computed
+pub received-at_clock : (p : Params) (s first read timed : Station) (marks : List Mark) (now limit : ℕ) → HasReceived s → first ≡ s
+    → (again : Bool) × (read ≡ after_marks p again first marks) → limit ≡ now → timed ≡ after_timer p (limit + 1) read → HasReceived timed
+received-at_clock p s first read timed marks now limit h same (again, is) at later =
+    subst HasReceived
+    (sym (later ∙ ap (λ n. after_timer p (n + 1) read) at ∙ ap (after_timer p (now + 1)) (is ∙ ap (λ x. after_marks p again x marks) same)))
+    (received-settled p again s marks now h)

@@ -1,0 +1,14 @@
+-- A mark as plain data.
+use Rattle.std.specs.Prelude.{ℕ, ◌≤◌, List, All}
+use Rattle.pb_turn.specs.Marks as turn
+use Rattle.pb_turn.specs.Marks.{moment_of}
+use Rattle.pb_station.specs.declared.marks.Mark.{Mark}
+use Rattle.pb_station.specs.declared.marks.Mark.TheVariants as mark
+
+abbrev pub mark_of : Mark → turn.Mark
+mark_of (mark.Begin at seen) = turn.Begin at seen
+mark_of (mark.End at seen chars) = turn.End at seen chars.items
+
+-- no mark is of a moment later than the clock
+abbrev pub AreOver : ℕ → List Mark → Type 0
+AreOver now marks = All (λ m. moment_of (mark_of m) ≤ now) marks

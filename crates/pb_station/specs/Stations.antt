@@ -1,0 +1,16 @@
+-- A station, as contracts see it.
+use Rattle.std.specs.Prelude.{ℕ, Bool, List}
+use Rattle.pb_timers.specs.Timers.{Params}
+use Rattle.pb_turn.specs.Stations as turn
+use Rattle.pb_station.specs.Cores.{station_of}
+use Rattle.pb_station.specs.declared.stations.Station.TheInside.{Inside}
+
+pub record StationView : Type 0 where
+  pub tap : ℕ  -- the position of its tap, counted from 0
+  pub params : Params
+  pub master : Bool
+  pub reply_data : List ℕ  -- what it replies to a request for data
+  pub station : turn.Station
+
+abbrev pub station_view : Inside → StationView
+station_view s = record { tap = s.tap; params = s.params; master = s.master; reply_data = s.reply_data.items; station = station_of s.core }

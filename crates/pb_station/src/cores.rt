@@ -1,0 +1,109 @@
+ghost use Rattle.std.specs.Prelude.{◌≡◌, ◌≤◌, false};
+ghost use Rattle.pb_tokenfsm.specs.Phases.{is_noted};
+ghost use Rattle.pb_station.specs.Clocks.{last_end};
+
+use crate::addresses::Address;
+use crate::past::Past;
+use crate::replies::Reply;
+use arrayvec::ArrayVec;
+use pb_ring::{Gap, Las};
+use pb_rotation::Rotation;
+use pb_timers::Moment;
+use pb_tokenfsm::Phase;
+
+/// What a station keeps beside its phase.
+#[derive(Debug, Drop)]
+pub(crate) struct Kept {
+    pub(crate) address: Address,
+    /// From a Begin to its End.
+    pub(crate) busy: bool,
+    pub(crate) past: Past,
+    pub(crate) reply: Option<Reply>,
+    pub(crate) las: Las,
+    pub(crate) gap: Gap,
+    pub(crate) rotation: Rotation,
+}
+
+/// All of a station that a turn changes. No whole telegram is noted in its phase: what is heard is answered
+/// at once.
+#[derive(Debug, Drop)]
+pub(crate) struct Core {
+    pub(crate) phase: Phase,
+    pub(crate) kept: Kept,
+    ghost nothing_noted: { is_noted phase ≡ false },
+}
+
+/// The same octets.
+fn copy_octets(octets: &ArrayVec<u8, 255>) -> ArrayVec<u8, 255>
+    ensures { result ≡ octets.now }
+{
+    let mut copy = ArrayVec::new();
+    copy.try_extend_from_slice(octets.as_slice()).unwrap();
+    copy
+}
+
+impl Reply {
+    fn copy(&self) -> Reply
+        ensures { result ≡ self.now }
+    {
+        Reply {
+            ready: self.ready,
+            octets: copy_octets(&self.octets),
+            joins: self.joins,
+        }
+    }
+}
+
+impl Kept {
+    /// When the own last telegram began.
+    pub(crate) fn own_begin(&self) -> Moment
+        ensures { result ≡ self.now.past.begin }
+    {
+        self.past.begin
+    }
+
+    /// When it ended.
+    pub(crate) fn own_end(&self) -> Moment
+        ensures value { result ≡ self.now.past.end }
+        ensures bound { result ≤ last_end }
+    {
+        self.past.end.get()
+    }
+
+    fn copy(&self) -> Kept
+        ensures { result ≡ self.now }
+    {
+        Kept {
+            address: self.address,
+            busy: self.busy,
+            past: self.past,
+            reply: self.reply.as_ref().map(Reply::copy),
+            las: self.las,
+            gap: self.gap,
+            rotation: self.rotation,
+        }
+    }
+}
+
+impl Core {
+    ghost use Rattle.pb_tokenfsm.specs.Phases.{phase_of};
+    ghost use Rattle.pb_station.specs.Cores.{with_phase, station_of};
+
+    /// A core of a phase that has noted nothing.
+    pub(crate) fn new(phase: Phase, kept: Kept) -> Core
+        requires { is_noted phase ≡ false }
+        ensures { station_of result ≡ with_phase kept (phase_of phase) }
+    {
+        Core { phase, kept }
+    }
+
+    /// An equal core.
+    pub(crate) fn copy(&self) -> Core
+        ensures { result ≡ self.now }
+    {
+        Core {
+            phase: self.phase.copy(),
+            kept: self.kept.copy(),
+        }
+    }
+}

@@ -1,0 +1,223 @@
+ghost use Rattle.std.specs.Prelude.{◌≡◌, ◌≤◌};
+ghost use Rattle.pb_turn.specs.Stations as turn;
+ghost use Rattle.pb_station.specs.Clocks.{last_turn};
+ghost use Rattle.pb_station.specs.Cores.{station_of};
+ghost use Rattle.pb_tokenfsm.specs.Phases.{phase_of};
+
+use crate::addresses::Address;
+use crate::cores::{Core, Kept};
+use crate::marks::Mark;
+use crate::past::Past;
+use crate::turns::{due_of, turn};
+use arrayvec::ArrayVec;
+use pb_ring::{Gap, Las};
+use pb_rotation::Rotation;
+use pb_timers::{BusParams, Moment};
+use pb_tokenfsm::{Listening, Offline, PassiveIdle, Phase};
+use std::alloc::Global;
+use std::marker::Model;
+use thiserror::Error;
+
+/// Memory was refused.
+#[derive(Clone, Copy, Debug, PartialEq, Eq, Error)]
+#[error("NoMemory")]
+pub struct NoMemory;
+
+/// A station at a tap of the bus.
+#[derive(Debug, Drop)]
+pub struct Station {
+    tap: usize,
+    params: BusParams,
+    master: bool,
+    reply_data: ArrayVec<u8, 246>,
+    core: Core,
+}
+
+impl Model for Station {
+    ghost use Rattle.pb_station.specs.Cores.{station_of, HasReceived};
+    ghost use Rattle.pb_station.specs.Stations.{StationView, station_view};
+
+    ghost Value = { StationView };
+
+    ghost view = { station_view };
+
+    ghost invariant = { λ s. HasReceived (station_of s.core) };
+}
+
+/// A station after a turn, and what it said.
+#[derive(Debug, Drop)]
+pub struct Turn {
+    /// The station after its turn.
+    pub after: Station,
+    /// The octets that it says.
+    pub speak: Option<ArrayVec<u8, 255>>,
+}
+
+/// A core that does not run.
+fn new_core(address: Address, params: &BusParams) -> Core
+    ensures { station_of result ≡ turn.new_station params.now address }
+{
+    Core {
+        phase: Phase::Offline(Offline),
+        kept: Kept {
+            address,
+            busy: false,
+            past: Past::started(beginning()),
+            reply: None,
+            las: Las::listening(),
+            gap: Gap::fresh(),
+            rotation: Rotation::new(params.ttr()),
+        },
+    }
+}
+
+/// The moment at which a clock begins.
+fn beginning() -> Moment
+    ensures { result ≡ 0 }
+{
+    Moment::new(0).unwrap()
+}
+
+/// A core as its station starts: a master listens for the ring, a passive station waits for requests.
+fn started(core: &Core, params: &BusParams, master: bool, now: Moment) -> Core
+    requires { now ≤ last_turn }
+    ensures { station_of result ≡ turn.started params.now (station_of core.now) master now }
+{
+    let phase = if master {
+        Phase::Listening(Listening::new())
+    } else {
+        Phase::PassiveIdle(PassiveIdle)
+    };
+    let new = new_core(core.kept.address, params);
+    Core {
+        phase,
+        kept: Kept {
+            past: Past::started(now),
+            ..new.kept
+        },
+    }
+}
+
+/// The same octets.
+fn copy_data(octets: &ArrayVec<u8, 246>) -> ArrayVec<u8, 246>
+    ensures { result ≡ octets.now }
+{
+    let mut copy = ArrayVec::new();
+    copy.try_extend_from_slice(octets.as_slice()).unwrap();
+    copy
+}
+
+impl Station {
+    ghost use Rattle.std.specs.Prelude.{◌≡◌, ◌≤◌, List, Some, None, map, IfOk, MatchResult};
+    ghost use Rattle.pb_timers.specs.Timers.{Params};
+    ghost use Rattle.pb_turn.specs.Stations as turn;
+    ghost use Rattle.pb_tokenfsm.specs.Phases.{phase_of};
+    ghost use Rattle.std.specs.Option.{option_map};
+    ghost use Rattle.pb_station.specs.Clocks.{last_turn};
+    ghost use Rattle.pb_station.specs.Decisions.{IsTurn};
+    ghost use Rattle.pb_station.specs.MarkViews.{mark_of, AreOver};
+
+    /// A station that doesn't run, at a tap, counted from 0: a master or a passive station, with an address,
+    /// 0 to 126, the caller's condition, and the data that it replies to a request for data.
+    ///
+    /// Fault: `NoMemory` where memory was refused; nothing takes any yet.
+    pub fn new(
+        _alloc: Global,
+        tap: usize,
+        params: BusParams,
+        address: u8,
+        master: bool,
+        reply: ArrayVec<u8, 246>,
+    ) -> Result<Station, NoMemory>
+        requires { address ≤ 126 }
+        ensures { MatchResult result (λ s. s ≡ record {
+          tap = tap;
+          params = params;
+          master = master;
+          reply_data = reply.items;
+          station = turn.new_station params address;
+        }) (λ _. ⊥) }
+    {
+        let core = new_core(Address::new(address), &params);
+        Ok(Station {
+            tap,
+            params,
+            master,
+            reply_data: reply,
+            core,
+        })
+    }
+
+    /// The tap's position in the list, counted from 0.
+    pub fn tap(&self) -> usize
+        ensures { result ≡ self.now.tap }
+    {
+        self.tap
+    }
+
+    /// The station's address, 0 to 126.
+    pub fn address(&self) -> u8
+        ensures value { result ≡ self.now.station.address }
+        ensures bound { result ≤ 126 }
+    {
+        self.core.kept.address.get()
+    }
+
+    /// The parameters of its bus.
+    pub fn params(&self) -> &BusParams
+        ensures { result.now ≡ self.now.params }
+    {
+        &self.params
+    }
+
+    /// The phase that the station is in.
+    pub fn phase(&self) -> &Phase
+        ensures { phase_of result.now ≡ self.now.station.phase }
+    {
+        &self.core.phase
+    }
+
+    /// Its list of active stations.
+    pub fn las(&self) -> &Las
+        ensures { result.now ≡ self.now.station.las }
+    {
+        &self.core.kept.las
+    }
+
+    /// The station starts at a moment, at most 2^61, the caller's condition: a master listens for the ring,
+    /// a passive station waits for requests. All that it knew is forgotten.
+    pub fn start(&mut self, now: Moment)
+        requires { now ≤ last_turn }
+        ensures { self.new ≡ record self.old { station = turn.started self.old.params self.old.station self.old.master now } }
+    {
+        self.core = started(&self.core, &self.params, self.master, now);
+    }
+
+    /// The station after its turn at a moment, at most 2^61, with some unread marks, none of them of a later
+    /// moment, both the caller's conditions, and what it says: the turn of [`decide`](crate::decide), for one
+    /// who keeps the station and its marks where they are.
+    pub fn turn(&self, marks: &[Mark], now: Moment) -> Turn
+        requires clock { now ≤ last_turn }
+        requires over { AreOver now marks.now }
+        ensures { IsTurn self.now marks.now now result.after (option_map (λ octets. octets.items) result.speak) }
+    {
+        let spoken = turn(&self.core, &self.params, marks, now);
+        Turn {
+            after: Station {
+                tap: self.tap,
+                params: self.params,
+                master: self.master,
+                reply_data: copy_data(&self.reply_data),
+                core: spoken.after,
+            },
+            speak: spoken.octets,
+        }
+    }
+
+    /// When the station has to take its turn.
+    pub(crate) fn due(&self, marks: &[Mark]) -> Option<Moment>
+        ensures { result ≡ turn.due_of self.now.params self.now.station (map mark_of marks.now) }
+    {
+        due_of(&self.core, &self.params, marks)
+    }
+}

@@ -1,0 +1,196 @@
+ghost use Rattle.std.specs.Prelude.{◌≡◌, true, IfOk};
+ghost use Rattle.pb_station.specs.MarkViews.{AreOver};
+
+mod turns;
+
+use super::*;
+use arrayvec::ArrayVec;
+use pb_telegram::RxChar;
+use pb_timers::{BusParams, Moment};
+use std::alloc::Global;
+use std::str::SplitWhitespace;
+use std::test::Fail;
+use turns::TURNS;
+
+/// The last moment of a turn, 2^61.
+const LAST_TURN: u64 = 1 << 61;
+
+fn at(bits: u64) -> Result<Moment, Fail>
+    ensures { IfOk result (λ moment. moment ≡ bits) }
+{
+    Ok(Moment::new(bits).ok_or("the moment is too late")?)
+}
+
+/// A slot of 100, idle times 37 and 60, reply delay 11, no lag, rotation 10,000, GAP factor 10, highest
+/// address 5, one retry.
+fn usual() -> Result<BusParams, Fail> {
+    Ok(BusParams::new(100, 37, 60, 11, 0, 10_000, 10, 5, 1)?)
+}
+
+/// A master with address 1 at tap 0, without data.
+fn master(alloc: Global) -> Result<Station, Fail> {
+    Ok(Station::new(alloc, 0, usual()?, 1, true, ArrayVec::new())?)
+}
+
+/// The next word of a line.
+fn word<'a>(words: &mut SplitWhitespace<'a>) -> Result<&'a str, Fail> {
+    Ok(words.next().ok_or("a word is missing")?)
+}
+
+/// The characters of hex digits; `--` is one that is damaged.
+fn characters(hex: &str) -> Result<ArrayVec<RxChar, 255>, Fail> {
+    let mut characters = ArrayVec::new();
+    for place in 0..hex.len() / 2 {
+        let digits = hex.get(2 * place..2 * place + 2).ok_or("no digits")?;
+        let character = match digits {
+            "--" => RxChar::Bad,
+            _ => RxChar::Good(u8::from_str_radix(digits, 16)?),
+        };
+        if characters.try_push(character).is_err() {
+            return Err(Fail::from("too many characters"));
+        }
+    }
+    Ok(characters)
+}
+
+/// `b:AT:SEEN` or `e:AT:SEEN:CHARACTERS`.
+fn mark(word: &str) -> Result<Mark, Fail> {
+    let mut parts = word.split(':');
+    let kind = parts.next().ok_or("a mark has no kind")?;
+    let moment = at(parts.next().ok_or("a mark has no moment")?.parse::<u64>()?)?;
+    let seen = at(
+        parts
+            .next()
+            .ok_or("a mark was not delivered")?
+            .parse::<u64>()?,
+    )?;
+    if kind == "b" {
+        return Ok(Mark::Begin { at: moment, seen });
+    }
+    let chars = characters(parts.next().ok_or("an end has no characters")?)?;
+    Ok(Mark::End {
+        at: moment,
+        seen,
+        chars,
+    })
+}
+
+/// Whether no mark is of a moment later than the clock.
+fn are_over(marks: &[Mark], now: Moment) -> bool
+    ensures { result ≡ true → AreOver now marks.now }
+{
+    marks.iter().all(|mark| mark.moment().get() <= now.get())
+}
+
+/// A moment, or `-` for none.
+fn same_moment(moment: Option<Moment>, word: &str) -> Result<bool, Fail> {
+    if word == "-" {
+        return Ok(moment.is_none());
+    }
+    Ok(moment.map(|moment| moment.get()) == Some(word.parse::<u64>()?))
+}
+
+/// The octets that a station says, in hex; `-` for none.
+fn same_octets(octets: &Option<ArrayVec<u8, 255>>, hex: &str) -> Result<bool, Fail> {
+    match octets {
+        None => Ok(hex == "-"),
+        Some(octets) => {
+            let characters = characters(hex)?;
+            let same = octets
+                .iter()
+                .zip(&characters)
+                .all(|(octet, character)| RxChar::Good(*octet) == *character);
+            Ok(same && octets.len() == characters.len())
+        }
+    }
+}
+
+/// A station after a turn, and whether the turn was as a line says.
+#[derive(Drop)]
+struct Step {
+    station: Station,
+    agrees: bool,
+}
+
+/// The turn of a line.
+fn take_turn(alloc: Global, station: Station, line: &str) -> Result<Step, Fail> {
+    let mut words = line.split_whitespace();
+    let now = at(word(&mut words)?.parse::<u64>()?)?;
+    let due_before = word(&mut words)?;
+    let says = word(&mut words)?;
+    let phase = word(&mut words)?;
+    let due_after = word(&mut words)?;
+    let mut marks = Vec::new(alloc);
+    for word in words {
+        marks.push(mark(word)?)?;
+    }
+    let was_due = same_moment(due(&station, &marks), due_before)?;
+    if now.get() > LAST_TURN || !are_over(&marks, now) {
+        return Err(Fail::from("the turn is too early or too late"));
+    }
+    let glance = Glance {
+        tap: 0,
+        station,
+        marks,
+        now,
+    };
+    let decision = decide(alloc, glance)?;
+    let spoke = same_octets(&decision.speak, says)?;
+    let agrees = decision.after.phase().name() == phase
+        && same_moment(due(&decision.after, &[]), due_after)?;
+    Ok(Step {
+        station: decision.after,
+        agrees: was_due && spoke && agrees,
+    })
+}
+
+/// A master with address 1 listens, and claims the token once silence has lasted its time-out.
+#[test]
+fn a_new_master_listens_and_claims(rt: HostRuntime) -> Result<(), Fail> {
+    let alloc = rt.alloc();
+    let mut station = master(alloc)?;
+    assert_eq!(rt; station.phase().name(), "Offline");
+    assert!(rt; due(&station, &[]).is_none());
+    assert_eq!(rt; station.tap(), 0);
+    assert_eq!(rt; station.address(), 1);
+    assert_eq!(rt; station.params().tsl(), 100);
+    station.start(at(0)?);
+    assert_eq!(rt; station.phase().name(), "Listening");
+    assert!(rt; !station.las().complete());
+    assert!(rt; same_moment(due(&station, &[]), "800")?);
+    let first = take_turn(alloc, station, "800 800 dc0101 Claim 870")?;
+    assert!(rt; first.agrees);
+    assert!(rt; first.station.las().complete());
+    Ok(())
+}
+
+/// A passive station waits for requests, and is not due by itself.
+#[test]
+fn a_passive_station_waits(rt: HostRuntime) -> Result<(), Fail> {
+    let alloc = rt.alloc();
+    let mut station = Station::new(alloc, 2, usual()?, 9, false, ArrayVec::new())?;
+    station.start(at(40)?);
+    assert_eq!(rt; station.phase().name(), "PassiveIdle");
+    assert_eq!(rt; station.address(), 9);
+    assert!(rt; due(&station, &[]).is_none());
+    Ok(())
+}
+
+/// A lone station asks its GAP; a listener learns the ring, joins it, takes and passes the token, and hears
+/// damage; one that was skipped twice listens anew; and one that hears its namesake gives way.
+#[test]
+fn stations_take_their_turns(rt: HostRuntime) -> Result<(), Fail> {
+    let alloc = rt.alloc();
+    let mut station = master(alloc)?;
+    for line in TURNS.lines() {
+        if line == "start" {
+            station = master(alloc)?;
+            station.start(at(0)?);
+            continue;
+        }
+        let next = take_turn(alloc, station, line)?;
+        assert!(rt; next.agrees, "{line}");
+        station = next.station;
+    }
+    Ok(())
+}

@@ -1,0 +1,143 @@
+//! The states of a station that waits.
+
+ghost use Rattle.std.specs.Prelude.{◌≡◌, true, false, Some, None};
+ghost use Rattle.pb_turn.specs.Phases as turn;
+ghost use Rattle.pb_tokenfsm.specs.Phases.{phase_of, refused_by, is_doubled, is_noted, token_heard};
+
+use crate::phases::Phase;
+use crate::states::{Claim, Holding, Use};
+use pb_telegram::TokenTelegram;
+use pb_timers::Moment;
+
+/// The station does not run.
+#[derive(Debug, Drop)]
+pub struct Offline;
+
+/// A passive station, which says nothing as an initiator.
+#[derive(Debug, Drop)]
+pub struct PassiveIdle;
+
+/// A master that listens for the ring, and takes no token.
+#[derive(Debug, Drop)]
+pub struct Listening {
+    /// Whether a token was heard that had the own address as its source.
+    doubled: bool,
+}
+
+/// A master in the ring that waits for the token.
+#[derive(Debug, Drop)]
+pub struct Idle {
+    /// The station whose token to this one was not accepted, if any.
+    refused: Option<u8>,
+}
+
+impl Listening {
+    /// A station that begins to listen, and has heard nothing.
+    pub fn new() -> Listening
+        ensures { phase_of (Phase.Listening result) ≡ turn.Listening false }
+    {
+        Listening { doubled: false }
+    }
+
+    pub(crate) fn copy(&self) -> Listening
+        ensures { result ≡ self.now }
+    {
+        Listening {
+            doubled: self.doubled,
+        }
+    }
+
+    /// Whether a token was heard that had the own address as its source.
+    pub fn doubled(&self) -> bool
+        ensures { result ≡ is_doubled self.now }
+    {
+        self.doubled
+    }
+
+    /// A first token is heard that has the own address as its source: another station may have the
+    /// same address.
+    pub fn on_namesake(self) -> Listening
+        ensures { phase_of (Phase.Listening result) ≡ turn.Listening true }
+    {
+        let Listening { doubled: _ } = self;
+        Listening { doubled: true }
+    }
+
+    /// A second such token is heard: the station gives way to its namesake (EN 50170-2, duplicate
+    /// address).
+    pub fn on_double(self) -> Offline
+        ensures { phase_of (Phase.Offline result) ≡ turn.Offline }
+    {
+        let Listening { doubled: _ } = self;
+        Offline
+    }
+
+    /// The station has said that it is ready, and is in the ring.
+    pub fn on_ready(self) -> Idle
+        ensures { phase_of (Phase.Idle result) ≡ turn.Idle None }
+    {
+        let Listening { doubled: _ } = self;
+        Idle::new()
+    }
+
+    /// The time-out has ended: the station claims the token at `ready`.
+    pub fn on_timeout(self, ready: Moment) -> Holding<Claim>
+        ensures { phase_of (Phase.Claim result) ≡ turn.Claim 0 ready }
+    {
+        let Listening { doubled: _ } = self;
+        Holding::claiming(ready)
+    }
+}
+
+impl Idle {
+    /// A station that has refused nobody's token.
+    pub(crate) fn new() -> Idle
+        ensures { phase_of (Phase.Idle result) ≡ turn.Idle None }
+    {
+        Idle { refused: None }
+    }
+
+    pub(crate) fn copy(&self) -> Idle
+        ensures { result ≡ self.now }
+    {
+        Idle {
+            refused: self.refused,
+        }
+    }
+
+    /// A whole token telegram is heard by the station `ts` with the previous station `ps`. A token
+    /// to `ts` is accepted from `ps`, and from the station whose token was not accepted before
+    /// (EN 50170-2, token passing); the station speaks at `ready` then. From another station it is
+    /// not accepted, and that station is remembered.
+    pub fn hear_token(self, token: &TokenTelegram, ts: u8, ps: u8, ready: Moment) -> Phase
+        ensures phase { phase_of result ≡ token_heard (refused_by self) token.now.da token.now.sa ts ps ready }
+        ensures fresh { is_noted result ≡ false }
+    {
+        if token.da != ts {
+            return Phase::Idle(self);
+        }
+        let Idle { refused } = self;
+        if token.sa == ps || refused == Some(token.sa) {
+            return Phase::Use(Holding::using(ready));
+        }
+        Phase::Idle(Idle {
+            refused: Some(token.sa),
+        })
+    }
+
+    /// The time-out has ended: the station claims the token at `ready`.
+    pub fn on_timeout(self, ready: Moment) -> Holding<Claim>
+        ensures { phase_of (Phase.Claim result) ≡ turn.Claim 0 ready }
+    {
+        let Idle { refused: _ } = self;
+        Holding::claiming(ready)
+    }
+
+    /// The token has skipped the station too often: it listens anew, with nothing heard.
+    pub fn on_skipped(self) -> Listening
+        ensures { phase_of (Phase.Listening result) ≡ turn.Listening false }
+    {
+        let Idle { refused: _ } = self;
+        Listening::new()
+    }
+}

@@ -1,0 +1,160 @@
+-- A turn never changes the address of a station.
+use Rattle.std.proofs.Common.{◌≡◌, ◌∙◌, refl, ℕ, ◌+◌, ◌==◌, nat_lt, nat_le, Bool, true, false, List, [], ◌∷◌, Option, Some, None}
+use Rattle.pb_timers.specs.Timers.{Params}
+use Rattle.pb_ring.specs.Gap.{last_asked, next_asked, round_after}
+use Rattle.pb_cycles.specs.Messages.{has_bit}
+use Rattle.pb_cycles.specs.Outcomes.{status_reply}
+use Rattle.pb_cycles.specs.declared.messages.Message.TheVariants as message
+use Rattle.pb_ring.specs.Las.{place_of, skips_of}
+use Rattle.pb_turn.specs.Arrivals.{Arrival, Token, Framed, Acknowledgement, NoTelegram, arrival_of}
+use Rattle.pb_turn.specs.Hearing.{phase_timed_out, timed_out, after_timer, tries_limit, listening_hears, is_taken_from, skips_limit, own_token, foreign_token, idle_hears, holder_hears, status_told, awaiting_status_hears, checking_hears, with_token, lost, phase_ended, heard, after_mark}
+use Rattle.pb_turn.specs.Marks.{Mark, Begin, End, moment_of}
+use Rattle.pb_turn.specs.Phases.{Phase, Offline, PassiveIdle, Listening, Idle, Claim, Use, AwaitStatus, Pass, Checking, is_offline}
+use Rattle.pb_turn.specs.Stations.{Station, Reply, timer_of, speaks_at, next_station, previous_station}
+use Rattle.pb_turn.specs.Turns.{after_marks, settled, saying, received_own, says_token, says_claim, looks_at_gap, says_look, says_in_use, replying, joining, says_reply, says_ready, phase_says, speech, turn_of, token_octets}
+use Rattle.pb_turn.proofs.Cases.{by_test}
+
+abbrev Has : ℕ → Station → Type 0
+Has a s = s.address ≡ a
+
+-- ---- timers
+
+timed : (s : Station) (ph : Phase) (t : ℕ) → Has s.address (phase_timed_out s ph t)
+timed s Offline t = refl
+timed s PassiveIdle t = refl
+timed s (Listening doubled) t = refl
+timed s (Idle refused) t = refl
+timed s (Claim sent ready) t = refl
+timed s (Use asked ready) t = refl
+timed s (AwaitStatus of slot) t = refl
+timed s (Pass tries ready) t = refl
+timed s (Checking tries) t = by_test (Has s.address) (nat_le tries_limit tries) _ _ (λ _. refl) (λ _. refl)
+
+timer : (p : Params) (limit : ℕ) (s : Station) → Has s.address (after_timer p limit s)
+timer p limit s = by_timer (timer_of p s)
+  where
+    by_timer : (o : Option ℕ) → Has s.address (timed_out s o limit)
+    by_timer None = refl
+    by_timer (Some t) = by_test (Has s.address) (nat_lt t limit) (phase_timed_out s s.phase t) s (λ _. timed s s.phase t) (λ _. refl)
+
+-- ---- marks
+
+foreign : (s : Station) → Has s.address (foreign_token s)
+foreign s = by_test (Has s.address) (nat_le skips_limit (skips_of (place_of s.las.stage))) _ s (λ _. refl) (λ _. refl)
+
+own : (p : Params) (s : Station) (taken : Bool) (sa at : ℕ) → Has s.address (own_token p s taken sa at)
+own p s true sa at = refl
+own p s false sa at = refl
+
+idle : (p : Params) (s : Station) (refused : Option ℕ) (at : ℕ) (arrival : Arrival) → Has s.address (idle_hears p s refused at arrival)
+idle p s refused at (Token da sa) =
+    by_test (Has s.address) (da == s.address) _ _
+    (λ _. own p (with_token s da sa) (is_taken_from refused (previous_station s) sa) sa at) (λ _. foreign (with_token s da sa))
+idle p s refused at (Framed f) = refl
+idle p s refused at Acknowledgement = refl
+idle p s refused at NoTelegram = refl
+
+listening : (p : Params) (s : Station) (doubled : Bool) (at : ℕ) (arrival : Arrival) → Has s.address (listening_hears p s doubled at arrival)
+listening p s doubled at (Token da sa) = refl
+listening p s doubled at (Framed f) = refl
+listening p s doubled at Acknowledgement = refl
+listening p s doubled at NoTelegram = refl
+
+holder : (s : Station) (arrival : Arrival) → Has s.address (holder_hears s arrival)
+holder s (Token da sa) = refl
+holder s (Framed f) = refl
+holder s Acknowledgement = refl
+holder s NoTelegram = refl
+
+told : (p : Params) (s : Station) (of at : ℕ) (reply : Option ℕ) → Has s.address (status_told p s of at reply)
+told p s of at None = refl
+told p s of at (Some fc) = refl
+
+awaiting : (p : Params) (s : Station) (of at : ℕ) (arrival : Arrival) → Has s.address (awaiting_status_hears p s of at arrival)
+awaiting p s of at (Token da sa) = refl
+awaiting p s of at (Framed f) =
+    by_test (Has s.address) (has_bit f.fc 6) _ _ (λ _. refl) (λ _. told p s of at (status_reply s.address of (message.Framed f)))
+awaiting p s of at Acknowledgement = refl
+awaiting p s of at NoTelegram = refl
+
+checking : (p : Params) (again : Bool) (s : Station) (tries at : ℕ) (arrival : Arrival) → Has s.address (checking_hears p again s tries at arrival)
+checking p again s tries at (Token da sa) = idle p (lost s) None at (Token da sa)
+checking p again s tries at (Framed f) = idle p (lost s) None at (Framed f)
+checking p again s tries at Acknowledgement = refl
+checking p true s tries at NoTelegram = refl
+checking p false s tries at NoTelegram = refl
+
+ended-in : (p : Params) (again : Bool) (s : Station) (ph : Phase) (at : ℕ) (arrival : Arrival) → Has s.address (phase_ended p again s ph at arrival)
+ended-in p again s Offline at arrival = refl
+ended-in p again s PassiveIdle at arrival = refl
+ended-in p again s (Listening doubled) at arrival = listening p s doubled at arrival
+ended-in p again s (Idle refused) at arrival = idle p s refused at arrival
+ended-in p again s (Claim sent ready) at arrival = holder s arrival
+ended-in p again s (Use asked ready) at arrival = holder s arrival
+ended-in p again s (AwaitStatus of slot) at arrival = awaiting p s of at arrival
+ended-in p again s (Pass tries ready) at arrival = holder s arrival
+ended-in p again s (Checking tries) at arrival = checking p again s tries at arrival
+
+hearing : (p : Params) (again : Bool) (s : Station) (m : Mark) → Has s.address (heard p again s m)
+hearing p again s (Begin at seen) = refl
+hearing p again s (End at seen chars) = ended-in p again _ s.phase at (arrival_of chars)
+
+mark : (p : Params) (again : Bool) (s : Station) (m : Mark) → Has s.address (after_mark p again s m)
+mark p again s m = by_test (Has s.address) (is_offline s.phase) s _ (λ _. refl) (λ _. hearing p again s m)
+
+marks : (p : Params) (again : Bool) (s : Station) (ms : List Mark) → Has s.address (after_marks p again s ms)
+marks p again s [] = refl
+marks p again s (m ∷ ms) =
+    let timed_first = after_timer p (moment_of m) s in
+    marks p again (after_mark p again timed_first m) ms ∙ mark p again timed_first m ∙ timer p (moment_of m) s
+
+-- ---- speech
+
+abbrev Says : ℕ → Station × Option (List ℕ) → Type 0
+Says a turn = turn.0.address ≡ a
+
+token : (p : Params) (s : Station) (tries now : ℕ) → Says s.address (says_token p s tries now)
+token p s tries now =
+    let x = saying s now (token_octets (next_station s) s.address) in
+    by_test (Has s.address) (next_station s == s.address) (received_own p x) _ (λ _. refl) (λ _. refl)
+
+claim : (p : Params) (s : Station) (sent now : ℕ) → Says s.address (says_claim p s sent now)
+claim p s sent now =
+    let x = saying s now (token_octets s.address s.address) in by_test (Has s.address) (sent == 0) _ (received_own p x) (λ _. refl) (λ _. refl)
+
+look : (p : Params) (s : Station) (a : Option ℕ) (now : ℕ) → Says s.address (says_look p s a now)
+look p s None now = token p (record s { gap = round_after None now }) 0 now
+look p s (Some a) now = refl
+
+uses : (p : Params) (s : Station) (asked : Bool) (now : ℕ) → Says s.address (says_in_use p s asked now)
+uses p s asked now =
+    by_test (Says s.address) (looks_at_gap p s asked now) _ _
+    (λ _. look p s (next_asked s.address (next_station s) p.hsa (last_asked s.gap)) now) (λ _. token p s 0 now)
+
+reply : (s : Station) (r : Option Reply) (now : ℕ) → Says s.address (says_reply s r now)
+reply s None now = refl
+reply s (Some r) now = refl
+
+ready : (s : Station) (r : Option Reply) (now : ℕ) → Says s.address (says_ready s r now)
+ready s None now = refl
+ready s (Some r) now = by_test (Has s.address) r.joins (joining (replying s now r)) (replying s now r) (λ _. refl) (λ _. refl)
+
+says : (p : Params) (s : Station) (ph : Phase) (now : ℕ) → Says s.address (phase_says p s ph now)
+says p s Offline now = refl
+says p s PassiveIdle now = reply s s.reply now
+says p s (Listening doubled) now = ready s s.reply now
+says p s (Idle refused) now = reply s s.reply now
+says p s (Claim sent ready) now = claim p s sent now
+says p s (Use asked ready) now = uses p s asked now
+says p s (AwaitStatus of slot) now = refl
+says p s (Pass tries ready) now = token p s tries now
+says p s (Checking tries) now = refl
+
+speaks : (p : Params) (s : Station) (o : Option ℕ) (now : ℕ) → Says s.address (speech p s o now)
+speaks p s None now = refl
+speaks p s (Some moment) now = by_test (Says s.address) (nat_le moment now) _ _ (λ _. says p s s.phase now) (λ _. refl)
+
+pub turn-address : (p : Params) (again : Bool) (s : Station) (ms : List Mark) (now : ℕ) → (turn_of p again s ms now).0.address ≡ s.address
+turn-address p again s ms now =
+    let at_clock = settled p again s ms now in
+    speaks p at_clock (speaks_at at_clock) now ∙ timer p (now + 1) (after_marks p again s ms) ∙ marks p again s ms
