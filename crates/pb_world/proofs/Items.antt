@@ -10,10 +10,6 @@ use Rattle.std.specs.Option.{option_map}
 pub item-at : {X Y : Type 0} (f : X → Y) (xs : List X) (i : ℕ) (x : X) → i < length xs → x ≡ slice_index_or xs i x → slice_get (map f xs) i ≡ Some (f x)
 item-at f xs i x there is = slice_get-map f xs i ∙ ap (option_map f) (slice_get-get_or xs i x there) ∙ ap (λ y. Some (f y)) (sym is)
 
--- the item that stands there is no other
-pub only-item : {X Y : Type 0} (f : X → Y) (xs : List X) (i : ℕ) (x : X) (y : Y) → i < length xs → x ≡ slice_index_or xs i x → slice_get (map f xs) i ≡ Some y → f x ≡ y
-only-item f xs i x y there is at = same_Some (f x) y (sym (item-at f xs i x there is) ∙ at)
-
 -- what holds anyway holds at an error
 pub at-err : {X F : Type 0} {P : Type 0} (r : Result X F) → P → OnErr r P
 at-err (Ok x) p = tt

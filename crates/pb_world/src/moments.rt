@@ -1,5 +1,4 @@
-ghost use Rattle.std.specs.Prelude.{◌≡◌, ◌≤◌, ◌+◌};
-ghost use Rattle.pb_timers.specs.Timers.{last_moment};
+ghost use Rattle.std.specs.Prelude.{◌≡◌};
 
 use pb_timers::Moment;
 
@@ -8,12 +7,4 @@ pub(crate) fn beginning() -> Moment
     ensures { result ≡ 0 }
 {
     Moment::new(0).unwrap()
-}
-
-/// The moment some bit times later, which is not past the last.
-pub(crate) fn after(moment: Moment, bits: u64) -> Moment
-    requires { moment + bits ≤ last_moment }
-    ensures { result ≡ moment + bits }
-{
-    moment.add(bits).unwrap()
 }
