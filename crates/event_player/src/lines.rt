@@ -1,10 +1,10 @@
 //! The lines that playing an event list prints.
 
 use crate::lists::EventList;
+use pb_cycles::{Request, Service};
 use pb_timers::Moment;
 use pb_world::{Entry, Event, Heard, NewFault, Record, Reply, World, WorldFault};
 use std::alloc::{AllocError, Global};
-use std::fmt;
 
 /// The lines that an event list gives: each event with its reply or its fault, the trace, and each
 /// tap's phase and the moment of its next turn. A bus that is refused gives one line, its fault.
@@ -35,14 +35,60 @@ fn push_events(
     events: &[Event],
 ) -> Result<(), AllocError> {
     for (place, event) in events.iter().enumerate() {
-        write!(text, "{place} {}: ", Named(*event))?;
-        match world.apply(alloc, *event) {
+        write!(text, "{place} ")?;
+        push_event(text, alloc, event)?;
+        text.push_str(": ")?;
+        match world.apply(alloc, event.copy()) {
             Ok(reply) => push_reply(text, alloc, &reply)?,
             Err(WorldFault::NoMemory) => return Err(AllocError),
             Err(fault) => writeln!(text, "fault {} {fault}", fault.number())?,
         }
     }
     Ok(())
+}
+
+/// Appends an event's name and numbers.
+fn push_event(text: &mut String, alloc: Global, event: &Event) -> Result<(), AllocError> {
+    match event {
+        Event::Turn(tap) => write!(text, "Turn {tap}"),
+        Event::Pass(bits) => write!(text, "Pass {bits}"),
+        Event::Damage {
+            tap,
+            speaker,
+            place: None,
+        } => write!(text, "Damage tap {tap} speaker {speaker} all"),
+        Event::Damage {
+            tap,
+            speaker,
+            place: Some(place),
+        } => write!(text, "Damage tap {tap} speaker {speaker} place {place}"),
+        Event::Start(tap) => write!(text, "Start {tap}"),
+        Event::Stop(tap) => write!(text, "Stop {tap}"),
+        Event::Queue { tap, request } => {
+            write!(text, "Queue tap {tap} ")?;
+            push_request(text, alloc, request)
+        }
+    }
+}
+
+/// Appends a request: its service, address, priority and data, where `-` is none.
+fn push_request(text: &mut String, alloc: Global, request: &Request) -> Result<(), AllocError> {
+    let service = service_name(request.service());
+    let priority = if request.high() { "high" } else { "low" };
+    write!(text, "{service} to {} {priority} ", request.da())?;
+    if request.unit().is_empty() {
+        return text.push('-');
+    }
+    text.push_str(&hex::encode(alloc, request.unit())?)
+}
+
+/// The name of a service.
+fn service_name(service: Service) -> &'static str {
+    match service {
+        Service::Sda => "sda",
+        Service::Sdn => "sdn",
+        Service::Srd => "srd",
+    }
 }
 
 /// Appends the clock, and the octets of a turn that spoke.
@@ -106,29 +152,5 @@ fn push_due(text: &mut String, due: Option<Moment>) -> Result<(), AllocError> {
     match due {
         Some(moment) => writeln!(text, "{}", moment.get()),
         None => writeln!(text, "none"),
-    }
-}
-
-/// An event, shown with its name and numbers.
-#[derive(Clone, Copy)]
-struct Named(Event);
-
-impl fmt::Display for Named {
-    fn fmt<W: fmt::Write>(&self, f: &mut fmt::Formatter<W>) -> fmt::Result {
-        match self.0 {
-            Event::Turn(tap) => write!(f, "Turn {tap}"),
-            Event::Pass(bits) => write!(f, "Pass {bits}"),
-            Event::Start(tap) => write!(f, "Start {tap}"),
-            Event::Damage {
-                tap,
-                speaker,
-                place: None,
-            } => write!(f, "Damage tap {tap} speaker {speaker} all"),
-            Event::Damage {
-                tap,
-                speaker,
-                place: Some(place),
-            } => write!(f, "Damage tap {tap} speaker {speaker} place {place}"),
-        }
     }
 }

@@ -2,6 +2,7 @@
 
 use arrayvec::ArrayVec;
 use hex::FromHexError;
+use pb_cycles::{Request, RequestFault, Service};
 use pb_timers::{BusParams, ParamFault};
 use pb_world::{Event, Kind, TapSpec};
 use serde::Deserialize;
@@ -35,6 +36,15 @@ pub enum ListFault {
     /// The reply of a tap has more than 246 octets.
     #[error("no event list: the reply of tap {0} is too long")]
     ReplyTooLong(usize),
+    /// The data of the request of an event is no hex.
+    #[error("no event list: the unit of event {0} is no hex")]
+    UnitNotHex(usize),
+    /// The request of an event has more than 246 octets of data.
+    #[error("no event list: the unit of event {0} is too long")]
+    UnitTooLong(usize),
+    /// The request of an event is refused.
+    #[error("no event list: the request of event {0} is refused: {1}")]
+    RequestRefused(usize, RequestFault),
     /// Memory was refused.
     #[error("no memory")]
     NoMemory,
@@ -119,7 +129,7 @@ struct WrittenList<'a> {
     #[serde(default)]
     bus: Bus,
     taps: Vec<WrittenTap<'a>>,
-    events: Vec<WrittenEvent>,
+    events: Vec<WrittenEvent<'a>>,
 }
 
 /// The rules that a list is written for: a station that hears damage of its token may pass it again.
@@ -160,7 +170,7 @@ impl From<WrittenKind> for Kind {
 /// An event as it is written.
 #[derive(Clone, Copy, Debug, Deserialize)]
 #[serde(deny_unknown_fields)]
-enum WrittenEvent {
+enum WrittenEvent<'a> {
     Turn(usize),
     Pass(u64),
     Damage {
@@ -169,25 +179,42 @@ enum WrittenEvent {
         place: Option<u8>,
     },
     Start(usize),
+    Stop(usize),
+    Queue {
+        tap: usize,
+        da: u8,
+        service: WrittenService,
+        high: bool,
+        #[serde(default)]
+        unit: &'a str,
+    },
 }
 
-impl From<WrittenEvent> for Event {
-    fn from(event: WrittenEvent) -> Event {
-        match event {
-            WrittenEvent::Turn(tap) => Event::Turn(tap),
-            WrittenEvent::Pass(bits) => Event::Pass(bits),
-            WrittenEvent::Damage {
-                tap,
-                speaker,
-                place,
-            } => Event::Damage {
-                tap,
-                speaker,
-                place,
-            },
-            WrittenEvent::Start(tap) => Event::Start(tap),
+/// The service of a request as it is written.
+#[derive(Clone, Copy, Debug, Deserialize)]
+#[serde(rename_all = "lowercase")]
+enum WrittenService {
+    Sda,
+    Sdn,
+    Srd,
+}
+
+impl From<WrittenService> for Service {
+    fn from(service: WrittenService) -> Service {
+        match service {
+            WrittenService::Sda => Service::Sda,
+            WrittenService::Sdn => Service::Sdn,
+            WrittenService::Srd => Service::Srd,
         }
     }
+}
+
+/// Why a text gives no data.
+#[derive(Clone, Copy, Debug)]
+enum DataFault {
+    NotHex,
+    TooLong,
+    NoMemory,
 }
 
 /// The event list that JSON text gives.
@@ -199,36 +226,88 @@ pub fn read_list(alloc: Global, text: &[u8]) -> Result<EventList, ListFault> {
     Ok(EventList {
         bus: list.bus,
         taps: read_taps(alloc, &list.taps)?,
-        events: list
-            .events
-            .iter()
-            .map(|event| Event::from(*event))
-            .collect(alloc)?,
+        events: read_events(alloc, &list.events)?,
     })
 }
 
 fn read_taps(alloc: Global, taps: &[WrittenTap<'_>]) -> Result<Vec<TapSpec>, ListFault> {
     let mut specs = Vec::with_capacity(alloc, taps.len())?;
     for (place, tap) in taps.iter().enumerate() {
+        let reply = match read_data(alloc, tap.reply) {
+            Ok(reply) => reply,
+            Err(DataFault::NotHex) => return Err(ListFault::ReplyNotHex(place)),
+            Err(DataFault::TooLong) => return Err(ListFault::ReplyTooLong(place)),
+            Err(DataFault::NoMemory) => return Err(ListFault::NoMemory),
+        };
         specs.push(TapSpec {
             address: tap.address,
             kind: Kind::from(tap.kind),
-            reply: read_reply(alloc, place, tap.reply)?,
+            reply,
         })?;
     }
     Ok(specs)
 }
 
-/// The octets of the reply of the tap at a place.
-fn read_reply(alloc: Global, place: usize, text: &str) -> Result<ArrayVec<u8, 246>, ListFault> {
+fn read_events(alloc: Global, written: &[WrittenEvent<'_>]) -> Result<Vec<Event>, ListFault> {
+    let mut events = Vec::with_capacity(alloc, written.len())?;
+    for (place, event) in written.iter().enumerate() {
+        events.push(read_event(alloc, place, *event)?)?;
+    }
+    Ok(events)
+}
+
+/// The event at a place.
+fn read_event(alloc: Global, place: usize, event: WrittenEvent<'_>) -> Result<Event, ListFault> {
+    Ok(match event {
+        WrittenEvent::Turn(tap) => Event::Turn(tap),
+        WrittenEvent::Pass(bits) => Event::Pass(bits),
+        WrittenEvent::Damage {
+            tap,
+            speaker,
+            place,
+        } => Event::Damage {
+            tap,
+            speaker,
+            place,
+        },
+        WrittenEvent::Start(tap) => Event::Start(tap),
+        WrittenEvent::Stop(tap) => Event::Stop(tap),
+        WrittenEvent::Queue {
+            tap,
+            da,
+            service,
+            high,
+            unit,
+        } => {
+            let unit = read_unit(alloc, place, unit)?;
+            match Request::new(da, Service::from(service), high, unit) {
+                Ok(request) => Event::Queue { tap, request },
+                Err(fault) => return Err(ListFault::RequestRefused(place, fault)),
+            }
+        }
+    })
+}
+
+/// The data of the request of the event at a place.
+fn read_unit(alloc: Global, place: usize, text: &str) -> Result<ArrayVec<u8, 246>, ListFault> {
+    match read_data(alloc, text) {
+        Ok(unit) => Ok(unit),
+        Err(DataFault::NotHex) => Err(ListFault::UnitNotHex(place)),
+        Err(DataFault::TooLong) => Err(ListFault::UnitTooLong(place)),
+        Err(DataFault::NoMemory) => Err(ListFault::NoMemory),
+    }
+}
+
+/// The octets that hex digits spell.
+fn read_data(alloc: Global, text: &str) -> Result<ArrayVec<u8, 246>, DataFault> {
     let octets = match hex::decode(alloc, text) {
         Ok(octets) => octets,
-        Err(FromHexError::OutOfMemory) => return Err(ListFault::NoMemory),
-        Err(_) => return Err(ListFault::ReplyNotHex(place)),
+        Err(FromHexError::OutOfMemory) => return Err(DataFault::NoMemory),
+        Err(_) => return Err(DataFault::NotHex),
     };
-    let mut reply = ArrayVec::new();
-    match reply.try_extend_from_slice(&octets) {
-        Ok(()) => Ok(reply),
-        Err(_) => Err(ListFault::ReplyTooLong(place)),
+    let mut data = ArrayVec::new();
+    match data.try_extend_from_slice(&octets) {
+        Ok(()) => Ok(data),
+        Err(_) => Err(DataFault::TooLong),
     }
 }

@@ -5,3 +5,4 @@ pub mod Meaning
 pub mod NewestActs
 pub mod SaidOctets
 pub mod Waiting
+pub mod RequestBits

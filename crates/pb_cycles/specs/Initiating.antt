@@ -1,5 +1,5 @@
 -- The table of an initiator, and its steps.
-use Rattle.std.specs.Prelude.{ℕ, ◌-◌, ◌≤◌, ◌≡◌, ◌==◌, if◌then◌else◌, length, slice_set, Option, Some, None, IfSome}
+use Rattle.std.specs.Prelude.{ℕ, ◌-◌, ◌≤◌, ◌≡◌, ◌==◌, if◌then◌else◌, length, slice_set, IsBitSet, Option, Some, None, IfSome}
 use Rattle.pb_cycles.specs.Counts.{count_bits, count_after, count_at}
 use Rattle.pb_cycles.specs.Fields.{Fields}
 use Rattle.pb_cycles.specs.Outcomes.{reply_outcome}
@@ -85,8 +85,9 @@ abbrev pub after_outcome : InitiatorTable → Option Message → InitiatorTable
 after_outcome t None = after_silence t t.pending
 after_outcome t (Some m) = closed_by t (message_outcome t.pending m)
 
--- what an initiator keeps: a count for each station, and an open request to a station
+-- what an initiator keeps: a count for each station, and an open request to a station, with bit 6 of its control octet
 pub record IsInitiator (t : InitiatorTable) : Type 0 where
   pub stations : length t.counts ≡ 127
   pub retries : t.retries ≤ 7
   pub pending : IfSome t.pending (λ o. (o.sent.da ≤ 126) × (o.left ≤ t.retries))
+  pub request : IfSome t.pending (λ o. IsBitSet o.sent.fc 6)

@@ -1,5 +1,6 @@
-ghost use Rattle.std.specs.Prelude.{◌≡◌, ◌≤◌, ◌<◌, ◌%◌, length};
+ghost use Rattle.std.specs.Prelude.{◌≡◌, ◌≤◌, ◌<◌, ◌%◌, length, IsBitSet};
 ghost use Rattle.pb_telegram.specs.Grammar.{spelling};
+ghost use Rattle.pb_telegram.specs.Initiators.{IsInitiator};
 ghost use Rattle.pb_cycles.specs.Messages.{frame_octets, message_of};
 ghost use Rattle.pb_cycles.specs.declared.messages.Message.TheVariants.{Framed};
 
@@ -46,6 +47,7 @@ fn form(da: u8, sa: u8, fc: u8, unit: &[u8]) -> Telegram
     requires unit { length unit.now ≤ 246 }
     ensures octets { spelling result ≡ frame_octets (record { da = da; sa = sa; fc = fc; unit = unit.now }) }
     ensures message { message_of result ≡ Framed (record { da = da; sa = sa; fc = fc; unit = unit.now }) }
+    ensures initiator { IsBitSet fc 6 → IsInitiator result }
 {
     if unit.is_empty() {
         return Telegram::Short(ShortTelegram { da, sa, fc });
@@ -128,6 +130,7 @@ impl Frame {
     pub(crate) fn telegram(&self) -> Telegram
         ensures octets { spelling result ≡ frame_octets self.now }
         ensures message { message_of result ≡ Framed self.now }
+        ensures initiator { IsBitSet self.now.fc 6 → IsInitiator result }
     {
         form(self.da, self.sa, self.fc, &self.unit)
     }

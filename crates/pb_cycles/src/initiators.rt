@@ -1,5 +1,6 @@
-ghost use Rattle.std.specs.Prelude.{◌≡◌, ◌≤◌, if◌then◌else◌, is_some, Some, None, replicate, option_map};
+ghost use Rattle.std.specs.Prelude.{◌≡◌, ◌≤◌, if◌then◌else◌, is_some, Some, None, replicate, option_map, IfSome};
 ghost use Rattle.pb_telegram.specs.Grammar.{spelling};
+ghost use Rattle.pb_telegram.specs.Initiators as telegram;
 ghost use Rattle.pb_cycles.specs.Messages.{frame_octets, message_of};
 ghost use Rattle.pb_cycles.specs.Initiating.{first_sending, after_request, retry_of, after_retry, outcome_of, after_outcome};
 ghost use Rattle.pb_cycles.specs.declared.counts.FrameCount.TheVariants.{First};
@@ -78,10 +79,12 @@ impl Initiator {
     /// The first SDA or SRD to an address since the start, or since the last outcome `NoAnswer`
     /// there, has the frame count bit 1, which does not count; later ones have 0 and 1 in turn. An
     /// SDN has no frame count bits.
+    #[tactic(auto, using(crate::proofs::RequestBits::bit_set))]
     pub fn request(&mut self, ts: u8, request: Request) -> Telegram
         requires { ts ≤ 126 }
         ensures octets { spelling result ≡ frame_octets (first_sending self.old ts request) }
         ensures message { message_of result ≡ Framed (first_sending self.old ts request) }
+        ensures initiator { telegram.IsInitiator result }
         ensures table { self.new ≡ after_request self.old ts request }
     {
         let da = request.da();
@@ -107,6 +110,7 @@ impl Initiator {
     pub fn again(&mut self) -> Option<Telegram>
         ensures octets { option_map spelling result ≡ option_map frame_octets (retry_of self.old.pending) }
         ensures message { option_map message_of result ≡ option_map Framed (retry_of self.old.pending) }
+        ensures initiator { IfSome result telegram.IsInitiator }
         ensures table { self.new ≡ (if is_some result then after_retry self.old else self.old) }
     {
         match &mut self.pending {
@@ -115,6 +119,16 @@ impl Initiator {
                 Some(request.sent.telegram())
             }
             _ => None,
+        }
+    }
+
+    /// The station that the open request was sent to, if one is open.
+    pub fn open_to(&self) -> Option<u8>
+        ensures { result ≡ option_map (λ request. request.sent.da) self.now.pending }
+    {
+        match &self.pending {
+            Some(request) => Some(request.sent.da()),
+            None => None,
         }
     }
 

@@ -20,6 +20,20 @@ pub enum Outcome {
     NoAnswer,
 }
 
+impl Outcome {
+    /// An equal outcome.
+    pub fn copy(&self) -> Outcome
+        ensures { result ≡ self.now }
+    {
+        match self {
+            Outcome::Acked => Outcome::Acked,
+            Outcome::Data(unit) => Outcome::Data(copy_unit(unit)),
+            Outcome::NoResource => Outcome::NoResource,
+            Outcome::NoAnswer => Outcome::NoAnswer,
+        }
+    }
+}
+
 /// The meaning of a reply's function code, with the data of the reply.
 fn code_outcome(code: u8, unit: &[u8]) -> Option<Outcome>
     requires { length unit.now ≤ 246 }

@@ -54,6 +54,7 @@ impl Default for Request {
 }
 
 impl Request {
+    ghost use Rattle.std.specs.Prelude.{◌≤◌, length};
     ghost use Rattle.pb_cycles.specs.RequestFields.{RequestFields};
     ghost use Rattle.pb_cycles.specs.Requests.{IsAddressed};
 
@@ -102,9 +103,10 @@ impl Request {
         self.high
     }
 
-    /// The data.
+    /// The data, at most 246 octets.
     pub fn unit(&self) -> &[u8]
-        ensures { result.now ≡ self.now.unit }
+        ensures value { result.now ≡ self.now.unit }
+        ensures fits { length self.now.unit ≤ 246 }
     {
         &self.unit
     }

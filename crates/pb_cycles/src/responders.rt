@@ -141,6 +141,14 @@ impl Responder {
         }
     }
 
+    /// The data that it answers an SRD with, at most 246 octets.
+    pub fn data(&self) -> &[u8]
+        ensures value { result.now ≡ self.now.reply }
+        ensures fits { length result.now ≤ 246 }
+    {
+        &self.reply
+    }
+
     /// How many requests were executed: SDA, SRD and SDN that are no repeats. The count stays at
     /// 2^64 - 1.
     pub fn executed(&self) -> u64

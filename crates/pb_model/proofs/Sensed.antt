@@ -1,12 +1,13 @@
 -- What a tap senses of entries that have begun.
-use Rattle.std.proofs.Common.{◌≡◌, ℕ, ◌<◌, ◌≤◌, List, [], ◌∷◌, Bool, false, if◌then◌else◌, ◌||◌, ◌&&◌, ◌==◌, refl, ap, ◌∙◌, arith, Option, Some, None}
+use Rattle.std.proofs.Common.{◌≡◌, ℕ, ◌+◌, ◌-◌, ◌/◌, ◌<◌, ◌≤◌, List, [], ◌∷◌, map, Bool, true, false, if◌then◌else◌, ◌||◌, ◌&&◌, ◌==◌, refl, ap, sym, ◌∙◌, arith, Option, Some, None}
 use Rattle.std.specs.Prelude.{nat_lt, max, min, slice_get}
 use Rattle.std.specs.List.{cons_option}
 use Rattle.std.specs.Option.{option_and_then}
-use Rattle.std.proofs.lemmas.Bool.{ltb-true, ltb-false, le-ltb, eq-eqb}
+use Rattle.std.proofs.lemmas.Bool.{ltb-true, ltb-false, lt-ltb, le-ltb, eq-eqb}
 use Rattle.pb_turn.specs.Spans.{Span}
 use Rattle.pb_turn.specs.Stations.{earlier}
-use Rattle.pb_model.specs.Trace.{Record, Entry, Sent, Noise, entry_begin, goes_before, with_entry}
+use Rattle.pb_timers.specs.Timers.{bits}
+use Rattle.pb_model.specs.Trace.{Record, Entry, Sent, Noise, entry_begin, goes_before, with_entry, cut_end, cut_at}
 use Rattle.pb_model.specs.Medium.{lasts_through, part_after, reaches, is_unheard, at_tap, sensed}
 use Rattle.pb_model.specs.World.{later_end, entry_next_end, next_end_of}
 use Rattle.pb_model.specs.Step.{is_past}
@@ -108,3 +109,60 @@ open-started delay tap now (Sent r ∷ es) =
     by_test (λ (o : Option Span). is_open (cons_option (option_and_then (part_after now) o) (sensed delay tap now es)) now ≡ false)
     (r.tap == tap || is_unheard (slice_get r.heard tap)) None (Some (reaches delay r))
     (λ _. open-started delay tap now es) (λ _. open-part_after now now (reaches delay r) (sensed delay tap now es) (omega arith) ∙ open-started delay tap now es)
+
+-- a test that passes, or fails
+by_answer : (P : Bool → Type 0) (b : Bool) → (b ≡ true → P true) → (b ≡ false → P false) → P b
+by_answer P true passes fails = passes refl
+by_answer P false passes fails = fails refl
+
+-- what is sensed of a stretch is open where the stretch and the tap have begun, and it has not ended
+open-part : (now since : ℕ) (span : Span) (rest : List Span)
+    → is_open (cons_option (part_after since span) rest) now ≡ ((nat_lt (max span.begin since) now && nat_lt now span.end) || is_open rest now)
+open-part now since span rest =
+    by_test (λ (o : Option Span). is_open (cons_option o rest) now ≡ ((nat_lt (max span.begin since) now && nat_lt now span.end) || is_open rest now)) (nat_lt since span.end)
+    (Some (record { begin = max span.begin since; end = span.end })) None
+    (λ _. refl)
+    (λ over. ap (λ (b : Bool). b || is_open rest now) (sym (closed (ltb-false since span.end over))))
+  where
+    closed : span.end ≤ since → (nat_lt (max span.begin since) now && nat_lt now span.end) ≡ false
+    closed over =
+        by_answer (λ b. (b && nat_lt now span.end) ≡ false) (nat_lt (max span.begin since) now)
+        (λ later. le-ltb now span.end (omega (arith, over, ltb-true (max span.begin since) now later)))
+        (λ _. refl)
+
+-- a telegram that is cut at a moment goes on after it exactly where it did before
+cut-later : (now : ℕ) (r : Record) → nat_lt now (cut_end now r) ≡ nat_lt now r.end
+cut-later now r =
+    let next : now < r.begin + bits ((now - r.begin) / 11 + 1) = omega arith in
+    by_answer (λ b. nat_lt now (cut_end now r) ≡ b) (nat_lt now r.end)
+    (λ later. lt-ltb now (cut_end now r) (omega (arith, next, ltb-true now r.end later)))
+    (λ over. le-ltb now (cut_end now r) (omega (arith, ltb-false now r.end over)))
+
+cut-part : (delay : ℕ) (since now : ℕ) (r : Record) (rest : List Span) → delay ≡ 0
+    → is_open (cons_option (part_after since (reaches delay (record r { end = cut_end now r }))) rest) now ≡ is_open (cons_option (part_after since (reaches delay r)) rest) now
+cut-part delay since now r rest none =
+    let begun = nat_lt (max (r.begin + delay) since) now in
+    let still : ℕ → ℕ → Bool = λ end d. (begun && nat_lt now (end + d)) || is_open rest now in
+    let at_once : (end : ℕ) → still end delay ≡ ((begun && nat_lt now end) || is_open rest now)
+    = λ end. ap (still end) none ∙ ap (λ (n : ℕ). (begun && nat_lt now n) || is_open rest now) (let same : end + 0 ≡ end = omega arith in same) in
+    open-part now since (reaches delay (record r { end = cut_end now r })) rest
+    ∙ at_once (cut_end now r) ∙ ap (λ (b : Bool). (begun && b) || is_open rest now) (cut-later now r) ∙ sym (at_once r.end)
+    ∙ sym (open-part now since (reaches delay r) rest)
+
+-- a telegram whose speaker stops closes no burst yet
+pub open-cut : (delay : ℕ) (tap since now speaker : ℕ) (trace : List Entry) → delay ≡ 0
+    → is_open (sensed delay tap since (map (cut_at now speaker) trace)) now ≡ is_open (sensed delay tap since trace) now
+open-cut delay tap since now speaker [] none = refl
+open-cut delay tap since now speaker (Noise span ∷ es) none =
+    open-behind now (part_after since span) (sensed delay tap since (map (cut_at now speaker) es)) (sensed delay tap since es) (open-cut delay tap since now speaker es none)
+open-cut delay tap since now speaker (Sent r ∷ es) none =
+    let before = sensed delay tap since es in
+    let after = sensed delay tap since (map (cut_at now speaker) es) in
+    let seen : List Span → Record → List Span = λ rest x. cons_option (option_and_then (part_after since) (at_tap delay tap (Sent x))) rest in
+    open-behind now (option_and_then (part_after since) (at_tap delay tap (Sent (if r.tap == speaker then record r { end = cut_end now r } else r)))) after before
+    (open-cut delay tap since now speaker es none)
+    ∙ by_test (λ (x : Record). is_open (seen before x) now ≡ is_open (seen before r) now) (r.tap == speaker) (record r { end = cut_end now r }) r
+    (λ _. by_answer (λ b. is_open (cons_option (option_and_then (part_after since) (if b then None else Some (reaches delay (record r { end = cut_end now r })))) before) now
+        ≡ is_open (cons_option (option_and_then (part_after since) (if b then None else Some (reaches delay r))) before) now) (r.tap == tap || is_unheard (slice_get r.heard tap))
+        (λ _. refl) (λ _. cut-part delay since now r before none))
+    (λ _. refl)

@@ -7,15 +7,17 @@ use Rattle.std.proofs.lemmas.Option.{none-some, same_Some}
 use Rattle.pb_refusals.specs.FirstFault.{first_fault, NoneHolds}
 use Rattle.pb_refusals.proofs.FirstFaults.{none_holds}
 use Rattle.pb_timers.specs.Timers.{Params}
-use Rattle.pb_turn.specs.Laws.{HasReply}
-use Rattle.pb_turn.specs.Stations.{started}
+use Rattle.pb_turn.specs.Laws.{HasReply, HasCycles, IsRequest}
+use Rattle.pb_cycles.specs.RequestFields.{RequestFields}
+use Rattle.pb_turn.specs.Stations.{started, list_for, pushed}
 use Rattle.pb_turn.specs.Turns.{turn_of}
 use Rattle.pb_turn.proofs.Initiating.{fits-turn_of, reply-turn_of}
-use Rattle.pb_model.specs.Trace.{Hit, Entry, Sent, Noise, entry_begin, entry_end, goes_before, with_entry}
+use Rattle.pb_turn.proofs.Keeping.{Sayable, cycles-new, cycles-started, cycles-pushed}
+use Rattle.pb_model.specs.Trace.{Hit, Record, Entry, Sent, Noise, entry_begin, entry_end, goes_before, with_entry, cut_end, cut_at}
 use Rattle.pb_model.specs.Medium.{TapSpec, Tap, reaches, ends_between, entry_at, heard_by}
-use Rattle.pb_model.specs.World.{World, Event, Turn, Pass, Damage, Start, Reply, Fault, NoSuchTap, Running, NotRunning, NothingInAir, TraceFull, trace_limit, unless, unless_fault, is_in_air_by, new_world, stopped_tap, new_faults}
-use Rattle.pb_model.specs.Step.{sending, with_speech, step_turn, told, pass_faults, step_pass, with_hit, change_first, has_place, step_damage, started_tap, step_start, step, world_after, replay}
-use Rattle.pb_model.specs.Laws.{AllBegun, AllInOrder, InOrder, AllReply, IsSound}
+use Rattle.pb_model.specs.World.{World, Event, Turn, Pass, Damage, Start, Stop, Queue, Reply, Fault, NoSuchTap, Running, NotRunning, NothingInAir, QueueFull, TraceFull, trace_limit, unless, unless_fault, is_in_air_by, new_world, stopped_tap, new_faults}
+use Rattle.pb_model.specs.Step.{sending, with_speech, step_turn, told, pass_faults, step_pass, with_hit, change_first, has_place, step_damage, started_tap, step_start, halted, step_stop, step_queue, step, world_after, replay}
+use Rattle.pb_model.specs.Laws.{AllBegun, AllInOrder, InOrder, AllSayable, IsEvent, AreEvents, AllFit, IsSound}
 use Rattle.pb_model.proofs.Cases.{by_test}
 use Rattle.pb_model.proofs.Marked.{in_order-told}
 
@@ -58,6 +60,13 @@ begun-change_first now test hit (e ∷ es) all =
     by_test (λ (xs : List Entry). AllBegun now xs) (test e) (with_hit hit e ∷ es) (e ∷ change_first test (with_hit hit) es)
     (λ _. begun-with_hit now hit e es all) (λ _. (all.0, all.1, begun-change_first now test hit es all.2))
 
+begun-cut_at : (now tap : ℕ) (es : List Entry) → AllBegun now es → AllBegun now (map (cut_at now tap) es)
+begun-cut_at now tap [] all = tt
+begun-cut_at now tap (Noise span ∷ es) all = (all.0, all.1, begun-cut_at now tap es all.2)
+begun-cut_at now tap (Sent r ∷ es) all =
+    by_test (λ (x : Record). AllBegun now (Sent x ∷ map (cut_at now tap) es)) (r.tap == tap) (record r { end = cut_end now r }) r
+    (λ _. (all.0, omega (arith, all.1), begun-cut_at now tap es all.2)) (λ _. (all.0, all.1, begun-cut_at now tap es all.2))
+
 -- ---- the taps
 
 in_order-set : (now : ℕ) (ts : List Tap) (i : ℕ) (t : Tap) → t.since ≤ now → InOrder 0 t.marks now → AllInOrder now ts → AllInOrder now (slice_set ts i t)
@@ -70,19 +79,19 @@ started-at now [] i t all e = absurd (none-some t e)
 started-at now (x ∷ xs) zero t all e = subst (λ (y : Tap). y.since ≤ now) (same_Some x t e) all.0
 started-at now (x ∷ xs) (suc i) t all e = started-at now xs i t all.2 e
 
-reply-set : (ts : List Tap) (i : ℕ) (t : Tap) → HasReply t.station → AllReply ts → AllReply (slice_set ts i t)
-reply-set [] i t has all = tt
-reply-set (x ∷ xs) zero t has all = (has, all.1)
-reply-set (x ∷ xs) (suc i) t has all = (all.0, reply-set xs i t has all.1)
+sayable-set : (ts : List Tap) (i : ℕ) (t : Tap) → Sayable t.station → AllSayable ts → AllSayable (slice_set ts i t)
+sayable-set [] i t has all = tt
+sayable-set (x ∷ xs) zero t has all = (has, all.1)
+sayable-set (x ∷ xs) (suc i) t has all = (all.0, sayable-set xs i t has all.1)
 
-reply-at : (ts : List Tap) (i : ℕ) (t : Tap) → AllReply ts → slice_get ts i ≡ Some t → HasReply t.station
-reply-at [] i t all e = absurd (none-some t e)
-reply-at (x ∷ xs) zero t all e = subst (λ (y : Tap). HasReply y.station) (same_Some x t e) all.0
-reply-at (x ∷ xs) (suc i) t all e = reply-at xs i t all.1 e
+sayable-at : (ts : List Tap) (i : ℕ) (t : Tap) → AllSayable ts → slice_get ts i ≡ Some t → Sayable t.station
+sayable-at [] i t all e = absurd (none-some t e)
+sayable-at (x ∷ xs) zero t all e = subst (λ (y : Tap). Sayable y.station) (same_Some x t e) all.0
+sayable-at (x ∷ xs) (suc i) t all e = sayable-at xs i t all.1 e
 
-reply-told : (delay : ℕ) (trace : List Entry) (from to tap : ℕ) (ts : List Tap) → AllReply ts → AllReply (told delay trace from to tap ts)
-reply-told delay trace from to tap [] all = tt
-reply-told delay trace from to tap (t ∷ ts) all = (all.0, reply-told delay trace from to (tap + 1) ts all.1)
+sayable-told : (delay : ℕ) (trace : List Entry) (from to tap : ℕ) (ts : List Tap) → AllSayable ts → AllSayable (told delay trace from to tap ts)
+sayable-told delay trace from to tap [] all = tt
+sayable-told delay trace from to tap (t ∷ ts) all = (all.0, sayable-told delay trace from to (tap + 1) ts all.1)
 
 -- ---- Turn
 
@@ -96,7 +105,7 @@ sound-turn : (again : Bool) (w : World) (tap : ℕ) (o : Option Tap) → slice_g
 sound-turn again w tap None e sound = sound
 sound-turn again w tap (Some t) e sound =
     let turn = turn_of w.params again t.station t.marks w.now in
-    let has : HasReply t.station = reply-at w.taps tap t sound.replies e in
+    let has = sayable-at w.taps tap t sound.sayable e in
     world_after-unless IsSound w
     (record w { trace = with_speech w tap turn.1; taps = slice_set w.taps tap (record t { station = turn.0; marks = [] }) })
     (record { now = w.now; spoke = turn.1 })
@@ -105,7 +114,7 @@ sound-turn again w tap (Some t) e sound =
     (λ _. record {
       no_delay = sound.no_delay;
       begun = begun-with_speech w tap turn.1 (fits-turn_of w.params again t.station t.marks w.now has) sound.begun;
-      replies = reply-set w.taps tap (record t { station = turn.0; marks = [] }) (reply-turn_of w.params again t.station t.marks w.now has) sound.replies;
+      sayable = sayable-set w.taps tap (record t { station = turn.0; marks = [] }) (reply-turn_of w.params again t.station t.marks w.now has) sound.sayable;
       in_order = in_order-set w.now w.taps tap (record t { station = turn.0; marks = [] }) (started-at w.now w.taps tap t sound.in_order e) (omega arith) sound.in_order;
     })
 
@@ -122,7 +131,7 @@ sound-pass w d sound =
       begun = begun-entry_at w.params.ttd w.taps w.trace w.now now w.trace (omega arith) sound.begun;
       in_order = in_order-told w.params.ttd w.trace w.now now 0 w.taps sound.no_delay
           (let some : d ≡ 0 → ⊥ = eqb-false d 0 none.0 in grind (arith, some)) sound.begun none.1.0 sound.in_order;
-      replies = reply-told w.params.ttd w.trace w.now now 0 w.taps sound.replies;
+      sayable = sayable-told w.params.ttd w.trace w.now now 0 w.taps sound.sayable;
     })
 
 -- ---- Damage and Start
@@ -134,11 +143,11 @@ sound-damage w tap speaker place at from sound =
     world_after-unless IsSound w (record w { trace = change_first in_air (with_hit hit) w.trace }) (record { now = w.now; spoke = None })
     ((is_none at || is_none from, NoSuchTap) ∷ (tap == speaker || not (has_place (find in_air w.trace) place), NothingInAir) ∷ [])
     sound
-    (λ _. record { no_delay = sound.no_delay; begun = begun-change_first w.now in_air hit w.trace sound.begun; in_order = sound.in_order; replies = sound.replies })
+    (λ _. record { no_delay = sound.no_delay; begun = begun-change_first w.now in_air hit w.trace sound.begun; in_order = sound.in_order; sayable = sound.sayable })
 
-sound-start : (w : World) (tap : ℕ) (o : Option Tap) → IsSound w → IsSound (world_after w (step_start w tap o))
-sound-start w tap None sound = sound
-sound-start w tap (Some t) sound =
+sound-start : (w : World) (tap : ℕ) (o : Option Tap) → slice_get w.taps tap ≡ o → IsSound w → IsSound (world_after w (step_start w tap o))
+sound-start w tap None e sound = sound
+sound-start w tap (Some t) e sound =
     world_after-unless IsSound w (record w { taps = slice_set w.taps tap (started_tap w tap t) }) (record { now = w.now; spoke = None })
     ((t.running || list_any (is_in_air_by w.params.ttd w.now tap) w.trace, Running) ∷ [])
     sound
@@ -146,20 +155,56 @@ sound-start w tap (Some t) sound =
       no_delay = sound.no_delay;
       begun = sound.begun;
       in_order = in_order-set w.now w.taps tap (started_tap w tap t) (omega arith) (omega arith) sound.in_order;
-      replies = reply-set w.taps tap (started_tap w tap t) tt sound.replies;
+      sayable = sayable-set w.taps tap (started_tap w tap t) (tt, cycles-started w.params t.station t.spec.master w.now (sayable-at w.taps tap t sound.sayable e).1) sound.sayable;
+    })
+
+-- ---- Stop and Queue
+
+sound-stop : (w : World) (tap : ℕ) (o : Option Tap) → slice_get w.taps tap ≡ o → IsSound w → IsSound (world_after w (step_stop w tap o))
+sound-stop w tap None e sound = sound
+sound-stop w tap (Some t) e sound =
+    world_after-unless IsSound w (record w { trace = map (cut_at w.now tap) w.trace; taps = slice_set w.taps tap (halted t) }) (record { now = w.now; spoke = None })
+    ((not t.running, NotRunning) ∷ [])
+    sound
+    (λ _. record {
+      no_delay = sound.no_delay;
+      begun = begun-cut_at w.now tap w.trace sound.begun;
+      in_order = in_order-set w.now w.taps tap (halted t) (started-at w.now w.taps tap t sound.in_order e) (omega arith) sound.in_order;
+      sayable = sayable-set w.taps tap (halted t) (tt, (sayable-at w.taps tap t sound.sayable e).1) sound.sayable;
+    })
+
+order-at : (now : ℕ) (ts : List Tap) (i : ℕ) (t : Tap) → AllInOrder now ts → slice_get ts i ≡ Some t → InOrder 0 t.marks now
+order-at now [] i t all e = absurd (none-some t e)
+order-at now (x ∷ xs) zero t all e = subst (λ (y : Tap). InOrder 0 y.marks now) (same_Some x t e) all.1
+order-at now (x ∷ xs) (suc i) t all e = order-at now xs i t all.2 e
+
+sound-queue : (w : World) (tap : ℕ) (r : RequestFields) (o : Option Tap) → slice_get w.taps tap ≡ o → IsRequest r → IsSound w → IsSound (world_after w (step_queue w tap r o))
+sound-queue w tap r None e is sound = sound
+sound-queue w tap r (Some t) e is sound =
+    world_after-unless IsSound w (record w { taps = slice_set w.taps tap (record t { station = pushed t.station r }) }) (record { now = w.now; spoke = None })
+    ((not (t.running && t.spec.master), NotRunning) ∷ (nat_le 16 (length (list_for t.station.cycles.queue r)), QueueFull) ∷ [])
+    sound
+    (λ _. record {
+      no_delay = sound.no_delay;
+      begun = sound.begun;
+      in_order = in_order-set w.now w.taps tap (record t { station = pushed t.station r }) (started-at w.now w.taps tap t sound.in_order e) (order-at w.now w.taps tap t sound.in_order e) sound.in_order;
+      sayable = let has = sayable-at w.taps tap t sound.sayable e in
+          sayable-set w.taps tap (record t { station = pushed t.station r }) (has.0, cycles-pushed t.station r has.1 is) sound.sayable;
     })
 
 -- ---- every event
 
-pub sound-step : (again : Bool) (w : World) (e : Event) → IsSound w → IsSound (world_after w (step again w e))
-sound-step again w (Turn tap) sound = sound-turn again w tap (slice_get w.taps tap) refl sound
-sound-step again w (Pass d) sound = sound-pass w d sound
-sound-step again w (Damage tap speaker place) sound = sound-damage w tap speaker place (slice_get w.taps tap) (slice_get w.taps speaker) sound
-sound-step again w (Start tap) sound = sound-start w tap (slice_get w.taps tap) sound
+pub sound-step : (again : Bool) (w : World) (e : Event) → IsEvent e → IsSound w → IsSound (world_after w (step again w e))
+sound-step again w (Turn tap) is sound = sound-turn again w tap (slice_get w.taps tap) refl sound
+sound-step again w (Pass d) is sound = sound-pass w d sound
+sound-step again w (Damage tap speaker place) is sound = sound-damage w tap speaker place (slice_get w.taps tap) (slice_get w.taps speaker) sound
+sound-step again w (Start tap) is sound = sound-start w tap (slice_get w.taps tap) refl sound
+sound-step again w (Stop tap) is sound = sound-stop w tap (slice_get w.taps tap) refl sound
+sound-step again w (Queue tap r) is sound = sound-queue w tap r (slice_get w.taps tap) refl is sound
 
-pub sound-replay : (w : World) (events : List (Bool × Event)) → IsSound w → IsSound (replay w events)
-sound-replay w [] sound = sound
-sound-replay w (e ∷ es) sound = sound-replay (world_after w (step e.0 w e.1)) es (sound-step e.0 w e.1 sound)
+pub sound-replay : (w : World) (events : List (Bool × Event)) → AreEvents events → IsSound w → IsSound (replay w events)
+sound-replay w [] are sound = sound
+sound-replay w (e ∷ es) are sound = sound-replay (world_after w (step e.0 w e.1)) es are.1 (sound-step e.0 w e.1 are.0 sound)
 
 -- ---- a new world
 
@@ -167,9 +212,9 @@ sound-stopped_taps : (p : Params) (specs : List TapSpec) → AllInOrder 0 (map (
 sound-stopped_taps p [] = tt
 sound-stopped_taps p (spec ∷ specs) = (omega arith, omega arith, sound-stopped_taps p specs)
 
-reply-stopped_taps : (p : Params) (specs : List TapSpec) → AllReply (map (stopped_tap p) specs)
-reply-stopped_taps p [] = tt
-reply-stopped_taps p (spec ∷ specs) = (tt, reply-stopped_taps p specs)
+sayable-stopped_taps : (p : Params) (specs : List TapSpec) → AllFit specs → AllSayable (map (stopped_tap p) specs)
+sayable-stopped_taps p [] fit = tt
+sayable-stopped_taps p (spec ∷ specs) fit = ((tt, cycles-new p spec.address spec.reply fit.0), sayable-stopped_taps p specs fit.1)
 
 -- what a call that was not refused gives
 pub unless-Ok : {F X : Type 0} (tests : List (Bool × F)) (x y : X) → unless tests x ≡ Ok y → NoneHolds tests × (x ≡ y)
@@ -179,11 +224,11 @@ unless-Ok {F} {X} tests x y = by_fault (first_fault tests) refl
     by_fault None e ok = (none_holds tests e, cc)
     by_fault (Some fault) e ok = absurd cc
 
-pub sound-new_world : (p : Params) (specs : List TapSpec) (w : World) → p.ttd ≡ 0 → new_world p specs ≡ Ok w → IsSound w
-sound-new_world p specs w none new =
+pub sound-new_world : (p : Params) (specs : List TapSpec) (w : World) → p.ttd ≡ 0 → AllFit specs → new_world p specs ≡ Ok w → IsSound w
+sound-new_world p specs w none fit new =
     let made : World = record { params = p; now = 0; trace = []; taps = map (stopped_tap p) specs } in
     let same = unless-Ok (new_faults p specs) made w new in
-    subst IsSound same.1 (record { no_delay = none; begun = tt; in_order = sound-stopped_taps p specs; replies = reply-stopped_taps p specs })
+    subst IsSound same.1 (record { no_delay = none; begun = tt; in_order = sound-stopped_taps p specs; sayable = sayable-stopped_taps p specs fit })
 
 -- ---- the clock
 
@@ -219,11 +264,26 @@ later-start w tap (Some t) =
     ((t.running || list_any (is_in_air_by w.params.ttd w.now tap) w.trace, Running) ∷ [])
     (omega arith) (λ _. omega arith)
 
+later-stop : (w : World) (tap : ℕ) (o : Option Tap) → w.now ≤ (world_after w (step_stop w tap o)).now
+later-stop w tap None = omega arith
+later-stop w tap (Some t) =
+    world_after-unless (λ (x : World). w.now ≤ x.now) w (record w { trace = map (cut_at w.now tap) w.trace; taps = slice_set w.taps tap (halted t) }) (record { now = w.now; spoke = None })
+    ((not t.running, NotRunning) ∷ []) (omega arith) (λ _. omega arith)
+
+later-queue : (w : World) (tap : ℕ) (r : RequestFields) (o : Option Tap) → w.now ≤ (world_after w (step_queue w tap r o)).now
+later-queue w tap r None = omega arith
+later-queue w tap r (Some t) =
+    world_after-unless (λ (x : World). w.now ≤ x.now) w (record w { taps = slice_set w.taps tap (record t { station = pushed t.station r }) }) (record { now = w.now; spoke = None })
+    ((not (t.running && t.spec.master), NotRunning) ∷ (nat_le 16 (length (list_for t.station.cycles.queue r)), QueueFull) ∷ [])
+    (omega arith) (λ _. omega arith)
+
 later-step : (again : Bool) (w : World) (e : Event) → w.now ≤ (world_after w (step again w e)).now
 later-step again w (Turn tap) = later-turn again w tap (slice_get w.taps tap)
 later-step again w (Pass d) = later-pass w d
 later-step again w (Damage tap speaker place) = later-damage w tap speaker place (slice_get w.taps tap) (slice_get w.taps speaker)
 later-step again w (Start tap) = later-start w tap (slice_get w.taps tap)
+later-step again w (Stop tap) = later-stop w tap (slice_get w.taps tap)
+later-step again w (Queue tap r) = later-queue w tap r (slice_get w.taps tap)
 
 -- the clock never falls
 pub later-replay : (w : World) (events : List (Bool × Event)) → w.now ≤ (replay w events).now

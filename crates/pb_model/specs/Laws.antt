@@ -4,10 +4,10 @@ use Rattle.std.specs.List.{list_any}
 use Rattle.pb_telegram.specs.declared.chars.RxChar.{RxChar}
 use Rattle.pb_turn.specs.Spans.{Span}
 use Rattle.pb_turn.specs.Marks.{Mark, Begin, End, moment_of}
-use Rattle.pb_turn.specs.Laws.{HasReply}
+use Rattle.pb_turn.specs.Laws.{HasReply, HasCycles, IsRequest, Fits}
 use Rattle.pb_model.specs.Trace.{Record, Entry, Sent, entry_begin, entry_end, characters_at}
-use Rattle.pb_model.specs.Medium.{Tap, lasts_through, overlaps, hears_from, sends_during, reaches, is_unheard, burst_begins, burst_ends, burst_characters, fills_burst, sensed}
-use Rattle.pb_model.specs.World.{World}
+use Rattle.pb_model.specs.Medium.{TapSpec, Tap, lasts_through, overlaps, hears_from, sends_during, reaches, is_unheard, burst_begins, burst_ends, burst_characters, fills_burst, sensed}
+use Rattle.pb_model.specs.World.{World, Event, Turn, Pass, Damage, Start, Stop, Queue}
 
 -- ---- bursts
 
@@ -58,17 +58,35 @@ abbrev pub AllInOrder : ℕ → List Tap → Type 0
 AllInOrder now [] = Unit {0}
 AllInOrder now (t ∷ ts) = (t.since ≤ now) × InOrder 0 t.marks now × AllInOrder now ts
 
--- the reply of each tap's station, if it has one that is not sent yet, is a telegram that a station without the token may say
-abbrev pub AllReply : List Tap → Type 0
-AllReply [] = Unit {0}
-AllReply (t ∷ ts) = HasReply t.station × AllReply ts
+-- each tap's station can say what it keeps: a reply that is not sent yet is one that a station without the token may say, and all else fits into telegrams
+abbrev pub AllSayable : List Tap → Type 0
+AllSayable [] = Unit {0}
+AllSayable (t ∷ ts) = (HasReply t.station × HasCycles t.station) × AllSayable ts
+
+-- events whose requests have addresses and data that a request may have
+abbrev pub IsEvent : Event → Type 0
+IsEvent (Turn tap) = Unit {0}
+IsEvent (Pass bits) = Unit {0}
+IsEvent (Damage tap speaker place) = Unit {0}
+IsEvent (Start tap) = Unit {0}
+IsEvent (Stop tap) = Unit {0}
+IsEvent (Queue tap request) = IsRequest request
+
+abbrev pub AreEvents : List (Bool × Event) → Type 0
+AreEvents [] = Unit {0}
+AreEvents (e ∷ es) = IsEvent e.1 × AreEvents es
+
+-- the data that each tap replies fits into a telegram
+abbrev pub AllFit : List TapSpec → Type 0
+AllFit [] = Unit {0}
+AllFit (spec ∷ specs) = Fits spec.reply × AllFit specs
 
 -- what holds of a world that events have led to from a new one, on a bus without delay
 pub record IsSound (w : World) : Type 0 where
   pub no_delay : w.params.ttd ≡ 0
   pub begun : AllBegun w.now w.trace
   pub in_order : AllInOrder w.now w.taps
-  pub replies : AllReply w.taps
+  pub sayable : AllSayable w.taps
 
 -- the marks of a pass: a Begin exactly where a burst begins at the clock, and an End, with the burst's characters, exactly where one ends at the new clock
 abbrev pub marks_of_pass : ℕ → ℕ → Tap → List Entry → ℕ → ℕ → List Mark

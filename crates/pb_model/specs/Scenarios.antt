@@ -1,10 +1,13 @@
 -- Worked scenarios: events, and what they lead to.
-use Rattle.std.specs.Prelude.{ℕ, Bool, true, List, [], ◌∷◌, map, Option, Some, None, Result, Ok, Err}
+use Rattle.std.specs.Prelude.{ℕ, Bool, true, false, List, [], ◌∷◌, map, Option, Some, None, Result, Ok, Err}
+use Rattle.pb_cycles.specs.RequestFields.{RequestFields}
+use Rattle.pb_cycles.specs.declared.outcomes.Outcome.{Outcome}
+use Rattle.pb_cycles.specs.declared.services.Service.TheVariants.{Srd}
 use Rattle.pb_timers.specs.Timers.{Params}
 use Rattle.pb_turn.specs.Phases.{Phase, Checking, AwaitStatus}
 use Rattle.pb_model.specs.Trace.{Entry, Sent, Own, Whole, Damaged, Pending}
 use Rattle.pb_model.specs.Medium.{TapSpec}
-use Rattle.pb_model.specs.World.{World, NewFault, Event, Turn, Pass, Damage, Start, new_world}
+use Rattle.pb_model.specs.World.{World, NewFault, Event, Turn, Pass, Damage, Start, Stop, Queue, new_world}
 use Rattle.pb_model.specs.Step.{replay}
 
 abbrev pub example_bus : Params
@@ -91,3 +94,60 @@ taker_damaged_trace =
 -- the first has passed the token again, while the second waits for a reply
 abbrev pub taker_damaged_phases : List Phase
 taker_damaged_phases = Checking 2 ∷ AwaitStatus 3 true ∷ []
+
+-- the first stops in the middle of its question: what the second hears is damaged, and it claims the token
+abbrev pub speaker_stopped : List Event
+speaker_stopped =
+    Start 0 ∷ Start 1 ∷ Pass 800 ∷ Turn 0 ∷ Pass 1 ∷ Turn 1 ∷ Pass 32 ∷ Turn 1 ∷ Pass 37 ∷ Turn 0 ∷ Pass 1 ∷
+    Turn 1 ∷ Pass 32 ∷ Turn 1 ∷ Pass 37 ∷ Turn 0 ∷ Pass 1 ∷ Turn 1 ∷ Pass 9 ∷ Stop 0 ∷ Pass 1 ∷ Turn 1 ∷
+    Pass 1000 ∷ Turn 1 ∷ Pass 1 ∷ Pass 32 ∷ []
+
+abbrev pub speaker_stopped_trace : List Entry
+speaker_stopped_trace =
+    Sent (record { tap = 0; octets = 0xdc ∷ 0x01 ∷ 0x01 ∷ []; begin = 800; end = 833; hits = []; heard = Own ∷ Whole ∷ [] })
+    ∷ Sent (record { tap = 0; octets = 0xdc ∷ 0x01 ∷ 0x01 ∷ []; begin = 870; end = 903; hits = []; heard = Own ∷ Whole ∷ [] })
+    ∷ Sent (record { tap = 0; octets = 0x10 ∷ 0x02 ∷ 0x01 ∷ 0x49 ∷ 0x4c ∷ 0x16 ∷ []; begin = 940; end = 951; hits = []; heard = Own ∷ Damaged ∷ [] })
+    ∷ Sent (record { tap = 1; octets = 0xdc ∷ 0x02 ∷ 0x02 ∷ []; begin = 1951; end = 1984; hits = []; heard = Damaged ∷ Own ∷ [] })
+    ∷ []
+
+-- a master, and a passive station that has two octets to reply
+abbrev pub master_and_passive : List TapSpec
+master_and_passive = master 1 ∷ record { address = 7; master = false; reply = 0xaa ∷ 0xbb ∷ [] } ∷ []
+
+-- a request for data of that station, of high priority
+abbrev pub srd_high : RequestFields
+srd_high = record { da = 7; service = Srd; high = true; unit = [] }
+
+-- three requests for data of a passive station, whose second reply comes damaged: that request is sent again, and gets the kept reply
+abbrev pub data_requested : List Event
+data_requested =
+    Start 0 ∷ Start 1 ∷ Queue 0 srd_high ∷ Queue 0 srd_high ∷ Queue 0 srd_high ∷ Pass 800 ∷ Turn 0 ∷ Pass 1 ∷
+    Turn 1 ∷ Pass 32 ∷ Turn 1 ∷ Pass 37 ∷ Turn 0 ∷ Pass 1 ∷ Turn 1 ∷ Pass 32 ∷ Turn 1 ∷ Pass 37 ∷ Turn 0 ∷
+    Pass 1 ∷ Turn 1 ∷ Pass 65 ∷ Turn 1 ∷ Pass 11 ∷ Turn 1 ∷ Pass 1 ∷ Turn 0 ∷ Pass 120 ∷ Turn 0 ∷ Pass 37 ∷
+    Turn 0 ∷ Pass 1 ∷ Turn 1 ∷ Pass 65 ∷ Turn 1 ∷ Pass 11 ∷ Turn 1 ∷ Pass 1 ∷ Damage 0 1 (Some 0) ∷ Turn 0 ∷
+    Pass 120 ∷ Turn 0 ∷ Pass 37 ∷ Turn 0 ∷ Pass 1 ∷ Turn 1 ∷ Pass 65 ∷ Turn 1 ∷ Pass 11 ∷ Turn 1 ∷ Pass 1 ∷
+    Turn 0 ∷ Pass 120 ∷ Turn 0 ∷ Pass 37 ∷ Turn 0 ∷ Pass 1 ∷ Turn 1 ∷ Pass 65 ∷ Turn 1 ∷ Pass 11 ∷ Turn 1 ∷
+    Pass 1 ∷ Turn 0 ∷ Pass 120 ∷ Turn 0 ∷ []
+
+abbrev pub data_requested_trace : List Entry
+data_requested_trace =
+    Sent (record { tap = 0; octets = 0xdc ∷ 0x01 ∷ 0x01 ∷ []; begin = 800; end = 833; hits = []; heard = Own ∷ Whole ∷ [] })
+    ∷ Sent (record { tap = 0; octets = 0xdc ∷ 0x01 ∷ 0x01 ∷ []; begin = 870; end = 903; hits = []; heard = Own ∷ Whole ∷ [] })
+    ∷ Sent (record { tap = 0; octets = 0x10 ∷ 0x07 ∷ 0x01 ∷ 0x6d ∷ 0x75 ∷ 0x16 ∷ []; begin = 940; end = 1006; hits = []; heard = Own ∷ Whole ∷ [] })
+    ∷ Sent (record { tap = 1; octets = 0x68 ∷ 0x05 ∷ 0x05 ∷ 0x68 ∷ 0x01 ∷ 0x07 ∷ 0x0a ∷ 0xaa ∷ 0xbb ∷ 0x77 ∷ 0x16 ∷ []; begin = 1017; end = 1138; hits = []; heard = Whole ∷ Own ∷ [] })
+    ∷ Sent (record { tap = 0; octets = 0x10 ∷ 0x07 ∷ 0x01 ∷ 0x5d ∷ 0x65 ∷ 0x16 ∷ []; begin = 1175; end = 1241; hits = []; heard = Own ∷ Whole ∷ [] })
+    ∷ Sent (record { tap = 1; octets = 0x68 ∷ 0x05 ∷ 0x05 ∷ 0x68 ∷ 0x01 ∷ 0x07 ∷ 0x0a ∷ 0xaa ∷ 0xbb ∷ 0x77 ∷ 0x16 ∷ []; begin = 1252; end = 1373; hits = record { tap = 0; place = Some 0 } ∷ []; heard = Damaged ∷ Own ∷ [] })
+    ∷ Sent (record { tap = 0; octets = 0x10 ∷ 0x07 ∷ 0x01 ∷ 0x5d ∷ 0x65 ∷ 0x16 ∷ []; begin = 1410; end = 1476; hits = []; heard = Own ∷ Whole ∷ [] })
+    ∷ Sent (record { tap = 1; octets = 0x68 ∷ 0x05 ∷ 0x05 ∷ 0x68 ∷ 0x01 ∷ 0x07 ∷ 0x0a ∷ 0xaa ∷ 0xbb ∷ 0x77 ∷ 0x16 ∷ []; begin = 1487; end = 1608; hits = []; heard = Whole ∷ Own ∷ [] })
+    ∷ Sent (record { tap = 0; octets = 0x10 ∷ 0x07 ∷ 0x01 ∷ 0x7d ∷ 0x85 ∷ 0x16 ∷ []; begin = 1645; end = 1711; hits = []; heard = Own ∷ Whole ∷ [] })
+    ∷ Sent (record { tap = 1; octets = 0x68 ∷ 0x05 ∷ 0x05 ∷ 0x68 ∷ 0x01 ∷ 0x07 ∷ 0x0a ∷ 0xaa ∷ 0xbb ∷ 0x77 ∷ 0x16 ∷ []; begin = 1722; end = 1843; hits = []; heard = Whole ∷ Own ∷ [] })
+    ∷ []
+
+-- how many requests each station has executed, and the last outcome of its own
+abbrev pub executed_of : Option World → List ℕ
+executed_of None = []
+executed_of (Some w) = map (λ t. t.station.cycles.responder.executed) w.taps
+
+abbrev pub outcomes_of : Option World → List (Option (ℕ × Outcome))
+outcomes_of None = []
+outcomes_of (Some w) = map (λ t. t.station.cycles.last_outcome) w.taps

@@ -2,12 +2,13 @@
 use Rattle.std.specs.Prelude.{ℕ, ◌+◌, Bool, true, false, if◌then◌else◌, ◌==◌, nat_lt, nat_le, not, ◌&&◌, ◌||◌, List, [], ◌∷◌, ◌++◌, length, map, slice_get, slice_set, find, Option, Some, None, Result, Ok, Err, is_some, is_none, unwrap_or}
 use Rattle.std.specs.List.{list_any}
 use Rattle.pb_timers.specs.Timers.{bits}
+use Rattle.pb_cycles.specs.RequestFields.{RequestFields}
 use Rattle.pb_turn.specs.Spans.{Span}
-use Rattle.pb_turn.specs.Stations.{Station, started}
+use Rattle.pb_turn.specs.Stations.{Station, started, stopped, list_for, pushed}
 use Rattle.pb_turn.specs.Turns.{turn_of}
-use Rattle.pb_model.specs.Trace.{Record, Hit, Entry, Sent, Noise, with_entry, heard_at_first}
+use Rattle.pb_model.specs.Trace.{Record, Hit, Entry, Sent, Noise, with_entry, heard_at_first, cut_at}
 use Rattle.pb_model.specs.Medium.{Tap, at_tap, contains_moment, new_marks, entry_at}
-use Rattle.pb_model.specs.World.{World, Event, Turn, Pass, Damage, Start, Reply, Fault, NoSuchTap, Running, NotRunning, NothingInAir, ZeroTime, TooFar, ClockFull, InboxFull, TraceFull, clock_limit, mark_limit, trace_limit, unless, next_end, is_in_air_by}
+use Rattle.pb_model.specs.World.{World, Event, Turn, Pass, Damage, Start, Stop, Queue, Reply, Fault, NoSuchTap, Running, NotRunning, NothingInAir, ZeroTime, TooFar, ClockFull, QueueFull, InboxFull, TraceFull, clock_limit, mark_limit, trace_limit, unless, next_end, is_in_air_by}
 
 -- ---- Turn
 
@@ -129,6 +130,31 @@ step_start w tap (Some t) =
       record { now = w.now; spoke = None },
     )
 
+-- ---- Stop
+
+-- a tap that stops drops its unread marks, and its station a reply that is not sent yet
+abbrev pub halted : Tap → Tap
+halted t = record t { running = false; station = stopped t.station; marks = [] }
+
+abbrev pub step_stop : World → ℕ → Option Tap → Result (World × Reply) Fault
+step_stop w tap None = Err NoSuchTap
+step_stop w tap (Some t) =
+    unless ((not t.running, NotRunning) ∷ []) (
+      record w { trace = map (cut_at w.now tap) w.trace; taps = slice_set w.taps tap (halted t) },
+      record { now = w.now; spoke = None },
+    )
+
+-- ---- Queue
+
+-- a request is taken by a master that runs, where its list has room
+abbrev pub step_queue : World → ℕ → RequestFields → Option Tap → Result (World × Reply) Fault
+step_queue w tap r None = Err NoSuchTap
+step_queue w tap r (Some t) =
+    unless ((not (t.running && t.spec.master), NotRunning) ∷ (nat_le 16 (length (list_for t.station.cycles.queue r)), QueueFull) ∷ []) (
+      record w { taps = slice_set w.taps tap (record t { station = pushed t.station r }) },
+      record { now = w.now; spoke = None },
+    )
+
 -- ---- the step
 
 -- an event; the choice says whether a station in Checking passes the token again after a damaged end
@@ -137,6 +163,8 @@ step again w (Turn tap) = step_turn again w tap (slice_get w.taps tap)
 step again w (Pass bits) = step_pass w bits
 step again w (Damage tap speaker place) = step_damage w tap speaker place (slice_get w.taps tap) (slice_get w.taps speaker)
 step again w (Start tap) = step_start w tap (slice_get w.taps tap)
+step again w (Stop tap) = step_stop w tap (slice_get w.taps tap)
+step again w (Queue tap request) = step_queue w tap request (slice_get w.taps tap)
 
 -- ---- replay
 

@@ -1,8 +1,9 @@
 -- The trace of the bus: what was sent, and noise.
-use Rattle.std.specs.Prelude.{ℕ, ◌+◌, ◌-◌, ◌/◌, Bool, true, if◌then◌else◌, ◌==◌, nat_lt, ◌||◌, ◌&&◌, List, [], ◌∷◌, take, Option, Some, None}
+use Rattle.std.specs.Prelude.{ℕ, ◌+◌, ◌-◌, ◌/◌, Bool, true, if◌then◌else◌, ◌==◌, nat_lt, ◌||◌, ◌&&◌, List, [], ◌∷◌, take, min, Option, Some, None}
 use Rattle.std.specs.List.{list_any}
 use Rattle.pb_telegram.specs.declared.chars.RxChar.{RxChar}
 use Rattle.pb_telegram.specs.declared.chars.RxChar.TheVariants.{Good, Bad}
+use Rattle.pb_timers.specs.Timers.{bits}
 use Rattle.pb_turn.specs.Spans.{Span}
 
 -- how a telegram reached a tap
@@ -72,6 +73,15 @@ abbrev pub characters_from : ℕ → List Hit → ℕ → List ℕ → List RxCh
 characters_from tap hits place [] = []
 characters_from tap hits place (octet ∷ octets) =
     (if list_any (hits_place tap place) hits then Bad else Good octet) ∷ characters_from tap hits (place + 1) octets
+
+-- when a telegram ends whose speaker stops at a moment: with the character that is on its way then
+abbrev pub cut_end : ℕ → Record → ℕ
+cut_end now r = min r.end (r.begin + bits ((now - r.begin) / 11 + 1))
+
+-- an entry after a tap has stopped at a moment; the record keeps all octets that were meant
+abbrev pub cut_at : ℕ → ℕ → Entry → Entry
+cut_at now tap (Noise span) = Noise span
+cut_at now tap (Sent r) = Sent (if r.tap == tap then record r { end = cut_end now r } else r)
 
 -- the characters that went out, as a tap gets them
 abbrev pub characters_at : ℕ → Record → List RxChar

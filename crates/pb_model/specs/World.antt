@@ -2,6 +2,7 @@
 use Rattle.std.specs.Prelude.{ℕ, ◌+◌, Bool, false, if◌then◌else◌, ◌==◌, nat_lt, ◌&&◌, List, [], ◌∷◌, length, map, Option, Some, None, Result, Ok, Err, is_some, unwrap_or}
 use Rattle.pb_refusals.specs.FirstFault.{first_fault}
 use Rattle.pb_timers.specs.Timers.{Params}
+use Rattle.pb_cycles.specs.RequestFields.{RequestFields}
 use Rattle.pb_turn.specs.Stations.{earlier, new_station}
 use Rattle.pb_model.specs.Trace.{Entry, Sent, Noise}
 use Rattle.pb_model.specs.Medium.{TapSpec, Tap, reaches}
@@ -21,6 +22,10 @@ pub data Event : Type 0 where
   Damage : (tap speaker : ℕ) (place : Option ℕ) → Event
   -- a station starts
   Start : (tap : ℕ) → Event
+  -- a station stops: a telegram that it is sending ends with the character that is on its way
+  Stop : (tap : ℕ) → Event
+  -- a request waits at a station
+  Queue : (tap : ℕ) (request : RequestFields) → Event
 
 -- the clock after an event, and what a turn said
 pub record Reply : Type 0 where
@@ -78,7 +83,7 @@ stopped_tap p spec = record {
   since = 0;
   amid = false;
   marks = [];
-  station = new_station p spec.address;
+  station = new_station p spec.address spec.reply;
 }
 
 abbrev pub has_bad_address : Params → TapSpec → Bool

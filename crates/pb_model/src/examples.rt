@@ -1,5 +1,7 @@
 ghost use Rattle.std.specs.Prelude.{◌≡◌, ◌∷◌, []};
-ghost use Rattle.pb_model.specs.Scenarios.{master, world_of, trace_of, phases_of, two_masters, alone, alone_trace, ring_formed, ring_formed_trace, taker_damaged, taker_damaged_trace, taker_damaged_phases};
+ghost use Rattle.pb_model.specs.Scenarios.{master, world_of, trace_of, phases_of, two_masters, alone, alone_trace, ring_formed, ring_formed_trace, taker_damaged, taker_damaged_trace, taker_damaged_phases, speaker_stopped, speaker_stopped_trace, master_and_passive, data_requested, data_requested_trace, executed_of, outcomes_of};
+ghost use Rattle.std.specs.Prelude.{Some, None};
+ghost use Rattle.pb_cycles.specs.declared.outcomes.Outcome.TheVariants.{Data};
 
 /// A master alone claims the token after its time-out, keeps it, and asks the stations of its GAP one by one.
 pub fn a_master_alone_keeps_the_token()
@@ -16,4 +18,18 @@ pub fn two_masters_form_a_ring()
 pub fn damage_alone_makes_two_holders()
     ensures trace { trace_of (world_of two_masters taker_damaged) ≡ taker_damaged_trace }
     ensures phases { phases_of (world_of two_masters taker_damaged) ≡ taker_damaged_phases }
+{}
+
+/// A station that stops while it speaks leaves a telegram that nobody hears whole; after a silence another
+/// claims the token.
+pub fn a_stopped_speaker_is_heard_damaged()
+    ensures { trace_of (world_of two_masters speaker_stopped) ≡ speaker_stopped_trace }
+{}
+
+/// A master requests data of a passive station three times. The second reply comes damaged: the request is
+/// sent again with the same frame count bits, and gets the kept reply, so that three are executed.
+pub fn a_damaged_reply_is_asked_for_again()
+    ensures trace { trace_of (world_of master_and_passive data_requested) ≡ data_requested_trace }
+    ensures executed { executed_of (world_of master_and_passive data_requested) ≡ 0 ∷ 3 ∷ [] }
+    ensures outcome { outcomes_of (world_of master_and_passive data_requested) ≡ Some (7, Data (record { items = 0xaa ∷ 0xbb ∷ [] })) ∷ None ∷ [] }
 {}

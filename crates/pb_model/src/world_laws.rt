@@ -3,7 +3,7 @@ ghost use Rattle.pb_timers.specs.Timers.{Params};
 ghost use Rattle.pb_model.specs.Medium.{TapSpec, Tap};
 ghost use Rattle.pb_model.specs.World.{World, Event, Pass, Reply, Fault, new_world};
 ghost use Rattle.pb_model.specs.Step.{step, replay};
-ghost use Rattle.pb_model.specs.Laws.{AllInOrder, PassTells};
+ghost use Rattle.pb_model.specs.Laws.{AllInOrder, AllFit, AreEvents, PassTells};
 
 /// The clock never falls, whatever the events.
 pub fn the_clock_never_falls()
@@ -17,7 +17,7 @@ pub fn a_refused_event_changes_nothing()
 
 /// The unread marks of every tap stand in order of time, up to the clock.
 pub fn marks_stand_in_order_of_time()
-    ensures { (p : Params) (specs : List TapSpec) (w : World) (events : List (Bool × Event)) → p.ttd ≡ 0 → new_world p specs ≡ Ok w
+    ensures { (p : Params) (specs : List TapSpec) (w : World) (events : List (Bool × Event)) → p.ttd ≡ 0 → AllFit specs → AreEvents events → new_world p specs ≡ Ok w
         → AllInOrder (replay w events).now (replay w events).taps }
 {}
 
@@ -25,6 +25,6 @@ pub fn marks_stand_in_order_of_time()
 /// Begins and Ends alternate, from whether a burst is open to whether one is open afterwards.
 pub fn what_a_pass_tells_a_tap()
     ensures { (p : Params) (specs : List TapSpec) (w : World) (events : List (Bool × Event)) (again : Bool) (d tap : ℕ) (next : World) (reply : Reply) (t : Tap)
-        → p.ttd ≡ 0 → new_world p specs ≡ Ok w → step again (replay w events) (Pass d) ≡ Ok (next, reply)
+        → p.ttd ≡ 0 → AllFit specs → AreEvents events → new_world p specs ≡ Ok w → step again (replay w events) (Pass d) ≡ Ok (next, reply)
         → slice_get (replay w events).taps tap ≡ Some t → t.running ≡ true → PassTells (replay w events) next tap t }
 {}

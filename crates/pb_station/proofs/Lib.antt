@@ -1,7 +1,10 @@
+pub mod Answering
+pub mod Closing
 pub mod Looking
 pub mod Receipts
 pub mod Choices
 pub mod Places
 pub mod Arriving
 pub mod Incomplete
+pub mod Taking
 pub mod TimeOuts

@@ -16,6 +16,14 @@ abbrev pub brings : Option Telegram → Arrival
 brings None = NoTelegram
 brings (Some t) = telegram_brings t
 
+-- it has a control octet
+abbrev pub is_framed : Telegram → Bool
+is_framed (telegram.Short t) = true
+is_framed (telegram.Var t) = true
+is_framed (telegram.Fixed8 t) = true
+is_framed (telegram.Token t) = false
+is_framed telegram.Ack = false
+
 -- a request: bit 6 of the control octet is set
 abbrev pub is_request : Telegram → Bool
 is_request (telegram.Short t) = has_bit t.fc 6

@@ -10,6 +10,7 @@ use Rattle.pb_turn.specs.Hearing.{ended, checking_hears, phase_ended}
 use Rattle.pb_tokenfsm.specs.Phases.{phase_of}
 use Rattle.pb_station.specs.declared.cores.Core.{Core}
 use Rattle.pb_station.specs.declared.cores.Kept.{Kept}
+use Rattle.pb_station.specs.Cycles.{cycles_of}
 use Rattle.pb_station.specs.Replies.{reply_of}
 
 -- what a station keeps, with a phase
@@ -24,6 +25,7 @@ with_phase k phase = record {
   las = k.las;
   gap = k.gap;
   rotation = k.rotation;
+  cycles = cycles_of k.cycles;
 }
 
 abbrev pub station_of : Core → turn_station.Station
@@ -44,6 +46,7 @@ FollowsEnd p s at arrival after = (again : Bool) × (after ≡ ended p again s a
 -- a phase that uses the token has received it
 abbrev pub has_received : turn.Phase → Option Receipt → Type 0
 has_received (turn.Use asked ready) last = IsSome last
+has_received (turn.AwaitData asked retry slot) last = IsSome last
 has_received (turn.AwaitStatus of slot) last = IsSome last
 has_received turn.Offline last = Unit {0}
 has_received turn.PassiveIdle last = Unit {0}

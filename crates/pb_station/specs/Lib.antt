@@ -1,6 +1,7 @@
 pub mod Arrivals
 pub mod Clocks
 pub mod Cores
+pub mod Cycles
 pub mod Decisions
 pub mod MarkViews
 pub mod Replies

@@ -2,7 +2,7 @@
 
 ghost use Rattle.std.specs.Prelude.{◌≡◌, true, None};
 ghost use Rattle.pb_turn.specs.Hearing.{phase_begun, begun};
-ghost use Rattle.pb_tokenfsm.specs.Phases.{phase_of, is_noted};
+ghost use Rattle.pb_tokenfsm.specs.Phases.{phase_of};
 ghost use Rattle.pb_station.specs.Cores.{station_of};
 
 use crate::cores::{Core, Kept};
@@ -12,12 +12,12 @@ use pb_tokenfsm::Phase;
 /// The phase after activity has begun at a moment, with the beginning of the own last telegram: a holder
 /// gives way, and the slot of one that has asked is over.
 fn phase_begun(phase: Phase, own: Moment, at: Moment) -> Phase
-    ensures phase { phase_of result ≡ phase_begun (phase_of phase) own at }
-    ensures noted { is_noted result ≡ is_noted phase }
+    ensures { phase_of result ≡ phase_begun (phase_of phase) own at }
 {
     match phase {
         Phase::Claim(holder) => Phase::Idle(holder.on_foreign()),
         Phase::Use(holder) => Phase::Idle(holder.on_foreign()),
+        Phase::AwaitData(holder) => Phase::AwaitData(holder.on_activity(own, at)),
         Phase::AwaitStatus(holder) if at.get() >= own.get() => {
             Phase::AwaitStatus(holder.on_activity())
         }

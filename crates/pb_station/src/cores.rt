@@ -1,8 +1,8 @@
-ghost use Rattle.std.specs.Prelude.{◌≡◌, ◌≤◌, false};
-ghost use Rattle.pb_tokenfsm.specs.Phases.{is_noted};
+ghost use Rattle.std.specs.Prelude.{◌≡◌, ◌≤◌};
 ghost use Rattle.pb_station.specs.Clocks.{last_end};
 
 use crate::addresses::Address;
+use crate::cycles::Cycles;
 use crate::past::Past;
 use crate::replies::Reply;
 use arrayvec::ArrayVec;
@@ -22,15 +22,14 @@ pub(crate) struct Kept {
     pub(crate) las: Las,
     pub(crate) gap: Gap,
     pub(crate) rotation: Rotation,
+    pub(crate) cycles: Cycles,
 }
 
-/// All of a station that a turn changes. No whole telegram is noted in its phase: what is heard is answered
-/// at once.
+/// All of a station that a turn changes.
 #[derive(Debug, Drop)]
 pub(crate) struct Core {
     pub(crate) phase: Phase,
     pub(crate) kept: Kept,
-    ghost nothing_noted: { is_noted phase ≡ false },
 }
 
 /// The same octets.
@@ -81,22 +80,12 @@ impl Kept {
             las: self.las,
             gap: self.gap,
             rotation: self.rotation,
+            cycles: self.cycles.copy(),
         }
     }
 }
 
 impl Core {
-    ghost use Rattle.pb_tokenfsm.specs.Phases.{phase_of};
-    ghost use Rattle.pb_station.specs.Cores.{with_phase, station_of};
-
-    /// A core of a phase that has noted nothing.
-    pub(crate) fn new(phase: Phase, kept: Kept) -> Core
-        requires { is_noted phase ≡ false }
-        ensures { station_of result ≡ with_phase kept (phase_of phase) }
-    {
-        Core { phase, kept }
-    }
-
     /// An equal core.
     pub(crate) fn copy(&self) -> Core
         ensures { result ≡ self.now }

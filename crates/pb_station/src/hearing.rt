@@ -1,30 +1,33 @@
 //! What a station makes of what it hears.
 
-ghost use Rattle.std.specs.Prelude.{◌≡◌, ◌≤◌, ◌<◌, true, false, max, if◌then◌else◌, Some, None};
+ghost use Rattle.std.specs.Prelude.{◌≡◌, ◌≤◌, ◌<◌, true, false, ◌+◌, max, if◌then◌else◌, Some, None};
 ghost use Rattle.std.specs.Option.{option_map};
 ghost use Rattle.pb_rotation.specs.Rotation.{received};
 ghost use Rattle.pb_ring.specs.Las.{is_complete};
+ghost use Rattle.pb_cycles.specs.Initiating.{outcome_of};
+ghost use Rattle.pb_cycles.specs.Messages.{message_of};
 ghost use Rattle.pb_turn.specs.Arrivals.{Framed};
 ghost use Rattle.pb_turn.specs.Phases as turn;
-ghost use Rattle.pb_turn.specs.Hearing.{doubled_by, listening_hears, is_taken_from, own_token, foreign_token, token_in_idle, idle_hears, holder_hears, status_told, awaiting_status_hears, with_token, lost, tells_ready};
-ghost use Rattle.pb_tokenfsm.specs.Phases.{phase_of, is_doubled, refused_by, asked_station, tries_of, is_noted};
-ghost use Rattle.pb_station.specs.Arrivals.{brings, telegram_brings, is_request, is_token};
+ghost use Rattle.pb_turn.specs.Hearing.{doubled_by, listening_hears, is_taken_from, own_token, foreign_token, token_in_idle, idle_hears, passive_hears, holder_hears, no_reply, data_told, awaiting_data_hears, status_told, awaiting_status_hears, with_token, lost, tells_ready};
+ghost use Rattle.pb_tokenfsm.specs.Phases.{phase_of, is_doubled, refused_by, asked_station, was_asked, has_data_slot, tries_of};
+ghost use Rattle.pb_station.specs.Arrivals.{brings, telegram_brings, is_framed, is_request, is_token};
 ghost use Rattle.pb_station.specs.Replies.{reply_of, fields_of, answer_to};
 ghost use Rattle.pb_station.specs.declared.replies.StationType.TheVariants.{Ready, NotReady};
 ghost use Rattle.pb_station.specs.Clocks.{last_turn};
 ghost use Rattle.pb_station.specs.Cores.{with_phase, station_of, ChecksArrival, FollowsArrival, FollowsEnd};
 
 use crate::cores::{Core, Kept};
+use crate::cycles;
 use crate::lists::{entered, heard};
 use crate::moments::after;
-use crate::replies::{Head, Reply, StationType, status_answer};
-use crate::timers::slot_timer;
+use crate::replies::{Head, Reply, StationType, answering, status_answer};
+use crate::timers::{given_up, slot_timer};
 use pb_cycles::status_reply;
 use pb_ring::Las;
 use pb_rotation::Rotation;
 use pb_telegram::{Fc, Telegram, TokenTelegram};
 use pb_timers::{BusParams, Moment};
-use pb_tokenfsm::{AwaitStatus, Checking, Holding, Idle, Listening, Phase};
+use pb_tokenfsm::{AwaitData, AwaitStatus, Checking, Holding, Idle, Listening, Phase};
 
 /// How many tokens may skip a station in the ring before it listens anew.
 const SKIPS: u8 = 2;
@@ -103,15 +106,15 @@ fn token_in_idle(
     }
 }
 
-/// Idle hears a telegram with a control octet, and answers a request for the status.
-fn idle_asked(idle: Idle, kept: Kept, params: &BusParams, at: Moment, head: Head) -> Core
-    requires { at ≤ last_turn }
-    ensures { station_of result ≡ idle_hears params.now (with_phase kept (phase_of (Phase.Idle idle))) (refused_by idle) at (Framed (fields_of head)) }
+/// Idle hears a telegram with a control octet, and answers a request to it.
+fn idle_asked(idle: Idle, kept: Kept, params: &BusParams, at: Moment, telegram: &Telegram) -> Core
+    requires clock { at ≤ last_turn }
+    requires framed { is_framed telegram.now ≡ true }
+    ensures { station_of result ≡ idle_hears params.now (with_phase kept (phase_of (Phase.Idle idle))) (refused_by idle) at (telegram_brings telegram.now) }
 {
-    let reply = status_answer(&kept, params, at, head, StationType::InRing);
     Core {
         phase: Phase::Idle(idle),
-        kept: Kept { reply, ..kept },
+        kept: answering(kept, params, at, telegram, StationType::InRing),
     }
 }
 
@@ -128,13 +131,31 @@ fn idle_hears(
 {
     match arrival {
         Some(Telegram::Token(token)) => token_in_idle(idle, kept, params, at, token),
-        Some(Telegram::Short(t)) => idle_asked(idle, kept, params, at, head(t.da, t.sa, t.fc)),
-        Some(Telegram::Var(t)) => idle_asked(idle, kept, params, at, head(t.da, t.sa, t.fc)),
-        Some(Telegram::Fixed8(t)) => idle_asked(idle, kept, params, at, head(t.da, t.sa, t.fc)),
         Some(Telegram::Ack) | None => Core {
             phase: Phase::Idle(idle),
             kept,
         },
+        Some(telegram) => idle_asked(idle, kept, params, at, telegram),
+    }
+}
+
+/// A passive station hears a telegram with a control octet, and answers a request to it.
+fn passive_asked(kept: Kept, params: &BusParams, at: Moment, telegram: &Telegram) -> Kept
+    requires clock { at ≤ last_turn }
+    requires framed { is_framed telegram.now ≡ true }
+    ensures { with_phase result turn.PassiveIdle ≡ passive_hears params.now (with_phase kept turn.PassiveIdle) at (telegram_brings telegram.now) }
+{
+    answering(kept, params, at, telegram, StationType::Passive)
+}
+
+/// What a passive station keeps after an arrival: it answers requests, and hears nothing else.
+fn passive_hears(kept: Kept, params: &BusParams, at: Moment, arrival: &Option<Telegram>) -> Kept
+    requires { at ≤ last_turn }
+    ensures { with_phase result turn.PassiveIdle ≡ passive_hears params.now (with_phase kept turn.PassiveIdle) at (brings arrival.now) }
+{
+    match arrival {
+        Some(Telegram::Token(_) | Telegram::Ack) | None => kept,
+        Some(telegram) => passive_asked(kept, params, at, telegram),
     }
 }
 
@@ -146,8 +167,7 @@ fn head(da: u8, sa: u8, fc: u8) -> Head
 
 /// Listening after a token: at the second one with its own address as the source it gives way.
 fn doubled_by(listening: Listening, sa: u8, ts: u8) -> Phase
-    ensures phase { phase_of result ≡ doubled_by (is_doubled listening) sa ts }
-    ensures fresh { is_noted result ≡ false }
+    ensures { phase_of result ≡ doubled_by (is_doubled listening) sa ts }
 {
     if sa != ts {
         return Phase::Listening(listening);
@@ -276,6 +296,16 @@ fn later(a: Moment, b: Moment) -> Moment
     if a.get() < b.get() { b } else { a }
 }
 
+/// When a station speaks again after an end that brought no reply: the idle time after it, and after its own
+/// telegram.
+fn ready_after(kept: &Kept, params: &BusParams, at: Moment) -> Moment
+    requires { at ≤ last_turn }
+    ensures { result ≡ max at kept.now.past.end + params.now.tid1 }
+{
+    let end = later(at, kept.own_end());
+    after(end, u64::from(params.tid1()))
+}
+
 /// After a reply to the question for the status.
 fn status_replied(
     holder: Holding<AwaitStatus>,
@@ -305,8 +335,7 @@ fn not_replied(holder: Holding<AwaitStatus>, kept: Kept, params: &BusParams, at:
     requires { at ≤ last_turn }
     ensures { station_of result ≡ status_told params.now (with_phase kept (phase_of (Phase.AwaitStatus holder))) (asked_station holder) at None }
 {
-    let end = later(at, kept.own_end());
-    let ready = after(end, u64::from(params.tid1()));
+    let ready = ready_after(&kept, params, at);
     Core {
         phase: Phase::Use(holder.on_outcome(ready)),
         kept,
@@ -337,9 +366,9 @@ fn status_told(
     }
 }
 
-/// A station that has asked for a status hears a token: its own is lost.
-fn token_lost(holder: Holding<AwaitStatus>, kept: Kept, token: &TokenTelegram) -> Core
-    ensures { station_of result ≡ lost (with_token (with_phase kept (phase_of (Phase.AwaitStatus holder))) token.now.da token.now.sa) }
+/// A holder hears a token: its own is lost, whatever it was about.
+fn token_lost<S: Copy>(holder: Holding<S>, kept: Kept, token: &TokenTelegram) -> Core
+    ensures { station_of result ≡ lost (with_token (with_phase kept turn.Offline) token.now.da token.now.sa) }
 {
     let las = heard(kept.las, token);
     Core {
@@ -366,6 +395,87 @@ fn awaiting_status_hears(
     }
 }
 
+/// What came in place of a reply is none: the request is sent again, if a retry is left.
+fn no_reply(holder: Holding<AwaitData>, kept: Kept, params: &BusParams, at: Moment) -> Core
+    requires { at ≤ last_turn }
+    ensures { station_of result ≡ no_reply params.now (with_phase kept (phase_of (Phase.AwaitData holder))) (was_asked holder) (has_data_slot holder) at }
+{
+    let ready = ready_after(&kept, params, at);
+    if !kept.cycles.initiator.retry_left() {
+        return given_up(holder, kept, ready);
+    }
+    Core {
+        phase: Phase::AwaitData(holder.on_damaged(ready)),
+        kept,
+    }
+}
+
+/// A station that waits for a reply hears a message that is no token and no request.
+fn data_told(
+    holder: Holding<AwaitData>,
+    kept: Kept,
+    params: &BusParams,
+    at: Moment,
+    came: &Telegram,
+) -> Core
+    requires { at ≤ last_turn }
+    ensures { station_of result ≡ data_told params.now (with_phase kept (phase_of (Phase.AwaitData holder))) (was_asked holder) (has_data_slot holder) at (message_of came.now)
+        (outcome_of kept.cycles.initiator (Some (message_of came.now))) }
+{
+    let heard = cycles::heard(kept.cycles, came);
+    let kept = Kept {
+        cycles: heard.cycles,
+        ..kept
+    };
+    if !heard.answered {
+        return no_reply(holder, kept, params, at);
+    }
+    let ready = after(at, u64::from(params.tid1()));
+    Core {
+        phase: Phase::Use(holder.on_outcome(ready)),
+        kept,
+    }
+}
+
+/// A station that waits for a reply hears a telegram that is no token.
+fn data_heard(
+    holder: Holding<AwaitData>,
+    kept: Kept,
+    params: &BusParams,
+    at: Moment,
+    came: &Telegram,
+) -> Core
+    requires clock { at ≤ last_turn }
+    requires no_token { is_token came.now ≡ false }
+    ensures { station_of result ≡ awaiting_data_hears params.now (with_phase kept (phase_of (Phase.AwaitData holder))) (was_asked holder) (has_data_slot holder) at (telegram_brings came.now) }
+{
+    if is_request(came) {
+        return Core {
+            phase: Phase::Idle(holder.on_foreign()),
+            kept,
+        };
+    }
+    data_told(holder, kept, params, at, came)
+}
+
+/// A station that waits for a reply, after an arrival.
+fn awaiting_data_hears(
+    holder: Holding<AwaitData>,
+    kept: Kept,
+    params: &BusParams,
+    at: Moment,
+    arrival: &Option<Telegram>,
+) -> Core
+    requires { at ≤ last_turn }
+    ensures { station_of result ≡ awaiting_data_hears params.now (with_phase kept (phase_of (Phase.AwaitData holder))) (was_asked holder) (has_data_slot holder) at (brings arrival.now) }
+{
+    match arrival {
+        Some(Telegram::Token(token)) => token_lost(holder, kept, token),
+        Some(telegram) => data_heard(holder, kept, params, at, telegram),
+        None => no_reply(holder, kept, params, at),
+    }
+}
+
 /// A station that waits for a sign that the token was taken, after an arrival: a whole telegram is heard as in
 /// Idle.
 fn checking_hears(
@@ -380,10 +490,13 @@ fn checking_hears(
 {
     let slot_end = slot_timer(&kept, params);
     match arrival {
-        None => Core::new(checking.on_damaged(at, slot_end), kept),
+        None => Core {
+            phase: checking.on_damaged(at, slot_end),
+            kept,
+        },
         Some(_) => match checking.noted_whole().on_damaged(at, slot_end) {
             Phase::Idle(idle) => idle_hears(idle, kept, params, at, arrival),
-            other => Core::new(other, kept),
+            other => Core { phase: other, kept },
         },
     }
 }
@@ -397,9 +510,14 @@ fn phase_ended(core: Core, params: &BusParams, at: Moment, arrival: &Option<Tele
     match phase {
         Phase::Listening(listening) => listening_hears(listening, kept, params, at, arrival),
         Phase::Idle(idle) => idle_hears(idle, kept, params, at, arrival),
+        Phase::AwaitData(holder) => awaiting_data_hears(holder, kept, params, at, arrival),
         Phase::AwaitStatus(holder) => awaiting_status_hears(holder, kept, params, at, arrival),
         Phase::Checking(checking) => checking_hears(checking, kept, params, at, arrival),
-        Phase::Offline(_) | Phase::PassiveIdle(_) => Core::new(phase, kept),
+        Phase::Offline(_) => Core { phase, kept },
+        Phase::PassiveIdle(_) => Core {
+            phase,
+            kept: passive_hears(kept, params, at, arrival),
+        },
         holding => holder_hears(
             Core {
                 phase: holding,

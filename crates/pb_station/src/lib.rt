@@ -9,6 +9,7 @@ mod addresses;
 mod arrivals;
 mod beginnings;
 mod cores;
+mod cycles;
 mod decisions;
 mod hearing;
 mod lists;

@@ -1,9 +1,12 @@
-ghost use Rattle.std.specs.Prelude.{◌≡◌, ◌≤◌, [], ◌+◌, ◌*◌};
+ghost use Rattle.std.specs.Prelude.{◌≡◌, ◌≤◌, [], ◌+◌, ◌*◌, false};
 ghost use Rattle.std.specs.Option.{option_map};
-ghost use Rattle.pb_cycles.specs.Messages.{frame_octets, address_in};
+ghost use Rattle.pb_telegram.specs.Grammar.{spelling};
+ghost use Rattle.pb_cycles.specs.Messages.{frame_octets, address_in, message_of};
 ghost use Rattle.pb_turn.specs.Hearing.{asks_status};
 ghost use Rattle.pb_station.specs.Clocks.{last_turn};
-ghost use Rattle.pb_station.specs.Replies.{reply_of, code_of, joins, fields_of, answer_to};
+ghost use Rattle.pb_turn.specs.Phases.{Phase};
+ghost use Rattle.pb_station.specs.Cores.{with_phase};
+ghost use Rattle.pb_station.specs.Replies.{reply_of, code_of, joins, fields_of, answer_to, answers};
 
 use crate::cores::Kept;
 use crate::moments::after;
@@ -21,10 +24,11 @@ pub(crate) struct Reply {
     pub(crate) joins: bool,
 }
 
-/// The station type of a master in its reply to a request for its status (IEC 61158-4-3, frame control
-/// field).
+/// The station type in a reply (IEC 61158-4-3, frame control field).
 #[derive(Clone, Copy, Debug, PartialEq, Eq)]
 pub(crate) enum StationType {
+    /// A passive station.
+    Passive,
     /// A master that is not ready to enter the ring.
     NotReady,
     /// One that is ready to enter it.
@@ -39,6 +43,7 @@ impl StationType {
         ensures bound { result ≤ 3 }
     {
         match self {
+            StationType::Passive => 0,
             StationType::NotReady => 1,
             StationType::Ready => 2,
             StationType::InRing => 3,
@@ -50,7 +55,7 @@ impl StationType {
     {
         match self {
             StationType::Ready => true,
-            StationType::NotReady | StationType::InRing => false,
+            StationType::Passive | StationType::NotReady | StationType::InRing => false,
         }
     }
 }
@@ -74,6 +79,14 @@ impl Head {
         let fc = Fc(self.fc);
         fc.is_request() && fc.code() == STATUS_CODE && self.da % 128 == ts
     }
+}
+
+/// When the reply to a request is sent that ended at a moment.
+fn reply_moment(params: &BusParams, at: Moment) -> Moment
+    requires { at ≤ last_turn }
+    ensures { result ≡ at + params.now.tsdr }
+{
+    after(at, u64::from(params.tsdr()))
 }
 
 /// The octets of the reply of the station `ts` to the station that asked for its status.
@@ -104,8 +117,45 @@ pub(crate) fn status_answer(
         return None;
     }
     Some(Reply {
-        ready: after(at, u64::from(params.tsdr())),
+        ready: reply_moment(params, at),
         octets: status_octets(ts, head, station_type),
         joins: station_type.joins(),
     })
+}
+
+/// What a responder answers, as a reply that is sent at a moment.
+fn reply_at(answer: Option<Telegram>, ready: Moment) -> Option<Reply>
+    ensures { option_map reply_of result ≡ option_map (λ octets. record { ready = ready; octets = octets; joins = false }) (option_map spelling answer) }
+{
+    match answer {
+        Some(telegram) => Some(Reply {
+            ready,
+            octets: write(&telegram),
+            joins: false,
+        }),
+        None => None,
+    }
+}
+
+/// A station of some type answers a telegram that ended at a moment, which it executes, if it is a request
+/// that it has not executed before.
+pub(crate) fn answering(
+    kept: Kept,
+    params: &BusParams,
+    at: Moment,
+    telegram: &Telegram,
+    station_type: StationType,
+) -> Kept
+    requires { at ≤ last_turn }
+    ensures { (phase : Phase) → with_phase result phase ≡ answers params.now (with_phase kept phase) at (code_of station_type) (message_of telegram.now) }
+{
+    let mut cycles = kept.cycles;
+    let ts = kept.address.get();
+    let answer = cycles.responder.answer(ts, station_type.code(), telegram);
+    let reply = reply_at(answer, reply_moment(params, at));
+    Kept {
+        reply,
+        cycles,
+        ..kept
+    }
 }

@@ -1,6 +1,6 @@
 //! What a station says.
 
-ghost use Rattle.std.specs.Prelude.{◌≡◌, ◌+◌, ◌≤◌, ◌<◌, ◌&&◌, not, max, length, if◌then◌else◌, true, false, Some, None, IsSome};
+ghost use Rattle.std.specs.Prelude.{◌≡◌, ◌+◌, ◌≤◌, ◌<◌, ◌&&◌, not, max, length, if◌then◌else◌, true, is_some, Some, None, IsSome};
 ghost use Rattle.std.specs.Option.{option_map};
 ghost use Rattle.pb_timers.specs.Timers.{bits};
 ghost use Rattle.pb_telegram.specs.Grammar.{spelling};
@@ -9,10 +9,12 @@ ghost use Rattle.pb_ring.specs.Las.{readied};
 ghost use Rattle.pb_ring.specs.Gap.{is_due, last_asked, next_asked, round_after};
 ghost use Rattle.pb_ring.specs.declared.gaps.Round.TheVariants.{Open};
 ghost use Rattle.pb_rotation.specs.Rotation.{received, fresh, may_low};
+ghost use Rattle.pb_cycles.specs.Initiating.{retry_of};
+ghost use Rattle.pb_cycles.specs.Requests.{is_answered};
 ghost use Rattle.pb_turn.specs.Phases as turn;
 ghost use Rattle.pb_turn.specs.Stations.{next_station, reply_moment, speaks_at};
-ghost use Rattle.pb_turn.specs.Turns.{token_octets, status_request_octets, saying, says_token, says_claim, looks_at_gap, says_look, says_in_use, joining, says_reply, says_ready, phase_says, speech};
-ghost use Rattle.pb_tokenfsm.specs.Phases.{phase_of, claims_sent, has_asked, tries_of, is_noted};
+ghost use Rattle.pb_turn.specs.Turns.{token_octets, status_request_octets, saying, says_token, says_claim, looks_at_gap, says_look, says_no_request, says_request, says_low, says_in_use, high_request, low_request, high_taken, low_taken, says_again, joining, says_reply, says_ready, phase_says, speech};
+ghost use Rattle.pb_tokenfsm.specs.Phases.{phase_of, claims_sent, has_asked, was_asked, tries_of};
 ghost use Rattle.pb_station.specs.Clocks.{last_turn};
 ghost use Rattle.pb_station.specs.Cores.{with_phase, station_of, HasReceived};
 ghost use Rattle.pb_station.specs.Replies.{reply_of};
@@ -24,11 +26,12 @@ use crate::moments::after;
 use crate::past::Past;
 use crate::replies::Reply;
 use arrayvec::ArrayVec;
+use pb_cycles::{Request, Service};
 use pb_ring::Gap;
 use pb_rotation::Rotation;
 use pb_telegram::{ShortTelegram, Telegram, TokenTelegram};
 use pb_timers::{BusParams, Moment};
-use pb_tokenfsm::{Claim, Holding, Listening, Pass, Phase, Use};
+use pb_tokenfsm::{AwaitData, Claim, Holding, Listening, Pass, Phase, Use};
 
 /// The control octet of Request FDL Status: a request, whose frame count bit does not count.
 const STATUS_REQUEST: u8 = 0x49;
@@ -172,7 +175,7 @@ fn next_look(kept: &Kept, params: &BusParams, ns: u8, now: Moment) -> Look
 }
 
 /// A station of the GAP is asked for its status.
-fn says_request(holder: Holding<Use>, kept: Kept, now: Moment, address: u8) -> Spoken
+fn asks_status(holder: Holding<Use>, kept: Kept, now: Moment, address: u8) -> Spoken
     requires { now ≤ last_turn }
     ensures { spoken_of result ≡ (record (saying (with_phase kept (phase_of (Phase.Use holder))) now (status_request_octets address kept.address)) { phase = turn.AwaitStatus address true }, Some (status_request_octets address kept.address)) }
 {
@@ -197,16 +200,16 @@ fn says_look(holder: Holding<Use>, kept: Kept, params: &BusParams, now: Moment) 
     let Look { gap, address } = next_look(&kept, params, ns, now);
     let kept = Kept { gap, ..kept };
     match address {
-        Some(address) => says_request(holder, kept, now, address),
+        Some(address) => asks_status(holder, kept, now, address),
         None => says_token(holder.done(), kept, params, now),
     }
 }
 
-/// The use of the token: a look into the GAP, or the token.
-fn says_in_use(holder: Holding<Use>, kept: Kept, params: &BusParams, now: Moment) -> Spoken
+/// No request may be sent: a look into the GAP, or the token.
+fn says_no_request(holder: Holding<Use>, kept: Kept, params: &BusParams, now: Moment) -> Spoken
     requires clock { now ≤ last_turn }
     requires received { IsSome kept.rotation.last }
-    ensures { spoken_of result ≡ says_in_use params.now (with_phase kept (phase_of (Phase.Use holder))) (has_asked holder) now }
+    ensures { spoken_of result ≡ says_no_request params.now (with_phase kept (phase_of (Phase.Use holder))) (has_asked holder) now }
 {
     if looks_at_gap(&kept, params, holder.asked(), now) {
         says_look(holder, kept, params, now)
@@ -215,10 +218,159 @@ fn says_in_use(holder: Holding<Use>, kept: Kept, params: &BusParams, now: Moment
     }
 }
 
+/// Whether a request is answered, by an acknowledgement or by data.
+fn is_answered(request: &Request) -> bool
+    ensures { result ≡ is_answered request.now.service }
+{
+    match request.service() {
+        Service::Sda | Service::Srd => true,
+        Service::Sdn => false,
+    }
+}
+
+/// A holder after a request: it waits for the reply, or speaks again.
+fn asked(holder: Holding<Use>, answered: bool, ready: Moment) -> Phase
+    ensures { phase_of result ≡ (if answered then turn.AwaitData (has_asked holder) None true else turn.Use (has_asked holder) ready) }
+{
+    if answered {
+        Phase::AwaitData(holder.ask())
+    } else {
+        Phase::Use(holder.send(ready))
+    }
+}
+
+/// A request is sent.
+fn says_request(
+    holder: Holding<Use>,
+    kept: Kept,
+    params: &BusParams,
+    now: Moment,
+    request: Request,
+) -> Spoken
+    requires { now ≤ last_turn }
+    ensures { spoken_of result ≡ says_request params.now (with_phase kept (phase_of (Phase.Use holder))) (has_asked holder) request now }
+{
+    let answered = is_answered(&request);
+    let mut cycles = kept.cycles;
+    let telegram = cycles.initiator.request(kept.address.get(), request);
+    let octets = holder.initiate(&telegram);
+    let past = said(kept.past, now, &octets);
+    let ready = after(past.end.get(), u64::from(params.tid2()));
+    Spoken {
+        after: Core {
+            phase: asked(holder, answered, ready),
+            kept: Kept {
+                past,
+                cycles,
+                ..kept
+            },
+        },
+        octets: Some(octets),
+    }
+}
+
+/// What is left after a request was taken from the queue, if one may be sent.
+#[derive(Debug, Drop)]
+struct Taken {
+    kept: Kept,
+    request: Option<Request>,
+}
+
+/// The request of high priority that may be sent.
+fn take_high(kept: Kept, now: Moment) -> Taken
+    requires { IsSome kept.rotation.last }
+    ensures request { (phase : turn.Phase) → result.request ≡ high_request (with_phase kept phase) now }
+    ensures kept { (phase : turn.Phase) → with_phase result.kept phase ≡ (if is_some result.request then high_taken (with_phase kept phase) else with_phase kept phase) }
+{
+    let mut kept = kept;
+    if !kept.rotation.may_high(now) {
+        return Taken {
+            kept,
+            request: None,
+        };
+    }
+    let request = kept.cycles.queue.take_high();
+    if request.is_some() {
+        kept.rotation.started_high();
+    }
+    Taken { kept, request }
+}
+
+/// The request of low priority that may be sent.
+fn take_low(kept: Kept, now: Moment) -> Taken
+    requires { IsSome kept.rotation.last }
+    ensures request { (phase : turn.Phase) → result.request ≡ low_request (with_phase kept phase) now }
+    ensures kept { (phase : turn.Phase) → with_phase result.kept phase ≡ (if is_some result.request then low_taken (with_phase kept phase) else with_phase kept phase) }
+{
+    let mut kept = kept;
+    if !kept.rotation.may_low(now) {
+        return Taken {
+            kept,
+            request: None,
+        };
+    }
+    let request = kept.cycles.queue.take_low();
+    Taken { kept, request }
+}
+
+/// No request of high priority may be sent: one of low priority, or what follows if none may be sent.
+fn says_low(holder: Holding<Use>, kept: Kept, params: &BusParams, now: Moment) -> Spoken
+    requires clock { now ≤ last_turn }
+    requires received { IsSome kept.rotation.last }
+    ensures { spoken_of result ≡ says_low params.now (with_phase kept (phase_of (Phase.Use holder))) (has_asked holder) (low_request (with_phase kept (phase_of (Phase.Use holder))) now) now }
+{
+    let Taken { kept, request } = take_low(kept, now);
+    match request {
+        Some(request) => says_request(holder, kept, params, now, request),
+        None => says_no_request(holder, kept, params, now),
+    }
+}
+
+/// The use of the token: a request, of high priority first, a look into the GAP, or the token.
+fn says_in_use(holder: Holding<Use>, kept: Kept, params: &BusParams, now: Moment) -> Spoken
+    requires clock { now ≤ last_turn }
+    requires received { IsSome kept.rotation.last }
+    ensures { spoken_of result ≡ says_in_use params.now (with_phase kept (phase_of (Phase.Use holder))) (has_asked holder) now }
+{
+    let Taken { kept, request } = take_high(kept, now);
+    match request {
+        Some(request) => says_request(holder, kept, params, now, request),
+        None => says_low(holder, kept, params, now),
+    }
+}
+
+/// The open request is sent again.
+fn says_again(holder: Holding<AwaitData>, kept: Kept, now: Moment) -> Spoken
+    requires { now ≤ last_turn }
+    ensures { spoken_of result ≡ says_again (with_phase kept (phase_of (Phase.AwaitData holder))) (was_asked holder) (retry_of kept.cycles.initiator.pending) now }
+{
+    let mut cycles = kept.cycles;
+    match cycles.initiator.again() {
+        Some(telegram) => {
+            let octets = holder.initiate(&telegram);
+            let past = said(kept.past, now, &octets);
+            Spoken {
+                after: Core {
+                    phase: Phase::AwaitData(holder.again()),
+                    kept: Kept {
+                        past,
+                        cycles,
+                        ..kept
+                    },
+                },
+                octets: Some(octets),
+            }
+        }
+        None => silent(Core {
+            phase: Phase::AwaitData(holder.on_no_retry()),
+            kept: Kept { cycles, ..kept },
+        }),
+    }
+}
+
 /// A station without the token sends its reply, if it has one.
 fn says_reply(phase: Phase, kept: Kept, now: Moment) -> Spoken
-    requires clock { now ≤ last_turn }
-    requires fresh { is_noted phase ≡ false }
+    requires { now ≤ last_turn }
     ensures { spoken_of result ≡ says_reply (with_phase kept (phase_of phase)) (option_map reply_of kept.reply) now }
 {
     let mut kept = kept;
@@ -300,6 +452,7 @@ fn says(core: Core, params: &BusParams, now: Moment) -> Spoken
         Phase::PassiveIdle(_) | Phase::Idle(_) => says_reply(phase, kept, now),
         Phase::Claim(holder) => says_claim(holder, kept, params, now),
         Phase::Use(holder) => says_in_use(holder, kept, params, now),
+        Phase::AwaitData(holder) => says_again(holder, kept, now),
         Phase::Pass(holder) => says_token(holder, kept, params, now),
         other => silent(Core { phase: other, kept }),
     }
@@ -325,6 +478,7 @@ pub(crate) fn speaks_at(core: &Core) -> Option<Moment>
         }
         Phase::Claim(holder) => Some(holder.ready()),
         Phase::Use(holder) => Some(holder.ready()),
+        Phase::AwaitData(holder) => holder.retry(),
         Phase::Pass(holder) => Some(holder.ready()),
         Phase::Offline(_) | Phase::AwaitStatus(_) | Phase::Checking(_) => None,
     }

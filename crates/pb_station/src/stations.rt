@@ -1,4 +1,4 @@
-ghost use Rattle.std.specs.Prelude.{◌≡◌, ◌≤◌};
+ghost use Rattle.std.specs.Prelude.{◌≡◌, ◌≤◌, length};
 ghost use Rattle.pb_turn.specs.Stations as turn;
 ghost use Rattle.pb_station.specs.Clocks.{last_turn};
 ghost use Rattle.pb_station.specs.Cores.{station_of};
@@ -6,10 +6,12 @@ ghost use Rattle.pb_tokenfsm.specs.Phases.{phase_of};
 
 use crate::addresses::Address;
 use crate::cores::{Core, Kept};
+use crate::cycles::{Cycles, copy_outcome, push};
 use crate::marks::Mark;
 use crate::past::Past;
 use crate::turns::{due_of, turn};
 use arrayvec::ArrayVec;
+use pb_cycles::{Outcome, Queue, Request};
 use pb_ring::{Gap, Las};
 use pb_rotation::Rotation;
 use pb_timers::{BusParams, Moment};
@@ -54,8 +56,8 @@ pub struct Turn {
 }
 
 /// A core that does not run.
-fn new_core(address: Address, params: &BusParams) -> Core
-    ensures { station_of result ≡ turn.new_station params.now address }
+fn new_core(address: Address, params: &BusParams, reply: ArrayVec<u8, 246>) -> Core
+    ensures { station_of result ≡ turn.new_station params.now address reply.items }
 {
     Core {
         phase: Phase::Offline(Offline),
@@ -67,6 +69,7 @@ fn new_core(address: Address, params: &BusParams) -> Core
             las: Las::listening(),
             gap: Gap::fresh(),
             rotation: Rotation::new(params.ttr()),
+            cycles: Cycles::new(params, reply),
         },
     }
 }
@@ -88,7 +91,8 @@ fn started(core: &Core, params: &BusParams, master: bool, now: Moment) -> Core
     } else {
         Phase::PassiveIdle(PassiveIdle)
     };
-    let new = new_core(core.kept.address, params);
+    let reply = copy_data(core.kept.cycles.responder.data());
+    let new = new_core(core.kept.address, params, reply);
     Core {
         phase,
         kept: Kept {
@@ -99,16 +103,25 @@ fn started(core: &Core, params: &BusParams, master: bool, now: Moment) -> Core
 }
 
 /// The same octets.
-fn copy_data(octets: &ArrayVec<u8, 246>) -> ArrayVec<u8, 246>
-    ensures { result ≡ octets.now }
+fn copy_data(octets: &[u8]) -> ArrayVec<u8, 246>
+    requires { length octets.now ≤ 246 }
+    ensures { result.items ≡ octets.now }
 {
     let mut copy = ArrayVec::new();
-    copy.try_extend_from_slice(octets.as_slice()).unwrap();
+    copy.try_extend_from_slice(octets).unwrap();
     copy
 }
 
+/// A core whose station stops: it says nothing more.
+fn stop_core(core: &mut Core)
+    ensures { station_of core.new ≡ turn.stopped (station_of core.old) }
+{
+    core.phase = Phase::Offline(Offline);
+    core.kept.reply = None;
+}
+
 impl Station {
-    ghost use Rattle.std.specs.Prelude.{◌≡◌, ◌≤◌, List, Some, None, map, IfOk, MatchResult};
+    ghost use Rattle.std.specs.Prelude.{◌≡◌, ◌≤◌, ◌<◌, List, length, Some, None, map, IfOk, OnOk, OnErr, MatchResult};
     ghost use Rattle.pb_timers.specs.Timers.{Params};
     ghost use Rattle.pb_turn.specs.Stations as turn;
     ghost use Rattle.pb_tokenfsm.specs.Phases.{phase_of};
@@ -135,10 +148,11 @@ impl Station {
           params = params;
           master = master;
           reply_data = reply.items;
-          station = turn.new_station params address;
+          station = turn.new_station params address reply.items;
         }) (λ _. ⊥) }
     {
-        let core = new_core(Address::new(address), &params);
+        let data = copy_data(&reply);
+        let core = new_core(Address::new(address), &params, data);
         Ok(Station {
             tap,
             params,
@@ -163,6 +177,13 @@ impl Station {
         self.core.kept.address.get()
     }
 
+    /// Whether it is a master, and takes part in the passing of the token.
+    pub fn is_master(&self) -> bool
+        ensures { result ≡ self.now.master }
+    {
+        self.master
+    }
+
     /// The parameters of its bus.
     pub fn params(&self) -> &BusParams
         ensures { result.now ≡ self.now.params }
@@ -184,6 +205,28 @@ impl Station {
         &self.core.kept.las
     }
 
+    /// The requests that wait for the token.
+    pub fn queue(&self) -> &Queue
+        ensures { result.now ≡ self.now.station.cycles.queue }
+    {
+        &self.core.kept.cycles.queue
+    }
+
+    /// How many requests of others it has executed since its start: those that are no repeats. The count stays
+    /// at 2^64 - 1.
+    pub fn executed(&self) -> u64
+        ensures { result ≡ self.now.station.cycles.responder.executed }
+    {
+        self.core.kept.cycles.responder.executed()
+    }
+
+    /// The station of its last message cycle that had an outcome, and that outcome, since its start.
+    pub fn last_outcome(&self) -> Option<(u8, Outcome)>
+        ensures { result ≡ self.now.station.cycles.last_outcome }
+    {
+        copy_outcome(&self.core.kept.cycles.last_outcome)
+    }
+
     /// The station starts at a moment, at most 2^61, the caller's condition: a master listens for the ring,
     /// a passive station waits for requests. All that it knew is forgotten.
     pub fn start(&mut self, now: Moment)
@@ -191,6 +234,24 @@ impl Station {
         ensures { self.new ≡ record self.old { station = turn.started self.old.params self.old.station self.old.master now } }
     {
         self.core = started(&self.core, &self.params, self.master, now);
+    }
+
+    /// The station stops: it is offline, and a reply that is not sent yet is dropped. All else stays.
+    pub fn stop(&mut self)
+        ensures { self.new ≡ record self.old { station = turn.stopped self.old.station } }
+    {
+        stop_core(&mut self.core);
+    }
+
+    /// A request waits behind the others of its priority. It is handed back where 16 of them wait, and
+    /// nothing changes then.
+    pub fn push(&mut self, request: Request) -> Result<(), Request>
+        ensures outcome { MatchResult result (λ _. self.new ≡ record self.old { station = turn.pushed self.old.station request })
+            (λ refused. (refused ≡ request) × (self.new ≡ self.old)) }
+        ensures room { OnOk result (length (turn.list_for self.old.station.cycles.queue request) < 16) }
+        ensures full { OnErr result (length (turn.list_for self.old.station.cycles.queue request) ≡ 16) }
+    {
+        push(&mut self.core.kept.cycles.queue, request)
     }
 
     /// The station after its turn at a moment, at most 2^61, with some unread marks, none of them of a later

@@ -1,6 +1,7 @@
 ghost use Rattle.std.specs.Prelude.{◌≡◌, true, IfOk};
 ghost use Rattle.pb_station.specs.MarkViews.{AreOver};
 
+mod cycles;
 mod turns;
 
 use super::*;

@@ -1,22 +1,25 @@
 //! The timer of a station, and what follows when it ends.
 
-ghost use Rattle.std.specs.Prelude.{◌≡◌, ◌+◌, ◌≤◌, None};
+ghost use Rattle.std.specs.Prelude.{◌≡◌, ◌+◌, ◌≤◌, false, None};
 ghost use Rattle.pb_timers.specs.Timers.{tto};
 ghost use Rattle.pb_ring.specs.Las.{claimed};
 ghost use Rattle.pb_ring.specs.declared.gaps.Round.TheVariants.{Open};
 ghost use Rattle.pb_rotation.specs.Rotation.{fresh};
 ghost use Rattle.pb_turn.specs.Stations.{timer_of};
-ghost use Rattle.pb_turn.specs.Hearing.{not_taken, phase_timed_out, after_timer};
-ghost use Rattle.pb_tokenfsm.specs.Phases.{phase_of, tries_of};
+ghost use Rattle.pb_turn.specs.Phases as turn;
+ghost use Rattle.pb_turn.specs.Hearing.{not_taken, cycle_closed, not_answered, phase_timed_out, after_timer};
+ghost use Rattle.pb_tokenfsm.specs.Phases.{phase_of, was_asked, tries_of};
 ghost use Rattle.pb_station.specs.Cores.{with_phase, station_of};
+ghost use Rattle.pb_station.specs.Cycles.{cycles_of};
 
 use crate::cores::{Core, Kept};
+use crate::cycles::closed;
 use crate::lists::removed;
 use crate::moments::after;
 use pb_ring::{Gap, Las};
 use pb_rotation::Rotation;
 use pb_timers::{BusParams, Moment};
-use pb_tokenfsm::{Checking, Phase};
+use pb_tokenfsm::{AwaitData, Checking, Holding, Phase};
 
 /// How often the token is tried at a successor.
 const TRIES: u8 = 3;
@@ -53,6 +56,7 @@ pub(crate) fn timer(core: &Core, params: &BusParams) -> Option<Moment>
     }
     match &core.phase {
         Phase::Listening(_) | Phase::Idle(_) => Some(silence_timer(&core.kept, params)),
+        Phase::AwaitData(holder) if holder.slot() => Some(slot_timer(&core.kept, params)),
         Phase::AwaitStatus(holder) if holder.slot() => Some(slot_timer(&core.kept, params)),
         Phase::Checking(_) => Some(slot_timer(&core.kept, params)),
         _ => None,
@@ -91,6 +95,32 @@ fn not_taken(checking: Checking, kept: Kept, t: Moment) -> Core
     }
 }
 
+/// No answer came, and no retry is left: the request is given up, and the token used again.
+pub(crate) fn given_up(holder: Holding<AwaitData>, kept: Kept, ready: Moment) -> Core
+    ensures { station_of result ≡ record (with_phase kept (turn.Use (was_asked holder) ready)) { cycles = cycle_closed (cycles_of kept.cycles) None } }
+{
+    Core {
+        phase: Phase::Use(holder.on_outcome(ready)),
+        kept: Kept {
+            cycles: closed(kept.cycles),
+            ..kept
+        },
+    }
+}
+
+/// The slot of a request ended: the request is sent again, if a retry is left.
+fn not_answered(holder: Holding<AwaitData>, kept: Kept, t: Moment) -> Core
+    ensures { station_of result ≡ not_answered (with_phase kept (phase_of (Phase.AwaitData holder))) (was_asked holder) false t }
+{
+    if !kept.cycles.initiator.retry_left() {
+        return given_up(holder, kept, t);
+    }
+    Core {
+        phase: Phase::AwaitData(holder.on_silence(t)),
+        kept,
+    }
+}
+
 /// The station after the timer of its phase has ended at a moment.
 fn timed_out(core: Core, t: Moment) -> Core
     ensures { station_of result ≡ phase_timed_out (station_of core) (phase_of core.phase) t }
@@ -105,6 +135,7 @@ fn timed_out(core: Core, t: Moment) -> Core
             phase: Phase::Claim(idle.on_timeout(t)),
             kept: alone(kept),
         },
+        Phase::AwaitData(holder) => not_answered(holder, kept, t),
         Phase::AwaitStatus(holder) => Core {
             phase: Phase::Use(holder.on_outcome(t)),
             kept,

@@ -249,7 +249,8 @@ impl BusParams {
 
     /// How often a request is sent again.
     pub fn retries(&self) -> u32
-        ensures { result ≡ self.now.retries }
+        ensures value { result ≡ self.now.retries }
+        ensures valid { IsValid self.now }
     {
         self.retries
     }

@@ -8,6 +8,7 @@ use Rattle.pb_tokenfsm.specs.declared.waiting.Listening.{Listening}
 use Rattle.pb_tokenfsm.specs.declared.waiting.Idle.{Idle}
 use Rattle.pb_tokenfsm.specs.declared.states.Claim.{Claim}
 use Rattle.pb_tokenfsm.specs.declared.states.Use.{Use}
+use Rattle.pb_tokenfsm.specs.declared.states.AwaitData.{AwaitData}
 use Rattle.pb_tokenfsm.specs.declared.states.AwaitStatus.{AwaitStatus}
 use Rattle.pb_tokenfsm.specs.declared.states.Holding.{Holding}
 
@@ -19,6 +20,7 @@ phase_of (phase.Listening s) = turn.Listening s.doubled
 phase_of (phase.Idle s) = turn.Idle s.refused
 phase_of (phase.Claim h) = turn.Claim h.state.sent h.state.ready
 phase_of (phase.Use h) = turn.Use h.state.asked h.state.ready
+phase_of (phase.AwaitData h) = turn.AwaitData h.state.asked h.state.retry h.state.slot
 phase_of (phase.AwaitStatus h) = turn.AwaitStatus h.state.of h.state.slot
 phase_of (phase.Pass h) = turn.Pass h.state.tries h.state.ready
 phase_of (phase.Checking s) = turn.Checking s.tries
@@ -40,6 +42,18 @@ claims_sent h = h.state.sent
 -- whether a station was asked for its status since the receipt of the token
 abbrev pub has_asked : Holding Use → Bool
 has_asked h = h.state.asked
+
+-- the same, while the station waits for a reply
+abbrev pub was_asked : Holding AwaitData → Bool
+was_asked h = h.state.asked
+
+-- when the request is sent again, if it is
+abbrev pub retry_at : Holding AwaitData → Option ℕ
+retry_at h = h.state.retry
+
+-- whether the slot of a request still runs
+abbrev pub has_data_slot : Holding AwaitData → Bool
+has_data_slot h = h.state.slot
 
 -- the station that was asked for its status
 abbrev pub asked_station : Holding AwaitStatus → ℕ
@@ -67,6 +81,7 @@ name_of (phase.Listening s) = codes "Listening"
 name_of (phase.Idle s) = codes "Idle"
 name_of (phase.Claim h) = codes "Claim"
 name_of (phase.Use h) = codes "Use"
+name_of (phase.AwaitData h) = codes "AwaitData"
 name_of (phase.AwaitStatus h) = codes "AwaitStatus"
 name_of (phase.Pass h) = codes "Pass"
 name_of (phase.Checking s) = codes "Checking"

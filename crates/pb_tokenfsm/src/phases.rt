@@ -2,7 +2,7 @@ ghost use Rattle.std.specs.Prelude.{◌≡◌};
 ghost use Rattle.pb_turn.specs.Phases.{may_initiate};
 ghost use Rattle.pb_tokenfsm.specs.Phases.{phase_of, name_of};
 
-use crate::states::{AwaitStatus, Checking, Claim, Holding, Pass, Use};
+use crate::states::{AwaitData, AwaitStatus, Checking, Claim, Holding, Pass, Use};
 use crate::waiting::{Idle, Listening, Offline, PassiveIdle};
 
 /// The state that a station is in (IEC 61158-4-3, states of the data link layer of a master).
@@ -20,6 +20,8 @@ pub enum Phase {
     Claim(Holding<Claim>),
     /// It uses the token.
     Use(Holding<Use>),
+    /// It has sent a request, and waits for the reply.
+    AwaitData(Holding<AwaitData>),
     /// It has asked a station for its status.
     AwaitStatus(Holding<AwaitStatus>),
     /// It passes the token.
@@ -35,7 +37,8 @@ impl Phase {
         ensures { result ≡ may_initiate (phase_of self.now) }
     {
         match self {
-            Phase::Claim(_) | Phase::Use(_) | Phase::AwaitStatus(_) | Phase::Pass(_) => true,
+            Phase::Claim(_) | Phase::Use(_) => true,
+            Phase::AwaitData(_) | Phase::AwaitStatus(_) | Phase::Pass(_) => true,
             Phase::Offline(_)
             | Phase::PassiveIdle(_)
             | Phase::Listening(_)
@@ -55,6 +58,7 @@ impl Phase {
             Phase::Idle(_) => "Idle",
             Phase::Claim(_) => "Claim",
             Phase::Use(_) => "Use",
+            Phase::AwaitData(_) => "AwaitData",
             Phase::AwaitStatus(_) => "AwaitStatus",
             Phase::Pass(_) => "Pass",
             Phase::Checking(_) => "Checking",
@@ -72,6 +76,7 @@ impl Phase {
             Phase::Idle(idle) => Phase::Idle(idle.copy()),
             Phase::Claim(holder) => Phase::Claim(holder.copy()),
             Phase::Use(holder) => Phase::Use(holder.copy()),
+            Phase::AwaitData(holder) => Phase::AwaitData(holder.copy()),
             Phase::AwaitStatus(holder) => Phase::AwaitStatus(holder.copy()),
             Phase::Pass(holder) => Phase::Pass(holder.copy()),
             Phase::Checking(checking) => Phase::Checking(checking.copy()),

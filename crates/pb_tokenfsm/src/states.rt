@@ -1,10 +1,10 @@
 //! The states of a station that has the token, or has just passed it.
 
-ghost use Rattle.std.specs.Prelude.{◌≡◌, ℕ, Bool, true, false, max, Some, None};
+ghost use Rattle.std.specs.Prelude.{◌≡◌, ℕ, Bool, true, false, ◌&&◌, nat_lt, max, Some, None};
 ghost use Rattle.pb_telegram.specs.Grammar.{spelling};
 ghost use Rattle.pb_telegram.specs.Initiators.{IsInitiator};
 ghost use Rattle.pb_turn.specs.Phases as turn;
-ghost use Rattle.pb_tokenfsm.specs.Phases.{phase_of, claims_sent, has_asked, asked_station, has_slot, tries_of, is_noted, claim_sent, token_sent, not_taken, MayFollowDamage};
+ghost use Rattle.pb_tokenfsm.specs.Phases.{phase_of, claims_sent, has_asked, was_asked, retry_at, has_data_slot, asked_station, has_slot, tries_of, is_noted, claim_sent, token_sent, not_taken, MayFollowDamage};
 
 use crate::phases::Phase;
 use crate::waiting::Idle;
@@ -47,6 +47,17 @@ pub struct Use {
     asked: bool,
     /// The earliest moment at which it speaks.
     ready: Moment,
+}
+
+/// It has sent an SDA or SRD, and waits for the reply.
+#[derive(Clone, Copy, Debug)]
+pub struct AwaitData {
+    /// Whether a station was asked for its status since the receipt of the token.
+    asked: bool,
+    /// When the request is sent again, if it is.
+    retry: Option<Moment>,
+    /// Whether its slot still runs.
+    slot: bool,
 }
 
 /// It has asked a station for its status.
@@ -111,8 +122,7 @@ impl Holding<Claim> {
     /// A claim token is sent, and the station speaks again at `ready`: its second claim token after
     /// the first, and then as it uses the token.
     pub fn on_sent(self, ready: Moment) -> Phase
-        ensures phase { phase_of result ≡ claim_sent (claims_sent self) ready }
-        ensures fresh { is_noted result ≡ false }
+        ensures { phase_of result ≡ claim_sent (claims_sent self) ready }
     {
         let Holding {
             state: Claim { sent, ready: _ },
@@ -154,6 +164,24 @@ impl Holding<Use> {
         self.state.asked
     }
 
+    /// An SDA or SRD is sent, and its slot runs (EN 50170-2, message cycles).
+    pub fn ask(self) -> Holding<AwaitData>
+        ensures { phase_of (Phase.AwaitData result) ≡ turn.AwaitData (has_asked self) None true }
+    {
+        let Holding { state } = self;
+        Holding::awaiting(state.asked, None, true)
+    }
+
+    /// An SDN is sent, which nobody answers: the station speaks again at `ready`.
+    pub fn send(self, ready: Moment) -> Holding<Use>
+        ensures { phase_of (Phase.Use result) ≡ turn.Use (has_asked self) ready }
+    {
+        let Holding { state } = self;
+        Holding {
+            state: Use { ready, ..state },
+        }
+    }
+
     /// A station is asked for its status, and its slot runs (EN 50170-2, request FDL status).
     pub fn ask_status(self, of: u8) -> Holding<AwaitStatus>
         ensures { phase_of (Phase.AwaitStatus result) ≡ turn.AwaitStatus of true }
@@ -176,6 +204,86 @@ impl Holding<Use> {
         } = self;
         Holding {
             state: Pass { tries: 0, ready },
+        }
+    }
+}
+
+impl Holding<AwaitData> {
+    fn awaiting(asked: bool, retry: Option<Moment>, slot: bool) -> Holding<AwaitData>
+        ensures { phase_of (Phase.AwaitData result) ≡ turn.AwaitData asked retry slot }
+    {
+        Holding {
+            state: AwaitData { asked, retry, slot },
+        }
+    }
+
+    /// When the request is sent again, if it is.
+    pub fn retry(&self) -> Option<Moment>
+        ensures { result ≡ retry_at self.now }
+    {
+        self.state.retry
+    }
+
+    /// Whether its slot still runs.
+    pub fn slot(&self) -> bool
+        ensures { result ≡ has_data_slot self.now }
+    {
+        let AwaitData { slot, .. } = self.state;
+        slot
+    }
+
+    /// Activity has begun at `at`: the request is not sent again before its end. The slot is over, save
+    /// where the activity is older than the own telegram, which began at `own`.
+    pub fn on_activity(self, own: Moment, at: Moment) -> Holding<AwaitData>
+        ensures { phase_of (Phase.AwaitData result) ≡ turn.AwaitData (was_asked self) None (has_data_slot self && nat_lt at own) }
+    {
+        let Holding { state } = self;
+        let slot = state.slot && at.get() < own.get();
+        Holding::awaiting(state.asked, None, slot)
+    }
+
+    /// The slot ended in silence: the request is sent again at `ready`.
+    pub fn on_silence(self, ready: Moment) -> Holding<AwaitData>
+        ensures { phase_of (Phase.AwaitData result) ≡ turn.AwaitData (was_asked self) (Some ready) false }
+    {
+        let Holding { state } = self;
+        Holding::awaiting(state.asked, Some(ready), false)
+    }
+
+    /// Activity has ended that brought no reply: the request is sent again at `ready`.
+    pub fn on_damaged(self, ready: Moment) -> Holding<AwaitData>
+        ensures { phase_of (Phase.AwaitData result) ≡ turn.AwaitData (was_asked self) (Some ready) (has_data_slot self) }
+    {
+        let Holding { state } = self;
+        Holding::awaiting(state.asked, Some(ready), state.slot)
+    }
+
+    /// No retry is left: the request is not sent again, and no slot runs.
+    pub fn on_no_retry(self) -> Holding<AwaitData>
+        ensures { phase_of (Phase.AwaitData result) ≡ turn.AwaitData (was_asked self) None false }
+    {
+        let AwaitData { asked, .. } = self.state;
+        Holding::awaiting(asked, None, false)
+    }
+
+    /// The request was sent again, and its slot runs.
+    pub fn again(self) -> Holding<AwaitData>
+        ensures { phase_of (Phase.AwaitData result) ≡ turn.AwaitData (was_asked self) None true }
+    {
+        let AwaitData { asked, .. } = self.state;
+        Holding::awaiting(asked, None, true)
+    }
+
+    /// The request has an outcome: the station uses the token again, and speaks at `ready`.
+    pub fn on_outcome(self, ready: Moment) -> Holding<Use>
+        ensures { phase_of (Phase.Use result) ≡ turn.Use (was_asked self) ready }
+    {
+        let Holding { state } = self;
+        Holding {
+            state: Use {
+                asked: state.asked,
+                ready,
+            },
         }
     }
 }

@@ -118,6 +118,67 @@ fn a_status_is_asked_once(rt: HostRuntime) -> Result<(), Fail> {
     Ok(())
 }
 
+/// A station that has sent an SRD waits for the reply, sends it again after silence and after damage, and uses
+/// the token again once it has an outcome.
+#[test]
+fn a_request_is_sent_again_until_it_has_an_outcome(rt: HostRuntime) -> Result<(), Fail> {
+    let waiting = holder()?.ask();
+    assert!(rt; waiting.slot());
+    assert!(rt; waiting.retry().is_none());
+    let silent = waiting.on_silence(at(1066)?);
+    assert!(rt; !silent.slot());
+    assert_eq!(rt; silent.retry(), Some(at(1066)?));
+    let request = Telegram::Short(ShortTelegram {
+        da: 7,
+        sa: 1,
+        fc: 0x6d,
+    });
+    let octets = [0x10, 7, 1, 0x6d, 0x75, 0x16];
+    assert_eq!(rt; silent.initiate(&request).as_slice(), octets.as_slice());
+    let waiting = silent.again();
+    assert!(rt; waiting.slot());
+    assert!(rt; waiting.retry().is_none());
+    let damaged = waiting
+        .on_activity(at(1066)?, at(1143)?)
+        .on_damaged(at(1301)?);
+    assert!(rt; !damaged.slot());
+    assert_eq!(rt; damaged.retry(), Some(at(1301)?));
+    let heard = damaged.on_activity(at(1066)?, at(1290)?);
+    assert!(rt; heard.retry().is_none());
+    let holder = heard.on_outcome(at(1410)?);
+    assert!(rt; !holder.asked());
+    assert_eq!(rt; holder.ready().get(), 1410);
+    Ok(())
+}
+
+/// Activity from before the own telegram leaves the slot as it is.
+#[test]
+fn a_slot_outlasts_older_activity(rt: HostRuntime) -> Result<(), Fail> {
+    let waiting = holder()?.ask().on_activity(at(900)?, at(899)?);
+    assert!(rt; waiting.slot());
+    let waiting = waiting.on_damaged(at(1000)?).on_no_retry();
+    assert!(rt; !waiting.slot());
+    assert!(rt; waiting.retry().is_none());
+    let phase = Phase::AwaitData(waiting);
+    assert_eq!(rt; phase.name(), "AwaitData");
+    assert!(rt; phase.may_initiate());
+    assert!(rt; phase.copy().may_initiate());
+    Ok(())
+}
+
+/// An SDN is not answered, and the station speaks again; of what it asked it knows as before.
+#[test]
+fn a_station_goes_on_after_an_sdn(rt: HostRuntime) -> Result<(), Fail> {
+    let holder = holder()?.send(at(1026)?);
+    assert!(rt; !holder.asked());
+    assert_eq!(rt; holder.ready().get(), 1026);
+    let holder = holder.ask_status(2).on_outcome(at(1190)?).send(at(1316)?);
+    assert!(rt; holder.asked());
+    let holder = holder.ask().on_outcome(at(1500)?);
+    assert!(rt; holder.asked());
+    Ok(())
+}
+
 /// That station after it has passed the token to station 2.
 fn checking() -> Result<Checking, Fail> {
     match holder()?.done().on_sent(2, 1, at(1010)?) {

@@ -2,7 +2,7 @@
 
 ghost use Rattle.std.specs.Prelude.{◌≡◌, true, false, Some, None};
 ghost use Rattle.pb_turn.specs.Phases as turn;
-ghost use Rattle.pb_tokenfsm.specs.Phases.{phase_of, refused_by, is_doubled, is_noted, token_heard};
+ghost use Rattle.pb_tokenfsm.specs.Phases.{phase_of, refused_by, is_doubled, token_heard};
 
 use crate::phases::Phase;
 use crate::states::{Claim, Holding, Use};
@@ -110,8 +110,7 @@ impl Idle {
     /// (EN 50170-2, token passing); the station speaks at `ready` then. From another station it is
     /// not accepted, and that station is remembered.
     pub fn hear_token(self, token: &TokenTelegram, ts: u8, ps: u8, ready: Moment) -> Phase
-        ensures phase { phase_of result ≡ token_heard (refused_by self) token.now.da token.now.sa ts ps ready }
-        ensures fresh { is_noted result ≡ false }
+        ensures { phase_of result ≡ token_heard (refused_by self) token.now.da token.now.sa ts ps ready }
     {
         if token.da != ts {
             return Phase::Idle(self);

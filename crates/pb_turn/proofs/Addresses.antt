@@ -1,23 +1,33 @@
 -- A turn never changes the address of a station.
 use Rattle.std.proofs.Common.{◌≡◌, ◌∙◌, refl, ℕ, ◌+◌, ◌==◌, nat_lt, nat_le, Bool, true, false, List, [], ◌∷◌, Option, Some, None}
+use Rattle.std.specs.Prelude.{is_some, max}
 use Rattle.pb_timers.specs.Timers.{Params}
 use Rattle.pb_ring.specs.Gap.{last_asked, next_asked, round_after}
 use Rattle.pb_cycles.specs.Messages.{has_bit}
+use Rattle.pb_cycles.specs.Initiating.{retry_of, outcome_of}
 use Rattle.pb_cycles.specs.Outcomes.{status_reply}
+use Rattle.pb_cycles.specs.Fields.{Fields}
+use Rattle.pb_cycles.specs.RequestFields.{RequestFields}
+use Rattle.pb_cycles.specs.Requests.{is_answered}
+use Rattle.pb_cycles.specs.declared.messages.Message.{Message}
+use Rattle.pb_cycles.specs.declared.outcomes.Outcome.{Outcome}
 use Rattle.pb_cycles.specs.declared.messages.Message.TheVariants as message
 use Rattle.pb_ring.specs.Las.{place_of, skips_of}
 use Rattle.pb_turn.specs.Arrivals.{Arrival, Token, Framed, Acknowledgement, NoTelegram, arrival_of}
-use Rattle.pb_turn.specs.Hearing.{phase_timed_out, timed_out, after_timer, tries_limit, listening_hears, is_taken_from, skips_limit, own_token, foreign_token, idle_hears, holder_hears, status_told, awaiting_status_hears, checking_hears, with_token, lost, phase_ended, heard, after_mark}
+use Rattle.pb_turn.specs.Hearing.{not_answered, passive_hears, data_told, awaiting_data_hears, phase_timed_out, timed_out, after_timer, tries_limit, listening_hears, is_taken_from, skips_limit, own_token, foreign_token, idle_hears, holder_hears, status_told, awaiting_status_hears, checking_hears, with_token, lost, phase_ended, heard, after_mark}
 use Rattle.pb_turn.specs.Marks.{Mark, Begin, End, moment_of}
-use Rattle.pb_turn.specs.Phases.{Phase, Offline, PassiveIdle, Listening, Idle, Claim, Use, AwaitStatus, Pass, Checking, is_offline}
+use Rattle.pb_turn.specs.Phases.{Phase, Offline, PassiveIdle, Listening, Idle, Claim, Use, AwaitData, AwaitStatus, Pass, Checking, is_offline}
 use Rattle.pb_turn.specs.Stations.{Station, Reply, timer_of, speaks_at, next_station, previous_station}
-use Rattle.pb_turn.specs.Turns.{after_marks, settled, saying, received_own, says_token, says_claim, looks_at_gap, says_look, says_in_use, replying, joining, says_reply, says_ready, phase_says, speech, turn_of, token_octets}
+use Rattle.pb_turn.specs.Turns.{after_marks, settled, saying, received_own, says_token, says_claim, looks_at_gap, says_look, says_no_request, high_request, low_request, high_taken, low_taken, says_request, says_low, says_high, says_in_use, says_again, replying, joining, says_reply, says_ready, phase_says, speech, turn_of, token_octets}
 use Rattle.pb_turn.proofs.Cases.{by_test}
 
 abbrev Has : ℕ → Station → Type 0
 Has a s = s.address ≡ a
 
 -- ---- timers
+
+unanswered : (s : Station) (asked slot : Bool) (ready : ℕ) → Has s.address (not_answered s asked slot ready)
+unanswered s asked slot ready = by_test (Has s.address) (is_some (retry_of s.cycles.initiator.pending)) _ _ (λ _. refl) (λ _. refl)
 
 timed : (s : Station) (ph : Phase) (t : ℕ) → Has s.address (phase_timed_out s ph t)
 timed s Offline t = refl
@@ -26,6 +36,7 @@ timed s (Listening doubled) t = refl
 timed s (Idle refused) t = refl
 timed s (Claim sent ready) t = refl
 timed s (Use asked ready) t = refl
+timed s (AwaitData asked retry slot) t = unanswered s asked false t
 timed s (AwaitStatus of slot) t = refl
 timed s (Pass tries ready) t = refl
 timed s (Checking tries) t = by_test (Has s.address) (nat_le tries_limit tries) _ _ (λ _. refl) (λ _. refl)
@@ -77,6 +88,25 @@ awaiting p s of at (Framed f) =
 awaiting p s of at Acknowledgement = refl
 awaiting p s of at NoTelegram = refl
 
+data_told-address : (p : Params) (s : Station) (asked slot : Bool) (at : ℕ) (m : Message) (outcome : Option Outcome) → Has s.address (data_told p s asked slot at m outcome)
+data_told-address p s asked slot at m (Some outcome) = refl
+data_told-address p s asked slot at m None = unanswered s asked slot (max at s.own.end + p.tid1)
+
+awaiting-data : (p : Params) (s : Station) (asked slot : Bool) (at : ℕ) (arrival : Arrival) → Has s.address (awaiting_data_hears p s asked slot at arrival)
+awaiting-data p s asked slot at (Token da sa) = refl
+awaiting-data p s asked slot at (Framed f) =
+    by_test (Has s.address) (has_bit f.fc 6) (lost s) _ (λ _. refl)
+    (λ _. data_told-address p s asked slot at (message.Framed f) (outcome_of s.cycles.initiator (Some (message.Framed f))))
+awaiting-data p s asked slot at Acknowledgement =
+    data_told-address p s asked slot at message.Acknowledgement (outcome_of s.cycles.initiator (Some message.Acknowledgement))
+awaiting-data p s asked slot at NoTelegram = unanswered s asked slot (max at s.own.end + p.tid1)
+
+passive : (p : Params) (s : Station) (at : ℕ) (arrival : Arrival) → Has s.address (passive_hears p s at arrival)
+passive p s at (Token da sa) = refl
+passive p s at (Framed f) = refl
+passive p s at Acknowledgement = refl
+passive p s at NoTelegram = refl
+
 checking : (p : Params) (again : Bool) (s : Station) (tries at : ℕ) (arrival : Arrival) → Has s.address (checking_hears p again s tries at arrival)
 checking p again s tries at (Token da sa) = idle p (lost s) None at (Token da sa)
 checking p again s tries at (Framed f) = idle p (lost s) None at (Framed f)
@@ -86,11 +116,12 @@ checking p false s tries at NoTelegram = refl
 
 ended-in : (p : Params) (again : Bool) (s : Station) (ph : Phase) (at : ℕ) (arrival : Arrival) → Has s.address (phase_ended p again s ph at arrival)
 ended-in p again s Offline at arrival = refl
-ended-in p again s PassiveIdle at arrival = refl
+ended-in p again s PassiveIdle at arrival = passive p s at arrival
 ended-in p again s (Listening doubled) at arrival = listening p s doubled at arrival
 ended-in p again s (Idle refused) at arrival = idle p s refused at arrival
 ended-in p again s (Claim sent ready) at arrival = holder s arrival
 ended-in p again s (Use asked ready) at arrival = holder s arrival
+ended-in p again s (AwaitData asked retry slot) at arrival = awaiting-data p s asked slot at arrival
 ended-in p again s (AwaitStatus of slot) at arrival = awaiting p s of at arrival
 ended-in p again s (Pass tries ready) at arrival = holder s arrival
 ended-in p again s (Checking tries) at arrival = checking p again s tries at arrival
@@ -126,10 +157,28 @@ look : (p : Params) (s : Station) (a : Option ℕ) (now : ℕ) → Says s.addres
 look p s None now = token p (record s { gap = round_after None now }) 0 now
 look p s (Some a) now = refl
 
-uses : (p : Params) (s : Station) (asked : Bool) (now : ℕ) → Says s.address (says_in_use p s asked now)
-uses p s asked now =
+no_request : (p : Params) (s : Station) (asked : Bool) (now : ℕ) → Says s.address (says_no_request p s asked now)
+no_request p s asked now =
     by_test (Says s.address) (looks_at_gap p s asked now) _ _
     (λ _. look p s (next_asked s.address (next_station s) p.hsa (last_asked s.gap)) now) (λ _. token p s 0 now)
+
+request : (p : Params) (s : Station) (asked : Bool) (r : RequestFields) (now : ℕ) → Says s.address (says_request p s asked r now)
+request p s asked r now = by_test (Has s.address) (is_answered r.service) _ _ (λ _. refl) (λ _. refl)
+
+low : (p : Params) (s : Station) (asked : Bool) (r : Option RequestFields) (now : ℕ) → Says s.address (says_low p s asked r now)
+low p s asked None now = no_request p s asked now
+low p s asked (Some r) now = request p (low_taken s) asked r now
+
+high : (p : Params) (s : Station) (asked : Bool) (r : Option RequestFields) (now : ℕ) → Says s.address (says_high p s asked r now)
+high p s asked None now = low p s asked (low_request s now) now
+high p s asked (Some r) now = request p (high_taken s) asked r now
+
+uses : (p : Params) (s : Station) (asked : Bool) (now : ℕ) → Says s.address (says_in_use p s asked now)
+uses p s asked now = high p s asked (high_request s now) now
+
+again : (s : Station) (asked : Bool) (f : Option Fields) (now : ℕ) → Says s.address (says_again s asked f now)
+again s asked None now = refl
+again s asked (Some f) now = refl
 
 reply : (s : Station) (r : Option Reply) (now : ℕ) → Says s.address (says_reply s r now)
 reply s None now = refl
@@ -146,6 +195,7 @@ says p s (Listening doubled) now = ready s s.reply now
 says p s (Idle refused) now = reply s s.reply now
 says p s (Claim sent ready) now = claim p s sent now
 says p s (Use asked ready) now = uses p s asked now
+says p s (AwaitData asked retry slot) now = again s asked (retry_of s.cycles.initiator.pending) now
 says p s (AwaitStatus of slot) now = refl
 says p s (Pass tries ready) now = token p s tries now
 says p s (Checking tries) now = refl

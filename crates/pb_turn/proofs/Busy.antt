@@ -1,19 +1,25 @@
 -- A station that is busy says nothing.
 use Rattle.std.proofs.Common.{◌≡◌, ◌∙◌, ℕ, ◌+◌, ◌==◌, List, [], ◌∷◌, Bool, true, false, if◌then◌else◌, refl, ap, sym, Option, Some, None}
-use Rattle.std.specs.Prelude.{nat_le, nat_lt}
+use Rattle.std.specs.Prelude.{is_some, nat_le, nat_lt, max}
 use Rattle.pb_timers.specs.Timers.{Params}
 use Rattle.pb_ring.specs.Gap.{next_asked, last_asked, round_after}
 use Rattle.pb_ring.specs.Las.{place_of, skips_of}
 use Rattle.pb_cycles.specs.Messages.{has_bit}
+use Rattle.pb_cycles.specs.Fields.{Fields}
+use Rattle.pb_cycles.specs.Initiating.{retry_of, outcome_of}
 use Rattle.pb_cycles.specs.Outcomes.{status_reply}
+use Rattle.pb_cycles.specs.RequestFields.{RequestFields}
+use Rattle.pb_cycles.specs.Requests.{is_answered}
+use Rattle.pb_cycles.specs.declared.messages.Message.{Message}
+use Rattle.pb_cycles.specs.declared.outcomes.Outcome.{Outcome}
 use Rattle.pb_cycles.specs.declared.messages.Message.TheVariants as message
 use Rattle.pb_turn.specs.Arrivals.{Arrival, Token, Framed, Acknowledgement, NoTelegram, arrival_of}
-use Rattle.pb_turn.specs.Hearing.{timed_out, after_timer, phase_timed_out, phase_begun, listening_hears, taking, is_taken_from, skips_limit, token_in_idle, idle_hears, holder_hears, status_told, awaiting_status_hears, checking_hears, with_token, lost, phase_ended, heard, after_mark}
+use Rattle.pb_turn.specs.Hearing.{not_answered, passive_hears, data_told, awaiting_data_hears, timed_out, after_timer, phase_timed_out, phase_begun, listening_hears, taking, is_taken_from, skips_limit, token_in_idle, idle_hears, holder_hears, status_told, awaiting_status_hears, checking_hears, with_token, lost, phase_ended, heard, after_mark}
 use Rattle.pb_turn.specs.Laws.{IsSilentWhileBusy}
 use Rattle.pb_turn.specs.Marks.{Mark, Begin, End, moment_of}
-use Rattle.pb_turn.specs.Phases.{Phase, Offline, PassiveIdle, Listening, Idle, Claim, Use, AwaitStatus, Pass, Checking, is_offline}
+use Rattle.pb_turn.specs.Phases.{Phase, Offline, PassiveIdle, Listening, Idle, Claim, Use, AwaitData, AwaitStatus, Pass, Checking, is_offline}
 use Rattle.pb_turn.specs.Stations.{Station, Reply, phase_timer, timer_of, phase_speaks, speaks_at, next_station, previous_station, started}
-use Rattle.pb_turn.specs.Turns.{after_marks, settled, saying, received_own, says_token, looks_at_gap, says_look, replying, joining, says_reply, says_ready, phase_says, speech, turn_of, token_octets}
+use Rattle.pb_turn.specs.Turns.{after_marks, settled, saying, received_own, says_token, looks_at_gap, says_look, says_no_request, high_request, low_request, high_taken, low_taken, says_request, says_low, says_high, says_again, replying, joining, says_reply, says_ready, phase_says, speech, turn_of, token_octets}
 use Rattle.pb_turn.proofs.Cases.{by_test}
 use Rattle.pb_turn.proofs.Paths.{at_end}
 
@@ -58,6 +64,28 @@ busy-awaiting p s of at (Framed f) =
 busy-awaiting p s of at Acknowledgement = refl
 busy-awaiting p s of at NoTelegram = refl
 
+busy-not_answered : (s : Station) (asked slot : Bool) (ready : ℕ) → Busy s.busy (not_answered s asked slot ready)
+busy-not_answered s asked slot ready = by_test (Busy s.busy) (is_some (retry_of s.cycles.initiator.pending)) _ _ (λ _. refl) (λ _. refl)
+
+busy-data_told : (p : Params) (s : Station) (asked slot : Bool) (at : ℕ) (m : Message) (outcome : Option Outcome) → Busy s.busy (data_told p s asked slot at m outcome)
+busy-data_told p s asked slot at m (Some outcome) = refl
+busy-data_told p s asked slot at m None = busy-not_answered s asked slot (max at s.own.end + p.tid1)
+
+busy-awaiting_data : (p : Params) (s : Station) (asked slot : Bool) (at : ℕ) (a : Arrival) → Busy s.busy (awaiting_data_hears p s asked slot at a)
+busy-awaiting_data p s asked slot at (Token da sa) = refl
+busy-awaiting_data p s asked slot at (Framed f) =
+    by_test (Busy s.busy) (has_bit f.fc 6) (lost s) _ (λ _. refl)
+    (λ _. busy-data_told p s asked slot at (message.Framed f) (outcome_of s.cycles.initiator (Some (message.Framed f))))
+busy-awaiting_data p s asked slot at Acknowledgement =
+    busy-data_told p s asked slot at message.Acknowledgement (outcome_of s.cycles.initiator (Some message.Acknowledgement))
+busy-awaiting_data p s asked slot at NoTelegram = busy-not_answered s asked slot (max at s.own.end + p.tid1)
+
+busy-passive : (p : Params) (s : Station) (at : ℕ) (a : Arrival) → Busy s.busy (passive_hears p s at a)
+busy-passive p s at (Token da sa) = refl
+busy-passive p s at (Framed f) = refl
+busy-passive p s at Acknowledgement = refl
+busy-passive p s at NoTelegram = refl
+
 busy-checking : (p : Params) (again : Bool) (s : Station) (tries at : ℕ) (a : Arrival) → Busy s.busy (checking_hears p again s tries at a)
 busy-checking p again s tries at (Token da sa) = busy-idle_hears p (lost s) None at (Token da sa)
 busy-checking p again s tries at (Framed f) = refl
@@ -66,24 +94,26 @@ busy-checking p again s tries at NoTelegram = by_test (Busy s.busy) again _ (los
 
 busy-ended : (p : Params) (again : Bool) (s : Station) (ph : Phase) (at : ℕ) (a : Arrival) → Busy s.busy (phase_ended p again s ph at a)
 busy-ended p again s Offline at a = refl
-busy-ended p again s PassiveIdle at a = refl
+busy-ended p again s PassiveIdle at a = busy-passive p s at a
 busy-ended p again s (Listening doubled) at a = busy-listening_hears p s doubled at a
 busy-ended p again s (Idle refused) at a = busy-idle_hears p s refused at a
 busy-ended p again s (Claim sent ready) at a = busy-holder_hears s a
 busy-ended p again s (Use asked ready) at a = busy-holder_hears s a
+busy-ended p again s (AwaitData asked retry slot) at a = busy-awaiting_data p s asked slot at a
 busy-ended p again s (AwaitStatus of slot) at a = busy-awaiting p s of at a
 busy-ended p again s (Pass tries ready) at a = busy-holder_hears s a
 busy-ended p again s (Checking tries) at a = busy-checking p again s tries at a
 
 -- ---- marks and timers
 
-silent-begun : (ph : Phase) (own at : ℕ) → phase_speaks None (phase_begun ph own at) ≡ None
+pub silent-begun : (ph : Phase) (own at : ℕ) → phase_speaks None (phase_begun ph own at) ≡ None
 silent-begun Offline own at = refl
 silent-begun PassiveIdle own at = refl
 silent-begun (Listening doubled) own at = refl
 silent-begun (Idle refused) own at = refl
 silent-begun (Claim sent ready) own at = refl
 silent-begun (Use asked ready) own at = refl
+silent-begun (AwaitData asked retry slot) own at = refl
 silent-begun (AwaitStatus of slot) own at = refl
 silent-begun (Pass tries ready) own at = refl
 silent-begun (Checking tries) own at = refl
@@ -108,6 +138,7 @@ busy-phase_timed_out s (Listening doubled) t = refl
 busy-phase_timed_out s (Idle refused) t = refl
 busy-phase_timed_out s (Claim sent ready) t = refl
 busy-phase_timed_out s (Use asked ready) t = refl
+busy-phase_timed_out s (AwaitData asked retry slot) t = busy-not_answered s asked false t
 busy-phase_timed_out s (AwaitStatus of slot) t = refl
 busy-phase_timed_out s (Pass tries ready) t = refl
 busy-phase_timed_out s (Checking tries) t = by_test (Busy s.busy) _ _ _ (λ _. refl) (λ _. refl)
@@ -144,6 +175,26 @@ busy-says_look : (p : Params) (s : Station) (next : Option ℕ) (now : ℕ) → 
 busy-says_look p s None now = busy-says_token p (record s { gap = round_after None now }) 0 now
 busy-says_look p s (Some a) now = refl
 
+busy-says_no_request : (p : Params) (s : Station) (asked : Bool) (now : ℕ) → Busy s.busy (says_no_request p s asked now).0
+busy-says_no_request p s asked now =
+    by_test (λ (turn : Station × Option (List ℕ)). Busy s.busy turn.0) (looks_at_gap p s asked now) _ _
+    (λ _. busy-says_look p s (next_asked s.address (next_station s) p.hsa (last_asked s.gap)) now) (λ _. busy-says_token p s 0 now)
+
+busy-says_request : (p : Params) (s : Station) (asked : Bool) (r : RequestFields) (now : ℕ) → Busy s.busy (says_request p s asked r now).0
+busy-says_request p s asked r now = by_test (Busy s.busy) (is_answered r.service) _ _ (λ _. refl) (λ _. refl)
+
+busy-says_low : (p : Params) (s : Station) (asked : Bool) (r : Option RequestFields) (now : ℕ) → Busy s.busy (says_low p s asked r now).0
+busy-says_low p s asked None now = busy-says_no_request p s asked now
+busy-says_low p s asked (Some r) now = busy-says_request p (low_taken s) asked r now
+
+busy-says_high : (p : Params) (s : Station) (asked : Bool) (r : Option RequestFields) (now : ℕ) → Busy s.busy (says_high p s asked r now).0
+busy-says_high p s asked None now = busy-says_low p s asked (low_request s now) now
+busy-says_high p s asked (Some r) now = busy-says_request p (high_taken s) asked r now
+
+busy-says_again : (s : Station) (asked : Bool) (f : Option Fields) (now : ℕ) → Busy s.busy (says_again s asked f now).0
+busy-says_again s asked None now = refl
+busy-says_again s asked (Some f) now = refl
+
 busy-says_reply : (s : Station) (o : Option Reply) (now : ℕ) → Busy s.busy (says_reply s o now).0
 busy-says_reply s None now = refl
 busy-says_reply s (Some r) now = refl
@@ -160,9 +211,8 @@ busy-phase_says p s (Listening doubled) now = busy-says_ready s s.reply now
 busy-phase_says p s (Idle refused) now = busy-says_reply s s.reply now
 busy-phase_says p s (Claim sent ready) now =
     let x = saying s now (token_octets s.address s.address) in by_test (Busy s.busy) (sent == 0) _ (received_own p x) (λ _. refl) (λ _. refl)
-busy-phase_says p s (Use asked ready) now =
-    by_test (λ (turn : Station × Option (List ℕ)). Busy s.busy turn.0) (looks_at_gap p s asked now) _ _
-    (λ _. busy-says_look p s (next_asked s.address (next_station s) p.hsa (last_asked s.gap)) now) (λ _. busy-says_token p s 0 now)
+busy-phase_says p s (Use asked ready) now = busy-says_high p s asked (high_request s now) now
+busy-phase_says p s (AwaitData asked retry slot) now = busy-says_again s asked (retry_of s.cycles.initiator.pending) now
 busy-phase_says p s (AwaitStatus of slot) now = refl
 busy-phase_says p s (Pass tries ready) now = busy-says_token p s tries now
 busy-phase_says p s (Checking tries) now = refl

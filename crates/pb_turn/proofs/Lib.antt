@@ -1,9 +1,14 @@
+pub mod Acts
 pub mod Addresses
 pub mod Busy
 pub mod Cases
 pub mod Initiating
+pub mod Keeping
 pub mod Moments
 pub mod Paths
 pub mod Numbers
+pub mod Octets
+pub mod Requesting
+pub mod Retrying
 pub mod Saying
 pub mod Standing

@@ -1,17 +1,23 @@
 -- What a turn does to the moments at which a station acts.
 use Rattle.std.proofs.Common.{◌≡◌, ℕ, ◌+◌, ◌<◌, ◌≤◌, List, [], ◌∷◌, length, Bool, true, false, if◌then◌else◌, ◌==◌, ◌⊎◌, inl, inr, refl, ap, sym, ◌∙◌, subst, arith, Option, Some, None}
-use Rattle.std.specs.Prelude.{IfSome, nat_lt, nat_le, max}
+use Rattle.std.specs.Prelude.{IfSome, is_some, nat_lt, nat_le, max}
 use Rattle.std.proofs.lemmas.Bool.{ltb-false, leb-false, leb-true, le-ltb, lt-ltb, lt-leb, le-leb}
 use Rattle.pb_timers.specs.Timers.{Params, bits, tto}
 use Rattle.pb_ring.specs.Gap.{next_asked, last_asked, round_after}
 use Rattle.pb_ring.specs.Las as las
+use Rattle.pb_cycles.specs.Fields.{Fields}
+use Rattle.pb_cycles.specs.Initiating.{first_sending, retry_of}
+use Rattle.pb_cycles.specs.Messages.{frame_octets}
+use Rattle.pb_cycles.specs.RequestFields.{RequestFields}
+use Rattle.pb_cycles.specs.Requests.{is_answered}
 use Rattle.pb_turn.specs.Hearing.{phase_timed_out, timed_out, after_timer, after_mark, tries_limit}
 use Rattle.pb_turn.specs.Laws.{IsDueLater}
 use Rattle.pb_turn.specs.Marks.{Mark, moment_of}
-use Rattle.pb_turn.specs.Phases.{Phase, Offline, PassiveIdle, Listening, Idle, Claim, Use, AwaitStatus, Pass, Checking}
+use Rattle.pb_turn.specs.Phases.{Phase, Offline, PassiveIdle, Listening, Idle, Claim, Use, AwaitData, AwaitStatus, Pass, Checking}
 use Rattle.pb_turn.specs.Stations.{Station, Reply, phase_timer, timer_of, phase_speaks, speaks_at, earlier, next_station}
-use Rattle.pb_turn.specs.Turns.{after_marks, settled, saying, received_own, token_sent, says_token, says_claim, looks_at_gap, says_look, says_in_use, joining, replying, says_reply, says_ready, phase_says, speech, turn_of, token_octets, status_request_octets}
+use Rattle.pb_turn.specs.Turns.{after_marks, settled, saying, received_own, token_sent, says_token, says_claim, looks_at_gap, says_look, says_no_request, high_request, low_request, high_taken, low_taken, says_request, says_low, says_high, says_in_use, says_again, joining, replying, says_reply, says_ready, phase_says, speech, turn_of, token_octets, status_request_octets}
 use Rattle.pb_turn.proofs.Cases.{by_test, earlier-later, later-earlier}
+use Rattle.pb_turn.proofs.Octets.{frame-some}
 
 -- a moment that lies after the clock, if there is one
 abbrev IsLater : ℕ → Option ℕ → Type 0
@@ -28,6 +34,8 @@ no_timer-timed_out p s (Listening doubled) t = refl
 no_timer-timed_out p s (Idle refused) t = refl
 no_timer-timed_out p s (Claim sent ready) t = refl
 no_timer-timed_out p s (Use asked ready) t = refl
+no_timer-timed_out p s (AwaitData asked retry slot) t =
+    by_test (λ (y : Station). phase_timer p y y.phase ≡ None) (is_some (retry_of s.cycles.initiator.pending)) _ _ (λ _. refl) (λ _. refl)
 no_timer-timed_out p s (AwaitStatus of slot) t = refl
 no_timer-timed_out p s (Pass tries ready) t = refl
 no_timer-timed_out p s (Checking tries) t =
@@ -82,11 +90,35 @@ later-says_look : (p : Params) (s : Station) (next : Option ℕ) (now : ℕ) →
 later-says_look p s None now = later-says_token p (record s { gap = round_after None now }) 0 now
 later-says_look p s (Some a) now = later-timer now s.busy (now + bits (length (status_request_octets a s.address)) + p.tsl) (omega arith)
 
-later-says_in_use : (p : Params) (s : Station) (asked : Bool) (now : ℕ) → IsDueLater p (says_in_use p s asked now).0 now
-later-says_in_use p s asked now =
+later-says_no_request : (p : Params) (s : Station) (asked : Bool) (now : ℕ) → IsDueLater p (says_no_request p s asked now).0 now
+later-says_no_request p s asked now =
     by_test (λ (turn : Station × Option (List ℕ)). IsDueLater p turn.0 now) (looks_at_gap p s asked now) _ _
     (λ _. later-says_look p s (next_asked s.address (next_station s) p.hsa (last_asked s.gap)) now)
     (λ _. later-says_token p s 0 now)
+
+later-says_request : (p : Params) (s : Station) (asked : Bool) (r : RequestFields) (now : ℕ) → IsDueLater p (says_request p s asked r now).0 now
+later-says_request p s asked r now =
+    let f = first_sending s.cycles.initiator s.address r in
+    let some = frame-some f in
+    by_test (λ (x : Station). IsDueLater p x now) (is_answered r.service) _ _
+    (λ _. later-timer now s.busy (now + bits (length (frame_octets f)) + p.tsl) (omega (arith, some)))
+    (λ _. later-ready p now s.busy (now + bits (length (frame_octets f)) + p.tid2) (omega (arith, some)))
+
+later-says_low : (p : Params) (s : Station) (asked : Bool) (r : Option RequestFields) (now : ℕ) → IsDueLater p (says_low p s asked r now).0 now
+later-says_low p s asked None now = later-says_no_request p s asked now
+later-says_low p s asked (Some r) now = later-says_request p (low_taken s) asked r now
+
+later-says_high : (p : Params) (s : Station) (asked : Bool) (r : Option RequestFields) (now : ℕ) → IsDueLater p (says_high p s asked r now).0 now
+later-says_high p s asked None now = later-says_low p s asked (low_request s now) now
+later-says_high p s asked (Some r) now = later-says_request p (high_taken s) asked r now
+
+later-says_in_use : (p : Params) (s : Station) (asked : Bool) (now : ℕ) → IsDueLater p (says_in_use p s asked now).0 now
+later-says_in_use p s asked now = later-says_high p s asked (high_request s now) now
+
+later-says_again : (p : Params) (s : Station) (asked : Bool) (f : Option Fields) (now : ℕ) → IsDueLater p (says_again s asked f now).0 now
+later-says_again p s asked None now = by_test (λ (o : Option ℕ). IsLater now (earlier o None)) s.busy None None (λ _. tt) (λ _. tt)
+later-says_again p s asked (Some f) now =
+    let some = frame-some f in later-timer now s.busy (now + bits (length (frame_octets f)) + p.tsl) (omega (arith, some))
 
 -- silence that lasts from later on ends later
 later-silence : (p : Params) (now quiet more address : ℕ) (busy : Bool) → IsLater now (if busy then None else Some (quiet + tto p address))
@@ -118,6 +150,7 @@ later-phase_says p s (Idle refused) now h = later-idle s.reply
     later-idle (Some r) = inr (later-silence p now s.quiet (now + bits (length r.octets)) s.address s.busy h)
 later-phase_says p s (Claim sent ready) now h = inr (later-says_claim p (record s { phase = Claim sent ready }) sent now)
 later-phase_says p s (Use asked ready) now h = inr (later-says_in_use p (record s { phase = Use asked ready }) asked now)
+later-phase_says p s (AwaitData asked retry slot) now h = inr (later-says_again p (record s { phase = AwaitData asked retry slot }) asked (retry_of s.cycles.initiator.pending) now)
 later-phase_says p s (AwaitStatus of slot) now h = inl tt
 later-phase_says p s (Pass tries ready) now h = inr (later-says_token p (record s { phase = Pass tries ready }) tries now)
 later-phase_says p s (Checking tries) now h = inl tt

@@ -1,7 +1,8 @@
 -- Rules of the turn, number by number.
-use Rattle.std.proofs.Common.{◌≡◌, ◌∙◌, ℕ, ◌+◌, ◌<◌, ◌≤◌, ◌==◌, ◌&&◌, ◌||◌, List, Bool, true, false, if◌then◌else◌, refl, ap, sym, subst, Option, Some, None}
-use Rattle.std.specs.Prelude.{min}
-use Rattle.std.proofs.lemmas.Bool.{le-leb, lt-leb, eq-eqb}
+use Rattle.std.proofs.Common.{◌≡◌, ◌∙◌, ℕ, ◌+◌, ◌<◌, ◌≤◌, ◌==◌, ◌&&◌, ◌||◌, ◌%◌, List, [], Bool, true, false, if◌then◌else◌, refl, ap, sym, subst, Option, Some, None}
+use Rattle.std.specs.Option.{option_map}
+use Rattle.std.specs.Prelude.{is_some, min, max}
+use Rattle.std.proofs.lemmas.Bool.{le-leb, lt-leb, eq-eqb, and_parts}
 use Rattle.pb_telegram.specs.declared.chars.RxChar.{RxChar}
 use Rattle.pb_timers.specs.Timers.{Params}
 use Rattle.pb_ring.specs.Gap.{next_asked, last_asked}
@@ -9,17 +10,27 @@ use Rattle.pb_ring.specs.Las as las
 use Rattle.pb_ring.specs.Las.{is_complete, heard, place_of, skips_of, listening}
 use Rattle.pb_rotation.specs.Rotation.{may_low}
 use Rattle.pb_cycles.specs.Fields.{Fields}
-use Rattle.pb_cycles.specs.Messages.{has_bit}
+use Rattle.pb_cycles.specs.Initiating.{retry_of, outcome_of}
+use Rattle.pb_cycles.specs.Messages.{has_bit, address_in}
+use Rattle.pb_cycles.specs.RequestFields.{RequestFields}
+use Rattle.pb_cycles.specs.Requests.{is_answered, asked_by}
+use Rattle.pb_cycles.specs.Responding.{reply_frame, reply_to_asked}
+use Rattle.pb_cycles.specs.Tables.{ResponderTable}
+use Rattle.pb_cycles.specs.declared.messages.Message.{Message}
+use Rattle.pb_cycles.specs.declared.outcomes.Outcome.{Outcome}
+use Rattle.pb_cycles.specs.declared.services.Asked.{Asked}
+use Rattle.pb_cycles.specs.declared.services.Asked.TheVariants.{Send, Status, Unknown}
 use Rattle.pb_cycles.specs.Outcomes.{status_reply}
 use Rattle.pb_cycles.specs.declared.messages.Message.TheVariants as message
 use Rattle.pb_turn.specs.Arrivals.{Arrival, Token, Framed, Acknowledgement, NoTelegram, arrival_of}
-use Rattle.pb_turn.specs.Hearing.{phase_timed_out, with_token, own_token, foreign_token, listening_hears, status_answer, idle_hears, token_in_idle, status_told, awaiting_status_hears, checking_hears, asks_status, is_taken_from, lost, after_mark, not_ready, ready_for_ring}
-use Rattle.pb_turn.specs.Laws.{HasAsked, is_whole, status_reply_of}
+use Rattle.pb_turn.specs.Hearing.{not_answered, passive_hears, answer_to, is_status, passive, in_ring, data_told, awaiting_data_hears, phase_timed_out, with_token, own_token, foreign_token, listening_hears, status_answer, idle_hears, token_in_idle, status_told, awaiting_status_hears, checking_hears, asks_status, is_taken_from, lost, after_mark, not_ready, ready_for_ring}
+use Rattle.pb_turn.specs.Laws.{HasAsked, is_asking, is_whole, status_reply_of}
 use Rattle.pb_turn.specs.Marks.{Mark, Begin, End}
-use Rattle.pb_turn.specs.Phases.{Phase, Offline, Listening, Idle, Use, AwaitStatus, Pass, Checking, may_initiate}
+use Rattle.pb_turn.specs.Phases.{Phase, Offline, Listening, Idle, Use, AwaitData, AwaitStatus, Pass, Checking, may_initiate}
 use Rattle.pb_turn.specs.Stations.{Station, next_station, previous_station}
-use Rattle.pb_turn.specs.Turns.{says_token, received_own, saying, token_octets, says_look, phase_says}
+use Rattle.pb_turn.specs.Turns.{says_token, received_own, saying, token_octets, says_look, says_no_request, high_request, low_request, high_taken, low_taken, says_request, says_low, says_high, says_again, phase_says}
 use Rattle.pb_turn.proofs.Cases.{by_test}
+use Rattle.pb_turn.proofs.Keeping.{waiting_reply}
 use Rattle.pb_turn.proofs.Paths.{at_end, idle-takes}
 
 -- ---- Checking
@@ -74,12 +85,78 @@ and-false : (a b : Bool) → b ≡ false → (a && b) ≡ false
 and-false true b e = e
 and-false false b e = refl
 
-pub asked-once : (p : Params) (s : Station) (ready now : ℕ)
-    → (phase_says p (record s { phase = Use true ready }) (Use true ready) now).1 ≡ Some (token_octets (next_station s) s.address)
-asked-once p s ready now =
-    let x = record s { phase = Use true ready } in
-    ap (λ (b : Bool). (if b then says_look p x (next_asked x.address (next_station x) p.hsa (last_asked x.gap)) now else says_token p x 0 now).1)
+-- without a request that may be sent the token goes on
+asked-no_request : (p : Params) (s : Station) (now : ℕ) → says_no_request p s true now ≡ says_token p s 0 now
+asked-no_request p s now =
+    ap (λ (b : Bool). if b then says_look p s (next_asked s.address (next_station s) p.hsa (last_asked s.gap)) now else says_token p s 0 now)
     (and-false (may_low s.rotation now) _ refl)
+
+pub asked-once : (p : Params) (s : Station) (ready now : ℕ) → high_request s now ≡ None → low_request s now ≡ None
+    → (phase_says p (record s { phase = Use true ready }) (Use true ready) now).1 ≡ Some (token_octets (next_station s) s.address)
+asked-once p s ready now no_high no_low =
+    let x = record s { phase = Use true ready } in
+    ap (λ (turn : Station × Option (List ℕ)). turn.1)
+    (ap (λ (o : Option RequestFields). says_high p x true o now) no_high
+    ∙ ap (λ (o : Option RequestFields). says_low p x true o now) no_low
+    ∙ asked-no_request p x now)
+
+asking-token : (p : Params) (s : Station) (tries now : ℕ) → is_asking (says_token p s tries now).0.phase ≡ false
+asking-token p s tries now =
+    let x = saying s now (token_octets (next_station s) s.address) in
+    by_test (λ (x : Station). is_asking x.phase ≡ false) (next_station s == s.address) (received_own p x) _ (λ _. refl) (λ _. refl)
+
+asking-request : (p : Params) (s : Station) (asked : Bool) (r : RequestFields) (now : ℕ) → is_asking (says_request p s asked r now).0.phase ≡ false
+asking-request p s asked r now = by_test (λ (x : Station). is_asking x.phase ≡ false) (is_answered r.service) _ _ (λ _. refl) (λ _. refl)
+
+asking-low : (p : Params) (s : Station) (r : Option RequestFields) (now : ℕ) → is_asking (says_low p s true r now).0.phase ≡ false
+asking-low p s None now =
+    ap (λ (turn : Station × Option (List ℕ)). is_asking turn.0.phase) (asked-no_request p s now) ∙ asking-token p s 0 now
+asking-low p s (Some r) now = asking-request p (low_taken s) true r now
+
+asking-high : (p : Params) (s : Station) (r : Option RequestFields) (now : ℕ) → is_asking (says_high p s true r now).0.phase ≡ false
+asking-high p s None now = asking-low p s (low_request s now) now
+asking-high p s (Some r) now = asking-request p (high_taken s) true r now
+
+-- one that has asked asks none again
+pub asked-no_more : (p : Params) (s : Station) (ready now : ℕ) → is_asking (phase_says p (record s { phase = Use true ready }) (Use true ready) now).0.phase ≡ false
+asked-no_more p s ready now = let x = record s { phase = Use true ready } in asking-high p x (high_request x now) now
+
+-- ---- and its requests forget it not
+
+pub asked-request : (p : Params) (s : Station) (r : RequestFields) (now : ℕ) → HasAsked (says_request p s true r now).0.phase
+asked-request p s r now = by_test (λ (x : Station). HasAsked x.phase) (is_answered r.service) _ _ (λ _. refl) (λ _. refl)
+
+asked-not_answered : (s : Station) (slot : Bool) (ready : ℕ) → HasAsked (not_answered s true slot ready).phase
+asked-not_answered s slot ready = by_test (λ (x : Station). HasAsked x.phase) (is_some (retry_of s.cycles.initiator.pending)) _ _ (λ _. refl) (λ _. refl)
+
+pub asked-silence : (s : Station) (retry : Option ℕ) (slot : Bool) (t : ℕ) → HasAsked (phase_timed_out s (AwaitData true retry slot) t).phase
+asked-silence s retry slot t = asked-not_answered s false t
+
+asked-data_told : (p : Params) (s : Station) (slot : Bool) (at : ℕ) (m : Message) (outcome : Option Outcome) → HasAsked (data_told p s true slot at m outcome).phase
+asked-data_told p s slot at m (Some outcome) = refl
+asked-data_told p s slot at m None = asked-not_answered s slot (max at s.own.end + p.tid1)
+
+asked-data_hears : (p : Params) (s : Station) (slot : Bool) (at : ℕ) (a : Arrival) → HasAsked (awaiting_data_hears p s true slot at a).phase
+asked-data_hears p s slot at (Token da sa) = tt
+asked-data_hears p s slot at (Framed f) =
+    by_test (λ (x : Station). HasAsked x.phase) (has_bit f.fc 6) (lost s) _ (λ _. tt)
+    (λ _. asked-data_told p s slot at (message.Framed f) (outcome_of s.cycles.initiator (Some (message.Framed f))))
+asked-data_hears p s slot at Acknowledgement = asked-data_told p s slot at message.Acknowledgement (outcome_of s.cycles.initiator (Some message.Acknowledgement))
+asked-data_hears p s slot at NoTelegram = asked-not_answered s slot (max at s.own.end + p.tid1)
+
+asked-data_phase : (p : Params) (again : Bool) (s : Station) (ph : Phase) (m : Mark) (retry : Option ℕ) (slot : Bool) → ph ≡ AwaitData true retry slot
+    → HasAsked (after_mark p again (record s { phase = ph }) m).phase
+asked-data_phase p again s ph (Begin at seen) retry slot e = subst (λ (ph : Phase). HasAsked (after_mark p again (record s { phase = ph }) (Begin at seen)).phase) (sym e) refl
+asked-data_phase p again s ph (End at seen chars) retry slot e =
+    subst (λ (ph : Phase). HasAsked (after_mark p again (record s { phase = ph }) (End at seen chars)).phase) (sym e)
+    (asked-data_hears p (at_end (record s { phase = AwaitData true retry slot }) at) slot at (arrival_of chars))
+
+pub asked-data_mark : (p : Params) (again : Bool) (s : Station) (m : Mark) (retry : Option ℕ) (slot : Bool) → s.phase ≡ AwaitData true retry slot → HasAsked (after_mark p again s m).phase
+asked-data_mark p again s m retry slot e = asked-data_phase p again s s.phase m retry slot e
+
+pub asked-again : (s : Station) (f : Option Fields) (now : ℕ) → HasAsked (says_again s true f now).0.phase
+asked-again s None now = refl
+asked-again s (Some f) now = refl
 
 asked-told : (p : Params) (s : Station) (of at : ℕ) (fc : Option ℕ) → HasAsked (status_told p s of at fc).phase
 asked-told p s of at None = refl
@@ -115,13 +192,38 @@ says-ready p s doubled at f asks complete =
     ap (λ (b : Bool). if b then status_answer p s at f ready_for_ring true else status_answer p s at f not_ready false) complete
     ∙ ap (λ (b : Bool). if b then Some (status_reply_of p s at f 0x20 true) else None) asks
 
+status-asked : (t : ResponderTable) (ts station_type : ℕ) (f : Fields) (asked : Asked) → is_status asked ≡ true → (address_in f.da == ts) ≡ true
+    → reply_to_asked t ts station_type f asked ≡ Some (reply_frame ts station_type f 0 [])
+status-asked t ts station_type f (Send service high) e here = absurd (let wrong : false ≡ true = e in cc)
+status-asked t ts station_type f Status e here = ap (λ (b : Bool). if b then Some (reply_frame ts station_type f 0 []) else None) here
+status-asked t ts station_type f Unknown e here = absurd (let wrong : false ≡ true = e in cc)
+
+-- a station of some type that is asked for its status answers with it
+says-status : (p : Params) (s : Station) (at : ℕ) (f : Fields) (station_type : ℕ) → asks_status s.address f ≡ true
+    → answer_to p s at f station_type ≡ Some (waiting_reply p at (reply_frame s.address station_type f 0 []))
+says-status p s at f station_type asks =
+    let parts = and_parts (has_bit f.fc 6) _ asks in
+    let more = and_parts (is_status (asked_by (f.fc % 16))) _ parts.1 in
+    ap (option_map (waiting_reply p at))
+    (ap (λ (b : Bool). if b then reply_to_asked s.cycles.responder s.address station_type f (asked_by (f.fc % 16)) else None) parts.0
+    ∙ status-asked s.cycles.responder s.address station_type f (asked_by (f.fc % 16)) more.0 more.1)
+
 pub says-in_ring : (p : Params) (s : Station) (refused : Option ℕ) (at : ℕ) (f : Fields) → asks_status s.address f ≡ true
     → (idle_hears p s refused at (Framed f)).reply ≡ Some (status_reply_of p s at f 0x30 false)
-says-in_ring p s refused at f asks = ap (λ (b : Bool). if b then Some (status_reply_of p s at f 0x30 false) else None) asks
+says-in_ring p s refused at f asks = says-status p s at f in_ring asks
+
+pub says-passive : (p : Params) (s : Station) (at : ℕ) (f : Fields) → asks_status s.address f ≡ true
+    → (passive_hears p s at (Framed f)).reply ≡ Some (status_reply_of p s at f 0x00 false)
+says-passive p s at f asks = says-status p s at f passive asks
 
 pub request-heard : (p : Params) (s : Station) (of at : ℕ) (f : Fields) → has_bit f.fc 6 ≡ true → (awaiting_status_hears p s of at (Framed f)).phase ≡ Idle None
 request-heard p s of at f asks =
     ap (λ (b : Bool). (if b then lost s else status_told p s of at (status_reply s.address of (message.Framed f))).phase) asks
+
+pub request-heard-data : (p : Params) (s : Station) (asked slot : Bool) (at : ℕ) (f : Fields) → has_bit f.fc 6 ≡ true
+    → awaiting_data_hears p s asked slot at (Framed f) ≡ record s { phase = Idle None }
+request-heard-data p s asked slot at f asks =
+    ap (λ (b : Bool). if b then lost s else data_told p s asked slot at (message.Framed f) (outcome_of s.cycles.initiator (Some (message.Framed f)))) asks
 
 -- ---- tokens
 

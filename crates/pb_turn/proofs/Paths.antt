@@ -1,18 +1,21 @@
 -- Which phases lead to which.
 use Rattle.std.proofs.Common.{◌≡◌, ℕ, ◌+◌, ◌==◌, ◌||◌, List, [], ◌∷◌, Bool, true, false, if◌then◌else◌, refl, ap, sym, ◌∙◌, subst, Option, Some, None}
-use Rattle.std.specs.Prelude.{nat_lt, nat_le, max}
+use Rattle.std.specs.Prelude.{is_some, nat_lt, nat_le, max}
 use Rattle.std.proofs.lemmas.Bool.{eqb-true}
 use Rattle.pb_telegram.specs.declared.chars.RxChar.{RxChar}
 use Rattle.pb_timers.specs.Timers.{Params}
 use Rattle.pb_ring.specs.Las.{place_of, skips_of}
 use Rattle.pb_cycles.specs.Messages.{has_bit}
+use Rattle.pb_cycles.specs.Initiating.{retry_of, outcome_of}
 use Rattle.pb_cycles.specs.Outcomes.{status_reply}
+use Rattle.pb_cycles.specs.declared.messages.Message.{Message}
+use Rattle.pb_cycles.specs.declared.outcomes.Outcome.{Outcome}
 use Rattle.pb_cycles.specs.declared.messages.Message.TheVariants as message
 use Rattle.pb_turn.specs.Arrivals.{Arrival, Token, Framed, Acknowledgement, NoTelegram, arrival_of}
-use Rattle.pb_turn.specs.Hearing.{phase_timed_out, timed_out, after_timer, phase_begun, doubled_by, listening_hears, taking, is_taken_from, skips_limit, token_in_idle, idle_hears, holder_hears, status_told, awaiting_status_hears, checking_hears, with_token, lost, phase_ended, heard, after_mark}
+use Rattle.pb_turn.specs.Hearing.{not_answered, passive_hears, data_told, awaiting_data_hears, phase_timed_out, timed_out, after_timer, phase_begun, doubled_by, listening_hears, taking, is_taken_from, skips_limit, token_in_idle, idle_hears, holder_hears, status_told, awaiting_status_hears, checking_hears, with_token, lost, phase_ended, heard, after_mark}
 use Rattle.pb_turn.specs.Laws.{is_checking}
 use Rattle.pb_turn.specs.Marks.{Mark, Begin, End, moment_of}
-use Rattle.pb_turn.specs.Phases.{Phase, Offline, PassiveIdle, Listening, Idle, Claim, Use, AwaitStatus, Pass, Checking, may_initiate, is_offline}
+use Rattle.pb_turn.specs.Phases.{Phase, Offline, PassiveIdle, Listening, Idle, Claim, Use, AwaitData, AwaitStatus, Pass, Checking, may_initiate, is_offline}
 use Rattle.pb_turn.specs.Stations.{Station, timer_of, previous_station}
 use Rattle.pb_turn.specs.Turns.{after_marks}
 use Rattle.pb_turn.proofs.Cases.{by_test}
@@ -45,6 +48,10 @@ phase-listening Q p s doubled at NoTelegram gone listens same = same
 
 -- ---- Checking: no phase leads to it but itself
 
+checking-not_answered : (s : Station) (asked slot : Bool) (ready : ℕ) → is_checking (not_answered s asked slot ready).phase ≡ false
+checking-not_answered s asked slot ready =
+    by_test (λ (x : Station). is_checking x.phase ≡ false) (is_some (retry_of s.cycles.initiator.pending)) _ _ (λ _. refl) (λ _. refl)
+
 checking-timed_out : (s : Station) (ph : Phase) (t : ℕ) → is_checking ph ≡ false → is_checking (phase_timed_out (record s { phase = ph }) ph t).phase ≡ false
 checking-timed_out s Offline t e = refl
 checking-timed_out s PassiveIdle t e = refl
@@ -52,6 +59,7 @@ checking-timed_out s (Listening doubled) t e = refl
 checking-timed_out s (Idle refused) t e = refl
 checking-timed_out s (Claim sent ready) t e = refl
 checking-timed_out s (Use asked ready) t e = refl
+checking-timed_out s (AwaitData asked retry slot) t e = checking-not_answered (record s { phase = AwaitData asked retry slot }) asked false t
 checking-timed_out s (AwaitStatus of slot) t e = refl
 checking-timed_out s (Pass tries ready) t e = refl
 checking-timed_out s (Checking tries) t e = absurd (let wrong : true ≡ false = e in cc)
@@ -63,6 +71,7 @@ checking-begun (Listening doubled) own at e = refl
 checking-begun (Idle refused) own at e = refl
 checking-begun (Claim sent ready) own at e = refl
 checking-begun (Use asked ready) own at e = refl
+checking-begun (AwaitData asked retry slot) own at e = refl
 checking-begun (AwaitStatus of slot) own at e = refl
 checking-begun (Pass tries ready) own at e = refl
 checking-begun (Checking tries) own at e = e
@@ -85,6 +94,25 @@ checking-awaiting p s of at (Framed f) =
 checking-awaiting p s of at Acknowledgement = refl
 checking-awaiting p s of at NoTelegram = refl
 
+checking-data_told : (p : Params) (s : Station) (asked slot : Bool) (at : ℕ) (m : Message) (outcome : Option Outcome) → is_checking (data_told p s asked slot at m outcome).phase ≡ false
+checking-data_told p s asked slot at m (Some outcome) = refl
+checking-data_told p s asked slot at m None = checking-not_answered s asked slot (max at s.own.end + p.tid1)
+
+checking-awaiting_data : (p : Params) (s : Station) (asked slot : Bool) (at : ℕ) (a : Arrival) → is_checking (awaiting_data_hears p s asked slot at a).phase ≡ false
+checking-awaiting_data p s asked slot at (Token da sa) = refl
+checking-awaiting_data p s asked slot at (Framed f) =
+    by_test (λ (x : Station). is_checking x.phase ≡ false) (has_bit f.fc 6) (lost s) _ (λ _. refl)
+    (λ _. checking-data_told p s asked slot at (message.Framed f) (outcome_of s.cycles.initiator (Some (message.Framed f))))
+checking-awaiting_data p s asked slot at Acknowledgement =
+    checking-data_told p s asked slot at message.Acknowledgement (outcome_of s.cycles.initiator (Some message.Acknowledgement))
+checking-awaiting_data p s asked slot at NoTelegram = checking-not_answered s asked slot (max at s.own.end + p.tid1)
+
+checking-passive : (p : Params) (s : Station) (at : ℕ) (a : Arrival) → is_checking s.phase ≡ false → is_checking (passive_hears p s at a).phase ≡ false
+checking-passive p s at (Token da sa) e = e
+checking-passive p s at (Framed f) e = e
+checking-passive p s at Acknowledgement e = e
+checking-passive p s at NoTelegram e = e
+
 checking-holder_hears : (s : Station) (a : Arrival) → is_checking s.phase ≡ false → is_checking (holder_hears s a).phase ≡ false
 checking-holder_hears s (Token da sa) e = e
 checking-holder_hears s (Framed f) e = e
@@ -100,11 +128,12 @@ checking-checking_hears p again s tries at NoTelegram = by_test (λ (x : Station
 -- an end leaves no station in Checking
 checking-ended : (p : Params) (again : Bool) (s : Station) (ph : Phase) (at : ℕ) (a : Arrival) → is_checking (phase_ended p again (record s { phase = ph }) ph at a).phase ≡ false
 checking-ended p again s Offline at a = refl
-checking-ended p again s PassiveIdle at a = refl
+checking-ended p again s PassiveIdle at a = checking-passive p (record s { phase = PassiveIdle }) at a refl
 checking-ended p again s (Listening doubled) at a = phase-listening (λ ph. is_checking ph ≡ false) p (record s { phase = Listening doubled }) doubled at a refl (λ _. refl) refl
 checking-ended p again s (Idle refused) at a = checking-idle_hears p (record s { phase = Idle refused }) refused at a refl
 checking-ended p again s (Claim sent ready) at a = checking-holder_hears (record s { phase = Claim sent ready }) a refl
 checking-ended p again s (Use asked ready) at a = checking-holder_hears (record s { phase = Use asked ready }) a refl
+checking-ended p again s (AwaitData asked retry slot) at a = checking-awaiting_data p (record s { phase = AwaitData asked retry slot }) asked slot at a
 checking-ended p again s (AwaitStatus of slot) at a = checking-awaiting p (record s { phase = AwaitStatus of slot }) of at a
 checking-ended p again s (Pass tries ready) at a = checking-holder_hears (record s { phase = Pass tries ready }) a refl
 checking-ended p again s (Checking tries) at a = checking-checking_hears p again (record s { phase = Checking tries }) tries at a
@@ -138,6 +167,7 @@ ended-either p a b s (Listening doubled) at arrival e = refl
 ended-either p a b s (Idle refused) at arrival e = refl
 ended-either p a b s (Claim sent ready) at arrival e = refl
 ended-either p a b s (Use asked ready) at arrival e = refl
+ended-either p a b s (AwaitData asked retry slot) at arrival e = refl
 ended-either p a b s (AwaitStatus of slot) at arrival e = refl
 ended-either p a b s (Pass tries ready) at arrival e = refl
 ended-either p a b s (Checking tries) at arrival e = absurd (let wrong : true ≡ false = e in cc)
@@ -172,6 +202,7 @@ checking-after_end p again s at seen chars =
     not_both (Idle refused) e = refl
     not_both (Claim sent ready) e = refl
     not_both (Use asked ready) e = refl
+    not_both (AwaitData asked retry slot) e = refl
     not_both (AwaitStatus of slot) e = refl
     not_both (Pass tries ready) e = refl
     not_both (Checking tries) e = sym e

@@ -3,45 +3,71 @@ use Rattle.std.proofs.Common.{◌≡◌, ◌∙◌, ℕ, ◌+◌, ◌==◌, List
 use Rattle.std.specs.Prelude.{IfSome, IsSome, nat_le}
 use Rattle.pb_timers.specs.Timers.{Params, bits}
 use Rattle.pb_ring.specs.Gap.{next_asked, last_asked, round_after}
+use Rattle.pb_cycles.specs.Fields.{Fields}
+use Rattle.pb_cycles.specs.Initiating.{retry_of, first_sending}
+use Rattle.pb_cycles.specs.Messages.{frame_octets}
+use Rattle.pb_cycles.specs.RequestFields.{RequestFields}
+use Rattle.pb_cycles.specs.Requests.{is_answered}
+use Rattle.pb_turn.specs.Laws.{HasOpen, HasOpenRequest}
 use Rattle.pb_turn.specs.Marks.{Mark}
-use Rattle.pb_turn.specs.Phases.{Phase, Offline, PassiveIdle, Listening, Idle, Claim, Use, AwaitStatus, Pass, Checking}
+use Rattle.pb_turn.specs.Phases.{Phase, Offline, PassiveIdle, Listening, Idle, Claim, Use, AwaitData, AwaitStatus, Pass, Checking}
 use Rattle.pb_turn.specs.Stations.{Station, Reply, phase_speaks, speaks_at, next_station, due_of}
-use Rattle.pb_turn.specs.Turns.{looks_at_gap, says_look, says_token, says_reply, says_ready, phase_says, speech, turn_of, settled, saying, replying, joining, received_own, token_octets}
+use Rattle.pb_turn.specs.Turns.{looks_at_gap, says_look, says_no_request, high_request, low_request, high_taken, low_taken, says_request, says_low, says_high, says_again, says_token, says_reply, says_ready, phase_says, speech, turn_of, settled, saying, replying, joining, received_own, token_octets}
 use Rattle.pb_turn.proofs.Cases.{by_test}
 
 look-some : (p : Params) (s : Station) (next : Option ℕ) (now : ℕ) → IsSome (says_look p s next now).1
 look-some p s None now = refl
 look-some p s (Some a) now = refl
 
+no_request-some : (p : Params) (s : Station) (asked : Bool) (now : ℕ) → IsSome (says_no_request p s asked now).1
+no_request-some p s asked now =
+    by_test (λ (turn : Station × Option (List ℕ)). IsSome turn.1) (looks_at_gap p s asked now) _ _
+    (λ _. look-some p s (next_asked s.address (next_station s) p.hsa (last_asked s.gap)) now) (λ _. refl)
+
+low-some : (p : Params) (s : Station) (asked : Bool) (r : Option RequestFields) (now : ℕ) → IsSome (says_low p s asked r now).1
+low-some p s asked None now = no_request-some p s asked now
+low-some p s asked (Some r) now = refl
+
+high-some : (p : Params) (s : Station) (asked : Bool) (r : Option RequestFields) (now : ℕ) → IsSome (says_high p s asked r now).1
+high-some p s asked None now = low-some p s asked (low_request s now) now
+high-some p s asked (Some r) now = refl
+
+again-some : (s : Station) (asked : Bool) (f : Option Fields) (now : ℕ) → IsSome f → IsSome (says_again s asked f now).1
+again-some s asked None now left = left
+again-some s asked (Some f) now left = refl
+
 -- a phase that has a speaking moment says something
-says-some : (p : Params) (s : Station) (ph : Phase) (now : ℕ) → IfSome (phase_speaks s.reply ph) (λ moment. IsSome (phase_says p (record s { phase = ph }) ph now).1)
-says-some p s Offline now = tt
-says-some p s PassiveIdle now = by_reply s.reply
+says-some : (p : Params) (s : Station) (ph : Phase) (now : ℕ) → HasOpen s.cycles.initiator.pending ph → IfSome (phase_speaks s.reply ph) (λ moment. IsSome (phase_says p (record s { phase = ph }) ph now).1)
+says-some p s Offline now left = tt
+says-some p s PassiveIdle now left = by_reply s.reply
   where
     by_reply : (o : Option Reply) → IfSome (phase_speaks o PassiveIdle) (λ moment. IsSome (says_reply (record s { phase = PassiveIdle }) o now).1)
     by_reply None = tt
     by_reply (Some r) = refl
-says-some p s (Listening doubled) now = by_reply s.reply
+says-some p s (Listening doubled) now left = by_reply s.reply
   where
     by_reply : (o : Option Reply) → IfSome (phase_speaks o (Listening doubled)) (λ moment. IsSome (says_ready (record s { phase = Listening doubled }) o now).1)
     by_reply None = tt
     by_reply (Some r) = refl
-says-some p s (Idle refused) now = by_reply s.reply
+says-some p s (Idle refused) now left = by_reply s.reply
   where
     by_reply : (o : Option Reply) → IfSome (phase_speaks o (Idle refused)) (λ moment. IsSome (says_reply (record s { phase = Idle refused }) o now).1)
     by_reply None = tt
     by_reply (Some r) = refl
-says-some p s (Claim sent ready) now = refl
-says-some p s (Use asked ready) now =
-    let x = record s { phase = Use asked ready } in
-    by_test (λ (turn : Station × Option (List ℕ)). IsSome turn.1) (looks_at_gap p x asked now) _ _
-    (λ _. look-some p x (next_asked x.address (next_station x) p.hsa (last_asked x.gap)) now) (λ _. refl)
-says-some p s (AwaitStatus of slot) now = tt
-says-some p s (Pass tries ready) now = refl
-says-some p s (Checking tries) now = tt
+says-some p s (Claim sent ready) now left = refl
+says-some p s (Use asked ready) now left = let x = record s { phase = Use asked ready } in high-some p x asked (high_request x now) now
+says-some p s (AwaitData asked retry slot) now left = by_retry retry left.1
+  where
+    by_retry : (o : Option ℕ) → IfSome o (λ ready. IsSome (retry_of s.cycles.initiator.pending))
+        → IfSome o (λ moment. IsSome (says_again (record s { phase = AwaitData asked retry slot }) asked (retry_of s.cycles.initiator.pending) now).1)
+    by_retry None left = tt
+    by_retry (Some ready) left = again-some (record s { phase = AwaitData asked retry slot }) asked (retry_of s.cycles.initiator.pending) now left
+says-some p s (AwaitStatus of slot) now left = tt
+says-some p s (Pass tries ready) now left = refl
+says-some p s (Checking tries) now left = tt
 
-pub phase_says-some : (p : Params) (s : Station) (now moment : ℕ) → speaks_at s ≡ Some moment → IsSome (phase_says p s s.phase now).1
-phase_says-some p s now moment e = subst (λ (o : Option ℕ). IfSome o (λ m. IsSome (phase_says p s s.phase now).1)) e (says-some p s s.phase now)
+pub phase_says-some : (p : Params) (s : Station) (now moment : ℕ) → HasOpenRequest s → speaks_at s ≡ Some moment → IsSome (phase_says p s s.phase now).1
+phase_says-some p s now moment left e = subst (λ (o : Option ℕ). IfSome o (λ m. IsSome (phase_says p s s.phase now).1)) e (says-some p s s.phase now left)
 
 -- ---- the own telegram
 
@@ -57,6 +83,27 @@ own-says_token p s tries now =
 own-says_look : (p : Params) (s : Station) (next : Option ℕ) (now : ℕ) → OwnLasts (says_look p s next now) now
 own-says_look p s None now = own-says_token p (record s { gap = round_after None now }) 0 now
 own-says_look p s (Some a) now = refl
+
+own-says_no_request : (p : Params) (s : Station) (asked : Bool) (now : ℕ) → OwnLasts (says_no_request p s asked now) now
+own-says_no_request p s asked now =
+    by_test (λ (turn : Station × Option (List ℕ)). OwnLasts turn now) (looks_at_gap p s asked now) _ _
+    (λ _. own-says_look p s (next_asked s.address (next_station s) p.hsa (last_asked s.gap)) now) (λ _. own-says_token p s 0 now)
+
+own-says_request : (p : Params) (s : Station) (asked : Bool) (r : RequestFields) (now : ℕ) → OwnLasts (says_request p s asked r now) now
+own-says_request p s asked r now =
+    by_test (λ (y : Station). y.own.end ≡ now + bits (length (frame_octets (first_sending s.cycles.initiator s.address r)))) (is_answered r.service) _ _ (λ _. refl) (λ _. refl)
+
+own-says_low : (p : Params) (s : Station) (asked : Bool) (r : Option RequestFields) (now : ℕ) → OwnLasts (says_low p s asked r now) now
+own-says_low p s asked None now = own-says_no_request p s asked now
+own-says_low p s asked (Some r) now = own-says_request p (low_taken s) asked r now
+
+own-says_high : (p : Params) (s : Station) (asked : Bool) (r : Option RequestFields) (now : ℕ) → OwnLasts (says_high p s asked r now) now
+own-says_high p s asked None now = own-says_low p s asked (low_request s now) now
+own-says_high p s asked (Some r) now = own-says_request p (high_taken s) asked r now
+
+own-says_again : (s : Station) (asked : Bool) (f : Option Fields) (now : ℕ) → OwnLasts (says_again s asked f now) now
+own-says_again s asked None now = tt
+own-says_again s asked (Some f) now = refl
 
 own-phase_says : (p : Params) (s : Station) (ph : Phase) (now : ℕ) → OwnLasts (phase_says p (record s { phase = ph }) ph now) now
 own-phase_says p s Offline now = tt
@@ -80,10 +127,8 @@ own-phase_says p s (Idle refused) now = by_reply s.reply
 own-phase_says p s (Claim sent ready) now =
     let x = saying s now (token_octets s.address s.address) in
     by_test (λ (y : Station). y.own.end ≡ now + 33) (sent == 0) _ (received_own p x) (λ _. refl) (λ _. refl)
-own-phase_says p s (Use asked ready) now =
-    let x = record s { phase = Use asked ready } in
-    by_test (λ (turn : Station × Option (List ℕ)). OwnLasts turn now) (looks_at_gap p x asked now) _ _
-    (λ _. own-says_look p x (next_asked x.address (next_station x) p.hsa (last_asked x.gap)) now) (λ _. own-says_token p x 0 now)
+own-phase_says p s (Use asked ready) now = let x = record s { phase = Use asked ready } in own-says_high p x asked (high_request x now) now
+own-phase_says p s (AwaitData asked retry slot) now = own-says_again (record s { phase = AwaitData asked retry slot }) asked (retry_of s.cycles.initiator.pending) now
 own-phase_says p s (AwaitStatus of slot) now = tt
 own-phase_says p s (Pass tries ready) now = own-says_token p (record s { phase = Pass tries ready }) tries now
 own-phase_says p s (Checking tries) now = tt
@@ -117,6 +162,15 @@ due_in_asking p s of idle asking =
         subst (λ (ph : Phase). due_of p (record x { phase = ph }) [] ≡ Some (x.own.end + p.tsl)) (sym e)
         (subst (λ (b : Bool). due_of p (record x { phase = AwaitStatus of true; busy = b }) [] ≡ Some (x.own.end + p.tsl)) (sym idle) refl)
 
+pub due_in_waiting : (p : Params) (s : Station) (asked : Bool) → s.busy ≡ false → s.phase ≡ AwaitData asked None true → due_of p s [] ≡ Some (s.own.end + p.tsl)
+due_in_waiting p s asked idle waiting =
+    by_phase s s.phase waiting idle
+  where
+    by_phase : (x : Station) (ph : Phase) → ph ≡ AwaitData asked None true → x.busy ≡ false → due_of p (record x { phase = ph }) [] ≡ Some (x.own.end + p.tsl)
+    by_phase x ph e idle =
+        subst (λ (ph : Phase). due_of p (record x { phase = ph }) [] ≡ Some (x.own.end + p.tsl)) (sym e)
+        (subst (λ (b : Bool). due_of p (record x { phase = AwaitData asked None true; busy = b }) [] ≡ Some (x.own.end + p.tsl)) (sym idle) refl)
+
 pub due-token_passed : (p : Params) (again : Bool) (s : Station) (marks : List Mark) (now tries : ℕ) (octets : List ℕ)
     → (turn_of p again s marks now).1 ≡ Some octets → (turn_of p again s marks now).0.phase ≡ Checking tries → (turn_of p again s marks now).0.busy ≡ false
     → due_of p (turn_of p again s marks now).0 [] ≡ Some (now + bits (length octets) + p.tsl)
@@ -128,3 +182,9 @@ pub due-asked : (p : Params) (again : Bool) (s : Station) (marks : List Mark) (n
     → due_of p (turn_of p again s marks now).0 [] ≡ Some (now + bits (length octets) + p.tsl)
 due-asked p again s marks now of octets said asking idle =
     due_in_asking p (turn_of p again s marks now).0 of idle asking ∙ ap (λ (end : ℕ). Some (end + p.tsl)) (own-turn_of p again s marks now octets said)
+
+pub due-requested : (p : Params) (again : Bool) (s : Station) (marks : List Mark) (now : ℕ) (asked : Bool) (octets : List ℕ)
+    → (turn_of p again s marks now).1 ≡ Some octets → (turn_of p again s marks now).0.phase ≡ AwaitData asked None true → (turn_of p again s marks now).0.busy ≡ false
+    → due_of p (turn_of p again s marks now).0 [] ≡ Some (now + bits (length octets) + p.tsl)
+due-requested p again s marks now asked octets said waiting idle =
+    due_in_waiting p (turn_of p again s marks now).0 asked idle waiting ∙ ap (λ (end : ℕ). Some (end + p.tsl)) (own-turn_of p again s marks now octets said)

@@ -1,22 +1,27 @@
 -- What a station makes of its timers and of what it hears.
-use Rattle.std.specs.Prelude.{ℕ, ◌+◌, ◌/◌, ◌%◌, Bool, true, false, if◌then◌else◌, ◌==◌, nat_lt, nat_le, ◌||◌, ◌&&◌, [], max, Option, Some, None}
+use Rattle.std.specs.Option.{option_map}
+use Rattle.std.specs.Prelude.{ℕ, is_some, ◌+◌, ◌/◌, ◌%◌, Bool, true, false, if◌then◌else◌, ◌==◌, nat_lt, nat_le, ◌||◌, ◌&&◌, [], max, Option, Some, None}
 use Rattle.pb_timers.specs.Timers.{Params}
 use Rattle.pb_ring.specs.Las as las
 use Rattle.pb_ring.specs.Las.{place_of, skips_of}
 use Rattle.pb_ring.specs.declared.gaps.Round.TheVariants.{Open}
 use Rattle.pb_rotation.specs.Rotation.{received, fresh}
 use Rattle.pb_cycles.specs.Fields.{Fields}
+use Rattle.pb_cycles.specs.Initiating.{retry_of, outcome_of, after_outcome}
 use Rattle.pb_cycles.specs.Messages.{has_bit, address_in, reply_octets}
 use Rattle.pb_cycles.specs.Outcomes.{status_reply}
 use Rattle.pb_cycles.specs.Requests.{asked_by}
-use Rattle.pb_cycles.specs.Responding.{reply_frame}
+use Rattle.pb_cycles.specs.Responding.{reply_frame, reply_to_framed, after_framed}
+use Rattle.pb_cycles.specs.declared.initiators.OpenRequest.{OpenRequest}
+use Rattle.pb_cycles.specs.declared.messages.Message.{Message}
+use Rattle.pb_cycles.specs.declared.outcomes.Outcome.{Outcome}
 use Rattle.pb_cycles.specs.declared.messages.Message.TheVariants as message
 use Rattle.pb_cycles.specs.declared.services.Asked.{Asked}
 use Rattle.pb_cycles.specs.declared.services.Asked.TheVariants.{Send, Status, Unknown}
 use Rattle.pb_turn.specs.Arrivals.{Arrival, Token, Framed, Acknowledgement, NoTelegram, arrival_of}
 use Rattle.pb_turn.specs.Marks.{Mark, Begin, End}
-use Rattle.pb_turn.specs.Phases.{Phase, Offline, PassiveIdle, Listening, Idle, Claim, Use, AwaitStatus, Pass, Checking, is_offline}
-use Rattle.pb_turn.specs.Stations.{Station, Reply, timer_of, slot_timer, next_station, previous_station}
+use Rattle.pb_turn.specs.Phases.{Phase, Offline, PassiveIdle, Listening, Idle, Claim, Use, AwaitData, AwaitStatus, Pass, Checking, is_offline}
+use Rattle.pb_turn.specs.Stations.{Station, Reply, Cycles, timer_of, slot_timer, next_station, previous_station}
 
 -- ---- timers
 
@@ -40,6 +45,28 @@ not_taken s tries t =
     if nat_le tries_limit tries then record s { phase = Pass 0 t; las = las.removed s.las (next_station s) }
     else record s { phase = Pass tries t }
 
+-- the station that the open request was sent to
+abbrev pub asked_station : Option OpenRequest → Option ℕ
+asked_station None = None
+asked_station (Some request) = Some request.sent.da
+
+abbrev pub outcome_at : Option ℕ → Option Outcome → Option (ℕ × Outcome) → Option (ℕ × Outcome)
+outcome_at (Some of) (Some outcome) last = Some (of, outcome)
+outcome_at of outcome last = last
+
+-- the message cycles after an outcome of the open request, by what came, or because nothing came
+abbrev pub cycle_closed : Cycles → Option Message → Cycles
+cycle_closed c message = record c {
+  initiator = after_outcome c.initiator message;
+  last_outcome = outcome_at (asked_station c.initiator.pending) (outcome_of c.initiator message) c.last_outcome;
+}
+
+-- no answer came: the request is sent again at a moment, or it is given up and the token used again from then on
+abbrev pub not_answered : Station → Bool → Bool → ℕ → Station
+not_answered s asked slot ready =
+    if is_some (retry_of s.cycles.initiator.pending) then record s { phase = AwaitData asked (Some ready) slot }
+    else record s { phase = Use asked ready; cycles = cycle_closed s.cycles None }
+
 -- the station after the timer of its phase has ended at t
 abbrev pub phase_timed_out : Station → Phase → ℕ → Station
 phase_timed_out s Offline t = s
@@ -48,6 +75,7 @@ phase_timed_out s (Listening doubled) t = claiming s t
 phase_timed_out s (Idle refused) t = claiming s t
 phase_timed_out s (Claim sent ready) t = s
 phase_timed_out s (Use asked ready) t = s
+phase_timed_out s (AwaitData asked retry slot) t = not_answered s asked false t
 phase_timed_out s (AwaitStatus of slot) t = record s { phase = Use true t }
 phase_timed_out s (Pass tries ready) t = s
 phase_timed_out s (Checking tries) t = not_taken s tries t
@@ -70,6 +98,7 @@ phase_begun (Listening doubled) own at = Listening doubled
 phase_begun (Idle refused) own at = Idle refused
 phase_begun (Claim sent ready) own at = Idle None
 phase_begun (Use asked ready) own at = Idle None
+phase_begun (AwaitData asked retry slot) own at = AwaitData asked None (slot && nat_lt at own)
 phase_begun (AwaitStatus of slot) own at = AwaitStatus of (slot && nat_lt at own)
 phase_begun (Pass tries ready) own at = Idle None
 phase_begun (Checking tries) own at = Checking tries
@@ -80,7 +109,10 @@ begun s at = record s { busy = true; reply = None; phase = phase_begun s.phase s
 
 -- ---- activity ends
 
--- the station of a master, in the reply to a request for its status
+-- the station type in a reply: a passive station, and a master in three states
+abbrev pub passive : ℕ
+passive = 0
+
 abbrev pub not_ready : ℕ
 not_ready = 1
 
@@ -99,7 +131,24 @@ is_status Unknown = false
 abbrev pub asks_status : ℕ → Fields → Bool
 asks_status ts f = has_bit f.fc 6 && (is_status (asked_by (f.fc % 16)) && address_in f.da == ts)
 
--- the answer to a request for the status that ended at a moment
+-- the answer of a station of some type to a request that ended at a moment, which it executes, if it is none that was executed before
+abbrev pub answer_to : Params → Station → ℕ → Fields → ℕ → Option Reply
+answer_to p s at f station_type = option_map (λ reply. record { ready = at + p.tsdr; octets = reply_octets reply; joins = false }) (reply_to_framed s.cycles.responder s.address station_type f)
+
+abbrev pub answering : Params → Station → ℕ → Fields → ℕ → Station
+answering p s at f station_type = record s {
+  reply = answer_to p s at f station_type;
+  cycles = record s.cycles { responder = after_framed s.cycles.responder s.address station_type f };
+}
+
+-- a passive station answers requests, and hears nothing else
+abbrev pub passive_hears : Params → Station → ℕ → Arrival → Station
+passive_hears p s at (Token da sa) = s
+passive_hears p s at (Framed f) = answering p s at f passive
+passive_hears p s at Acknowledgement = s
+passive_hears p s at NoTelegram = s
+
+-- the answer of a station that listens to a request for the status that ended at a moment
 abbrev pub status_answer : Params → Station → ℕ → Fields → ℕ → Bool → Option Reply
 status_answer p s at f station_type joins =
     if asks_status s.address f
@@ -157,7 +206,7 @@ token_in_idle p s refused at da sa =
 
 abbrev pub idle_hears : Params → Station → Option ℕ → ℕ → Arrival → Station
 idle_hears p s refused at (Token da sa) = token_in_idle p s refused at da sa
-idle_hears p s refused at (Framed f) = record s { reply = status_answer p s at f in_ring false }
+idle_hears p s refused at (Framed f) = answering p s at f in_ring
 idle_hears p s refused at Acknowledgement = s
 idle_hears p s refused at NoTelegram = s
 
@@ -190,6 +239,22 @@ awaiting_status_hears p s of at (Framed f) = if has_bit f.fc 6 then lost s else 
 awaiting_status_hears p s of at Acknowledgement = status_told p s of at None
 awaiting_status_hears p s of at NoTelegram = status_told p s of at None
 
+-- what came in place of a reply to the open request is none
+abbrev pub no_reply : Params → Station → Bool → Bool → ℕ → Station
+no_reply p s asked slot at = not_answered s asked slot (max at s.own.end + p.tid1)
+
+-- a message came: the outcome of the open request, if it is a reply to it
+abbrev pub data_told : Params → Station → Bool → Bool → ℕ → Message → Option Outcome → Station
+data_told p s asked slot at m (Some outcome) = record s { phase = Use asked (at + p.tid1); cycles = cycle_closed s.cycles (Some m) }
+data_told p s asked slot at m None = no_reply p s asked slot at
+
+abbrev pub awaiting_data_hears : Params → Station → Bool → Bool → ℕ → Arrival → Station
+awaiting_data_hears p s asked slot at (Token da sa) = lost (with_token s da sa)
+awaiting_data_hears p s asked slot at (Framed f) =
+    if has_bit f.fc 6 then lost s else data_told p s asked slot at (message.Framed f) (outcome_of s.cycles.initiator (Some (message.Framed f)))
+awaiting_data_hears p s asked slot at Acknowledgement = data_told p s asked slot at message.Acknowledgement (outcome_of s.cycles.initiator (Some message.Acknowledgement))
+awaiting_data_hears p s asked slot at NoTelegram = no_reply p s asked slot at
+
 -- Checking hears an end: a whole telegram is heard as in Idle. After anything else the choice says whether the token is passed again.
 abbrev pub checking_hears : Params → Bool → Station → ℕ → ℕ → Arrival → Station
 checking_hears p again s tries at (Token da sa) = idle_hears p (lost s) None at (Token da sa)
@@ -200,11 +265,12 @@ checking_hears p again s tries at NoTelegram = if again then record s { phase = 
 -- the station after activity has ended
 abbrev pub phase_ended : Params → Bool → Station → Phase → ℕ → Arrival → Station
 phase_ended p again s Offline at arrival = s
-phase_ended p again s PassiveIdle at arrival = s
+phase_ended p again s PassiveIdle at arrival = passive_hears p s at arrival
 phase_ended p again s (Listening doubled) at arrival = listening_hears p s doubled at arrival
 phase_ended p again s (Idle refused) at arrival = idle_hears p s refused at arrival
 phase_ended p again s (Claim sent ready) at arrival = holder_hears s arrival
 phase_ended p again s (Use asked ready) at arrival = holder_hears s arrival
+phase_ended p again s (AwaitData asked retry slot) at arrival = awaiting_data_hears p s asked slot at arrival
 phase_ended p again s (AwaitStatus of slot) at arrival = awaiting_status_hears p s of at arrival
 phase_ended p again s (Pass tries ready) at arrival = holder_hears s arrival
 phase_ended p again s (Checking tries) at arrival = checking_hears p again s tries at arrival

@@ -1,12 +1,16 @@
 -- What the laws of a turn speak of.
-use Rattle.std.specs.Prelude.{◌≡◌, ℕ, ◌+◌, ◌<◌, ◌≤◌, Bool, true, false, ◌&&◌, ◌||◌, List, [], slice_index, length, IfSome, None}
+use Rattle.std.specs.Prelude.{◌≡◌, ℕ, ◌+◌, ◌<◌, ◌≤◌, Bool, true, false, ◌&&◌, ◌||◌, List, [], slice_index, length, All, Option, IfSome, IsSome, None}
 use Rattle.pb_telegram.specs.Faults.{is_token, has_control, da_place}
 use Rattle.pb_timers.specs.Timers.{Params}
 use Rattle.pb_cycles.specs.Fields.{Fields}
-use Rattle.pb_cycles.specs.Messages.{has_bit, address_in, frame_octets}
+use Rattle.pb_cycles.specs.Initiating.{retry_of}
+use Rattle.pb_cycles.specs.Messages.{has_bit, address_in, frame_octets, reply_octets}
+use Rattle.pb_cycles.specs.RequestFields.{RequestFields}
+use Rattle.pb_cycles.specs.Requests.{IsAddressed}
+use Rattle.pb_cycles.specs.declared.initiators.OpenRequest.{OpenRequest}
 use Rattle.pb_turn.specs.Arrivals.{Arrival, Token, Framed, Acknowledgement, NoTelegram}
-use Rattle.pb_turn.specs.Phases.{Phase, Offline, PassiveIdle, Listening, Idle, Claim, Use, AwaitStatus, Pass, Checking}
-use Rattle.pb_turn.specs.Stations.{Station, Reply, due_of, speaks_at}
+use Rattle.pb_turn.specs.Phases.{Phase, Offline, PassiveIdle, Listening, Idle, Claim, Use, AwaitData, AwaitStatus, Pass, Checking}
+use Rattle.pb_turn.specs.Stations.{Station, Cycles, Reply, due_of, speaks_at}
 
 -- a station without unread marks is due later than the clock, or not at all
 abbrev pub IsDueLater : Params → Station → ℕ → Type 0
@@ -19,6 +23,7 @@ is_checking (Listening doubled) = false
 is_checking (Idle refused) = false
 is_checking (Claim sent ready) = false
 is_checking (Use asked ready) = false
+is_checking (AwaitData asked retry slot) = false
 is_checking (AwaitStatus of slot) = false
 is_checking (Pass tries ready) = false
 is_checking (Checking tries) = true
@@ -31,9 +36,23 @@ HasAsked (Listening doubled) = ⊥
 HasAsked (Idle refused) = Unit {0}
 HasAsked (Claim sent ready) = ⊥
 HasAsked (Use asked ready) = asked ≡ true
+HasAsked (AwaitData asked retry slot) = asked ≡ true
 HasAsked (AwaitStatus of slot) = Unit {0}
 HasAsked (Pass tries ready) = ⊥
 HasAsked (Checking tries) = ⊥
+
+-- a station is asked for its status
+abbrev pub is_asking : Phase → Bool
+is_asking Offline = false
+is_asking PassiveIdle = false
+is_asking (Listening doubled) = false
+is_asking (Idle refused) = false
+is_asking (Claim sent ready) = false
+is_asking (Use asked ready) = false
+is_asking (AwaitData asked retry slot) = false
+is_asking (AwaitStatus of slot) = true
+is_asking (Pass tries ready) = false
+is_asking (Checking tries) = false
 
 -- what a whole telegram brings
 abbrev pub is_whole : Arrival → Bool
@@ -63,6 +82,49 @@ pub record IsReply (octets : List ℕ) : Type 0 where
 -- a reply that is not sent yet is such a telegram
 abbrev pub HasReply : Station → Type 0
 HasReply s = IfSome s.reply (λ r. IsReply r.octets)
+
+-- data that fits into a telegram
+abbrev pub Fits : List ℕ → Type 0
+Fits unit = length unit ≤ 246
+
+-- a request with an address and with data that it may have
+pub record IsRequest (r : RequestFields) : Type 0 where
+  pub addressed : IsAddressed r.da r.service
+  pub fits : Fits r.unit
+
+-- an open request that was sent to a station
+pub record IsOpenRequest (o : OpenRequest) : Type 0 where
+  pub addressed : o.sent.da ≤ 126
+  pub fits : Fits o.sent.unit
+
+-- what a station keeps of its message cycles can be said
+pub record AreCycles (c : Cycles) : Type 0 where
+  pub high : All IsRequest c.queue.high
+  pub low : All IsRequest c.queue.low
+  pub pending : IfSome c.initiator.pending IsOpenRequest
+  pub unit : Fits c.responder.reply
+  pub kept : IfSome c.responder.kept (λ k. IsReply (reply_octets k.reply))
+
+-- the station can say what it keeps of its message cycles
+abbrev pub HasCycles : Station → Type 0
+HasCycles s = AreCycles s.cycles
+
+-- a phase that waits for a reply has an open request, and a retry left where it has a moment at which it is sent again
+abbrev pub HasOpen : Option OpenRequest → Phase → Type 0
+HasOpen pending Offline = Unit {0}
+HasOpen pending PassiveIdle = Unit {0}
+HasOpen pending (Listening doubled) = Unit {0}
+HasOpen pending (Idle refused) = Unit {0}
+HasOpen pending (Claim sent ready) = Unit {0}
+HasOpen pending (Use asked ready) = Unit {0}
+HasOpen pending (AwaitData asked retry slot) = IsSome pending × IfSome retry (λ ready. IsSome (retry_of pending))
+HasOpen pending (AwaitStatus of slot) = Unit {0}
+HasOpen pending (Pass tries ready) = Unit {0}
+HasOpen pending (Checking tries) = Unit {0}
+
+-- a station that waits for a reply has an open request, and a retry left where it waits to send it again
+abbrev pub HasOpenRequest : Station → Type 0
+HasOpenRequest s = HasOpen s.cycles.initiator.pending s.phase
 
 -- a station that is busy has nothing to say
 abbrev pub IsSilentWhileBusy : Station → Type 0

@@ -13,6 +13,8 @@ pub data Phase : Type 0 where
   Claim : (sent ready : ℕ) → Phase
   -- with whether a station was asked for its status since the receipt of the token
   Use : (asked : Bool) (ready : ℕ) → Phase
+  -- with whether a station was asked for its status since the receipt, when the request is sent again, if it is, and whether the slot still runs
+  AwaitData : (asked : Bool) (retry : Option ℕ) (slot : Bool) → Phase
   -- with the station that was asked for its status, and whether its slot still runs
   AwaitStatus : (of : ℕ) (slot : Bool) → Phase
   -- with how often the token was sent to this successor
@@ -28,6 +30,7 @@ may_initiate (Listening doubled) = false
 may_initiate (Idle refused) = false
 may_initiate (Claim sent ready) = true
 may_initiate (Use asked ready) = true
+may_initiate (AwaitData asked retry slot) = true
 may_initiate (AwaitStatus of slot) = true
 may_initiate (Pass tries ready) = true
 may_initiate (Checking tries) = false

@@ -1,20 +1,34 @@
 -- The state of a station, and the moments at which it acts.
-use Rattle.std.specs.Prelude.{ℕ, ◌+◌, Bool, false, if◌then◌else◌, List, [], ◌∷◌, Option, Some, None, min}
+use Rattle.std.specs.Prelude.{ℕ, ◌+◌, Bool, false, if◌then◌else◌, List, [], ◌∷◌, Option, Some, None, min, replicate}
 use Rattle.pb_timers.specs.Timers.{Params, tto}
 use Rattle.pb_ring.specs.AddressSets.{next_address, previous_address}
 use Rattle.pb_ring.specs.Las.{LasTable, listening, members_of}
 use Rattle.pb_ring.specs.declared.gaps.Round.{Round}
 use Rattle.pb_ring.specs.declared.gaps.Round.TheVariants.{Open}
 use Rattle.pb_rotation.specs.Rotation.{Rotation, fresh}
+use Rattle.pb_cycles.specs.Queued.{Queued, put}
+use Rattle.pb_cycles.specs.RequestFields.{RequestFields}
+use Rattle.pb_cycles.specs.Tables.{InitiatorTable, ResponderTable}
+use Rattle.pb_cycles.specs.declared.counts.FrameCount.TheVariants.{First}
+use Rattle.pb_cycles.specs.declared.outcomes.Outcome.{Outcome}
 use Rattle.pb_turn.specs.Spans.{Span}
 use Rattle.pb_turn.specs.Marks.{Mark, seen_at}
-use Rattle.pb_turn.specs.Phases.{Phase, Offline, PassiveIdle, Listening, Idle, Claim, Use, AwaitStatus, Pass, Checking}
+use Rattle.pb_turn.specs.Phases.{Phase, Offline, PassiveIdle, Listening, Idle, Claim, Use, AwaitData, AwaitStatus, Pass, Checking}
 
 -- A reply that is not sent yet. One that says that the station is ready takes it into the ring.
 pub record Reply : Type 0 where
   pub ready : ℕ
   pub octets : List ℕ
   pub joins : Bool
+
+-- what a station keeps of its message cycles
+pub record Cycles : Type 0 where
+  -- the requests that wait
+  pub queue : Queued
+  pub initiator : InitiatorTable
+  pub responder : ResponderTable
+  -- the station of the last cycle with an outcome, and that
+  pub last_outcome : Option (ℕ × Outcome)
 
 pub record Station : Type 0 where
   pub address : ℕ
@@ -31,6 +45,7 @@ pub record Station : Type 0 where
   -- the round of questions to the GAP
   pub gap : Round
   pub rotation : Rotation
+  pub cycles : Cycles
 
 -- ---- neighbours
 
@@ -58,6 +73,7 @@ phase_timer p s (Listening doubled) = Some (silence_timer p s)
 phase_timer p s (Idle refused) = Some (silence_timer p s)
 phase_timer p s (Claim sent ready) = None
 phase_timer p s (Use asked ready) = None
+phase_timer p s (AwaitData asked retry slot) = if slot then Some (slot_timer p s) else None
 phase_timer p s (AwaitStatus of slot) = if slot then Some (slot_timer p s) else None
 phase_timer p s (Pass tries ready) = None
 phase_timer p s (Checking tries) = Some (slot_timer p s)
@@ -78,6 +94,7 @@ phase_speaks reply (Listening doubled) = reply_moment reply
 phase_speaks reply (Idle refused) = reply_moment reply
 phase_speaks reply (Claim sent ready) = Some ready
 phase_speaks reply (Use asked ready) = Some ready
+phase_speaks reply (AwaitData asked retry slot) = retry
 phase_speaks reply (AwaitStatus of slot) = None
 phase_speaks reply (Pass tries ready) = Some ready
 phase_speaks reply (Checking tries) = None
@@ -101,8 +118,18 @@ due_of p s marks = earlier (first_seen marks) (earlier (timer_of p s) (speaks_at
 
 -- ---- a new station, and one that starts
 
-abbrev pub new_station : Params → ℕ → Station
-new_station p address = record {
+-- nothing waits, was sent or was heard yet
+abbrev pub new_cycles : Params → List ℕ → Cycles
+new_cycles p reply = record {
+  queue = record { high = []; low = [] };
+  initiator = record { retries = p.retries; counts = replicate 127 First; pending = None };
+  responder = record { reply = reply; kept = None; executed = 0 };
+  last_outcome = None;
+}
+
+-- a station with an address, and the data that it replies to a request for data
+abbrev pub new_station : Params → ℕ → List ℕ → Station
+new_station p address reply = record {
   address = address;
   phase = Offline;
   busy = false;
@@ -112,12 +139,28 @@ new_station p address = record {
   las = listening;
   gap = Open None;
   rotation = fresh p.ttr;
+  cycles = new_cycles p reply;
 }
 
 -- a master listens for the ring, a passive station waits for requests
 abbrev pub started : Params → Station → Bool → ℕ → Station
-started p s master now = record (new_station p s.address) {
+started p s master now = record (new_station p s.address s.cycles.responder.reply) {
   phase = if master then Listening false else PassiveIdle;
   quiet = now;
   own = record { begin = now; end = now };
 }
+
+-- a station that stops says nothing more; all else stays
+abbrev pub stopped : Station → Station
+stopped s = record s { phase = Offline; reply = None }
+
+-- the list of a request's priority
+abbrev pub list_for : Queued → RequestFields → List RequestFields
+list_for q r = if r.high then q.high else q.low
+
+-- a request waits behind the others of its priority, where its list has room
+abbrev pub queued : Queued → RequestFields → Queued
+queued q r = if r.high then record q { high = put q.high r } else record q { low = put q.low r }
+
+abbrev pub pushed : Station → RequestFields → Station
+pushed s r = record s { cycles = record s.cycles { queue = queued s.cycles.queue r } }

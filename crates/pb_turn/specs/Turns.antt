@@ -1,15 +1,19 @@
 -- The turn of a station: it reads its unread marks and the timers between them in order of time, and then speaks if it is due.
-use Rattle.std.specs.Prelude.{ℕ, ◌+◌, Bool, true, false, not, if◌then◌else◌, ◌==◌, nat_le, ◌&&◌, List, [], ◌∷◌, length, max, min, Option, Some, None}
+use Rattle.std.specs.Prelude.{ℕ, ◌+◌, Bool, true, false, not, if◌then◌else◌, ◌==◌, nat_le, ◌&&◌, List, [], ◌∷◌, drop, length, max, min, Option, Some, None}
 use Rattle.pb_telegram.specs.Grammar.{sd4}
 use Rattle.pb_timers.specs.Timers.{Params, bits}
 use Rattle.pb_ring.specs.Las as las
 use Rattle.pb_ring.specs.Gap.{is_due, last_asked, next_asked, round_after}
 use Rattle.pb_ring.specs.declared.gaps.Round.TheVariants.{Open}
-use Rattle.pb_rotation.specs.Rotation.{received, fresh, may_low}
+use Rattle.pb_rotation.specs.Rotation.{received, fresh, may_low, may_high, started_high}
+use Rattle.pb_cycles.specs.Fields.{Fields}
+use Rattle.pb_cycles.specs.Initiating.{first_sending, after_request, retry_of, after_retry}
 use Rattle.pb_cycles.specs.Messages.{frame_octets}
+use Rattle.pb_cycles.specs.RequestFields.{RequestFields}
+use Rattle.pb_cycles.specs.Requests.{is_answered}
 use Rattle.pb_turn.specs.Hearing.{after_timer, after_mark, tries_limit}
 use Rattle.pb_turn.specs.Marks.{Mark, moment_of}
-use Rattle.pb_turn.specs.Phases.{Phase, Offline, PassiveIdle, Listening, Idle, Claim, Use, AwaitStatus, Pass, Checking}
+use Rattle.pb_turn.specs.Phases.{Phase, Offline, PassiveIdle, Listening, Idle, Claim, Use, AwaitData, AwaitStatus, Pass, Checking}
 use Rattle.pb_turn.specs.Stations.{Station, Reply, speaks_at, next_station}
 
 -- the station after its unread marks, and the timers that end before each; a mark comes first at a tie
@@ -73,10 +77,69 @@ says_look p s (Some a) now =
     let octets = status_request_octets a s.address in
     (record (saying s now octets) { phase = AwaitStatus a true; gap = round_after (Some a) now }, Some octets)
 
-abbrev pub says_in_use : Params → Station → Bool → ℕ → Station × Option (List ℕ)
-says_in_use p s asked now =
+-- no request waits that may be sent
+abbrev pub says_no_request : Params → Station → Bool → ℕ → Station × Option (List ℕ)
+says_no_request p s asked now =
     if looks_at_gap p s asked now then says_look p s (next_asked s.address (next_station s) p.hsa (last_asked s.gap)) now
     else says_token p s 0 now
+
+-- ---- message cycles
+
+-- the request that has waited longest
+abbrev pub longest_waiting : List RequestFields → Option RequestFields
+longest_waiting [] = None
+longest_waiting (r ∷ rs) = Some r
+
+-- the request of high priority, or of low priority, that may be sent at a moment
+abbrev pub high_request : Station → ℕ → Option RequestFields
+high_request s now = if may_high s.rotation now then longest_waiting s.cycles.queue.high else None
+
+abbrev pub low_request : Station → ℕ → Option RequestFields
+low_request s now = if may_low s.rotation now then longest_waiting s.cycles.queue.low else None
+
+-- it no longer waits
+abbrev pub high_taken : Station → Station
+high_taken s = record s {
+  rotation = started_high s.rotation;
+  cycles = record s.cycles { queue = record s.cycles.queue { high = drop 1 s.cycles.queue.high } };
+}
+
+abbrev pub low_taken : Station → Station
+low_taken s = record s { cycles = record s.cycles { queue = record s.cycles.queue { low = drop 1 s.cycles.queue.low } } }
+
+-- after a request: an SDA or SRD waits for its answer, an SDN for the second idle time
+abbrev pub request_sent : Params → Station → Bool → RequestFields → Station
+request_sent p s asked r = if is_answered r.service then record s { phase = AwaitData asked None true } else record s { phase = Use asked (s.own.end + p.tid2) }
+
+-- a request is said
+abbrev pub says_request : Params → Station → Bool → RequestFields → ℕ → Station × Option (List ℕ)
+says_request p s asked r now =
+    let octets = frame_octets (first_sending s.cycles.initiator s.address r) in (
+      request_sent p (record (saying s now octets) { cycles = record s.cycles { initiator = after_request s.cycles.initiator s.address r } }) asked r,
+      Some octets,
+    )
+
+abbrev pub says_low : Params → Station → Bool → Option RequestFields → ℕ → Station × Option (List ℕ)
+says_low p s asked (Some r) now = says_request p (low_taken s) asked r now
+says_low p s asked None now = says_no_request p s asked now
+
+abbrev pub says_high : Params → Station → Bool → Option RequestFields → ℕ → Station × Option (List ℕ)
+says_high p s asked (Some r) now = says_request p (high_taken s) asked r now
+says_high p s asked None now = says_low p s asked (low_request s now) now
+
+-- a station that uses the token sends requests, of high priority first, as long as it may, then looks for others in its GAP, then passes the token on
+abbrev pub says_in_use : Params → Station → Bool → ℕ → Station × Option (List ℕ)
+says_in_use p s asked now = says_high p s asked (high_request s now) now
+
+-- the open request is sent again; a station that waits to do so has a retry left
+abbrev pub says_again : Station → Bool → Option Fields → ℕ → Station × Option (List ℕ)
+says_again s asked None now = (record s { phase = AwaitData asked None false }, None)
+says_again s asked (Some f) now = (
+  record (saying s now (frame_octets f)) { phase = AwaitData asked None true; cycles = record s.cycles { initiator = after_retry s.cycles.initiator } },
+  Some (frame_octets f),
+)
+
+-- ---- replies
 
 -- a station joins the ring
 abbrev pub joining : Station → Station
@@ -108,6 +171,7 @@ phase_says p s (Listening doubled) now = says_ready s s.reply now
 phase_says p s (Idle refused) now = says_reply s s.reply now
 phase_says p s (Claim sent ready) now = says_claim p s sent now
 phase_says p s (Use asked ready) now = says_in_use p s asked now
+phase_says p s (AwaitData asked retry slot) now = says_again s asked (retry_of s.cycles.initiator.pending) now
 phase_says p s (AwaitStatus of slot) now = (s, None)
 phase_says p s (Pass tries ready) now = says_token p s tries now
 phase_says p s (Checking tries) now = (s, None)

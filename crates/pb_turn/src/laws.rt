@@ -1,14 +1,15 @@
 ghost use Rattle.std.specs.Prelude.{◌≡◌, ◌+◌, ◌<◌, ◌≤◌, ◌⊎◌, ℕ, Bool, true, false, List, [], ◌∷◌, length, Some, None, IfSome, IsSome};
 ghost use Rattle.pb_telegram.specs.declared.chars.RxChar.{RxChar};
 ghost use Rattle.pb_timers.specs.Timers.{Params, bits};
+ghost use Rattle.pb_cycles.specs.RequestFields.{RequestFields};
 ghost use Rattle.pb_turn.specs.Arrivals.{Token, arrival_of};
 ghost use Rattle.pb_turn.specs.Marks.{Mark, End, moment_of};
-ghost use Rattle.pb_turn.specs.Phases.{Offline, Listening, Idle, AwaitStatus, Checking, may_initiate};
-ghost use Rattle.pb_turn.specs.Stations.{Station, timer_of, speaks_at, due_of, previous_station, started};
+ghost use Rattle.pb_turn.specs.Phases.{Offline, Listening, Idle, AwaitData, AwaitStatus, Checking, may_initiate};
+ghost use Rattle.pb_turn.specs.Stations.{Station, timer_of, speaks_at, due_of, previous_station, new_station, started, stopped, pushed};
 ghost use Rattle.pb_turn.specs.Hearing.{phase_timed_out, after_mark};
 ghost use Rattle.pb_turn.specs.Turns.{after_marks, settled, phase_says, turn_of};
 ghost use Rattle.pb_turn.specs.Pasts.{Past, nothing, past_after_turn, StandsForPast};
-ghost use Rattle.pb_turn.specs.Laws.{IsDueLater, is_checking, are_initiator, HasReply, IsSilentWhileBusy};
+ghost use Rattle.pb_turn.specs.Laws.{IsDueLater, is_checking, Fits, IsRequest, are_initiator, HasReply, HasCycles, HasOpenRequest, IsSilentWhileBusy};
 
 /// After a turn the station is due later than the clock, or not at all.
 pub fn a_turn_leaves_the_due_later()
@@ -43,14 +44,17 @@ pub fn a_mark_comes_before_a_timer_at_its_moment()
         → after_marks p again s (m ∷ marks) ≡ after_marks p again (after_mark p again (phase_timed_out s s.phase t) m) marks }
 {}
 
-/// A station that has passed the token, or asked for a status, waits for activity until a slot time after
-/// the end of its telegram.
+/// A station that has passed the token, asked for a status, or sent a request that is answered waits for
+/// activity until a slot time after the end of its telegram.
 pub fn a_slot_counts_from_the_end()
     ensures checking { (p : Params) (again : Bool) (s : Station) (marks : List Mark) (now tries : ℕ) (octets : List ℕ)
         → (turn_of p again s marks now).1 ≡ Some octets → (turn_of p again s marks now).0.phase ≡ Checking tries → (turn_of p again s marks now).0.busy ≡ false
         → due_of p (turn_of p again s marks now).0 [] ≡ Some (now + bits (length octets) + p.tsl) }
     ensures asking { (p : Params) (again : Bool) (s : Station) (marks : List Mark) (now of : ℕ) (octets : List ℕ)
         → (turn_of p again s marks now).1 ≡ Some octets → (turn_of p again s marks now).0.phase ≡ AwaitStatus of true → (turn_of p again s marks now).0.busy ≡ false
+        → due_of p (turn_of p again s marks now).0 [] ≡ Some (now + bits (length octets) + p.tsl) }
+    ensures requesting { (p : Params) (again : Bool) (s : Station) (marks : List Mark) (now : ℕ) (asked : Bool) (octets : List ℕ)
+        → (turn_of p again s marks now).1 ≡ Some octets → (turn_of p again s marks now).0.phase ≡ AwaitData asked None true → (turn_of p again s marks now).0.busy ≡ false
         → due_of p (turn_of p again s marks now).0 [] ≡ Some (now + bits (length octets) + p.tsl) }
 {}
 
@@ -69,7 +73,7 @@ pub fn a_station_that_is_due_speaks()
     ensures due { (p : Params) (again : Bool) (s : Station) (marks : List Mark) (now moment : ℕ)
         → speaks_at (settled p again s marks now) ≡ Some moment → moment ≤ now
         → turn_of p again s marks now ≡ phase_says p (settled p again s marks now) (settled p again s marks now).phase now }
-    ensures speaks { (p : Params) (s : Station) (now moment : ℕ) → speaks_at s ≡ Some moment → IsSome (phase_says p s s.phase now).1 }
+    ensures speaks { (p : Params) (s : Station) (now moment : ℕ) → HasOpenRequest s → speaks_at s ≡ Some moment → IsSome (phase_says p s s.phase now).1 }
     ensures not_due { (p : Params) (again : Bool) (s : Station) (marks : List Mark) (now : ℕ)
         → IfSome (speaks_at (settled p again s marks now)) (λ moment. now < moment) → (turn_of p again s marks now).1 ≡ None }
 {}
@@ -89,26 +93,54 @@ pub fn a_first_token_is_taken_from_the_previous_station()
 /// Nobody but a holder says a token or a request: a station that does, may initiate as it speaks.
 pub fn only_a_holder_initiates()
     ensures started { (p : Params) (s : Station) (master : Bool) (now : ℕ) → HasReply (started p s master now) }
-    ensures speech { (p : Params) (again : Bool) (s : Station) (marks : List Mark) (now : ℕ) → HasReply s
+    ensures speech { (p : Params) (again : Bool) (s : Station) (marks : List Mark) (now : ℕ) → HasReply s → HasCycles s
         → IfSome (turn_of p again s marks now).1 (λ octets. are_initiator octets ≡ true → may_initiate (settled p again s marks now).phase ≡ true) }
-    ensures reply { (p : Params) (again : Bool) (s : Station) (marks : List Mark) (now : ℕ) → HasReply s → HasReply (turn_of p again s marks now).0 }
-    ensures fits { (p : Params) (again : Bool) (s : Station) (marks : List Mark) (now : ℕ) → HasReply s
+    ensures reply { (p : Params) (again : Bool) (s : Station) (marks : List Mark) (now : ℕ) → HasReply s → HasCycles s → HasReply (turn_of p again s marks now).0 }
+    ensures stopped { (s : Station) → HasReply (stopped s) }
+    ensures pushed { (s : Station) (r : RequestFields) → HasReply s → HasReply (pushed s r) }
+    ensures fits { (p : Params) (again : Bool) (s : Station) (marks : List Mark) (now : ℕ) → HasReply s → HasCycles s
         → IfSome (turn_of p again s marks now).1 (λ octets. (0 < length octets) × (length octets ≤ 255)) }
 {}
 
+/// What a station keeps of its message cycles can be said, in all that it does: the requests that wait and
+/// the one that is open have addresses and data that a telegram may have, and the reply that it keeps for a
+/// repeat is no telegram of a holder.
+pub fn what_a_station_keeps_can_be_said()
+    ensures new { (p : Params) (address : ℕ) (reply : List ℕ) → Fits reply → HasCycles (new_station p address reply) }
+    ensures started { (p : Params) (s : Station) (master : Bool) (now : ℕ) → HasCycles s → HasCycles (started p s master now) }
+    ensures turn { (p : Params) (again : Bool) (s : Station) (marks : List Mark) (now : ℕ) → HasReply s → HasCycles s → HasCycles (turn_of p again s marks now).0 }
+    ensures stopped { (s : Station) → HasCycles s → HasCycles (stopped s) }
+    ensures pushed { (s : Station) (r : RequestFields) → HasCycles s → IsRequest r → HasCycles (pushed s r) }
+{}
+
 /// The list of active stations, the GAP and the rotation of a station stand for what it heard, asked and
-/// received since each of them began: they do as it starts, and a turn adds to both what happens in it. A
-/// claim begins all of them anew, joining the ring the last two, and listening anew the list.
+/// received since each of them began, and the tables of its message cycles for what it did and heard since
+/// it started: they do as it starts, and a turn adds to both what happens in it. A claim begins the first
+/// three anew, joining the ring the GAP and the rotation, and listening anew the list.
 pub fn the_tables_stand_for_what_was_heard_asked_and_received()
     ensures started { (p : Params) (s : Station) (master : Bool) (now : ℕ) → s.address < 127 → StandsForPast p (started p s master now) nothing }
-    ensures turn { (p : Params) (again : Bool) (s : Station) (marks : List Mark) (now : ℕ) (past : Past) → p.hsa < 127 → StandsForPast p s past
+    ensures turn { (p : Params) (again : Bool) (s : Station) (marks : List Mark) (now : ℕ) (past : Past) → p.hsa < 127 → HasReply s → HasCycles s → StandsForPast p s past
         → StandsForPast p (turn_of p again s marks now).0 (past_after_turn p again s marks now past) }
+    ensures stopped { (p : Params) (s : Station) (past : Past) → StandsForPast p s past → StandsForPast p (stopped s) past }
+    ensures pushed { (p : Params) (s : Station) (r : RequestFields) (past : Past) → StandsForPast p s past → StandsForPast p (pushed s r) past }
+{}
+
+/// A station that waits for a reply has an open request, and a retry left where it waits to send it again, in
+/// all that it does.
+pub fn who_waits_for_a_reply_has_an_open_request()
+    ensures started { (p : Params) (s : Station) (master : Bool) (now : ℕ) → HasOpenRequest (started p s master now) }
+    ensures turn { (p : Params) (again : Bool) (s : Station) (marks : List Mark) (now : ℕ) → HasOpenRequest s → HasOpenRequest (turn_of p again s marks now).0 }
+    ensures settled { (p : Params) (again : Bool) (s : Station) (marks : List Mark) (now : ℕ) → HasOpenRequest s → HasOpenRequest (settled p again s marks now) }
+    ensures stopped { (s : Station) → HasOpenRequest (stopped s) }
+    ensures pushed { (s : Station) (r : RequestFields) → HasOpenRequest s → HasOpenRequest (pushed s r) }
 {}
 
 /// A station that knows of activity says nothing: nobody speaks between a Begin that it has read and its End.
 pub fn a_busy_station_says_nothing()
     ensures started { (p : Params) (s : Station) (master : Bool) (now : ℕ) → IsSilentWhileBusy (started p s master now) }
     ensures turn { (p : Params) (again : Bool) (s : Station) (marks : List Mark) (now : ℕ) → IsSilentWhileBusy s → IsSilentWhileBusy (turn_of p again s marks now).0 }
+    ensures stopped { (s : Station) → IsSilentWhileBusy (stopped s) }
+    ensures pushed { (s : Station) (r : RequestFields) → IsSilentWhileBusy s → IsSilentWhileBusy (pushed s r) }
     ensures silent { (p : Params) (again : Bool) (s : Station) (marks : List Mark) (now : ℕ) → IsSilentWhileBusy s
         → (settled p again s marks now).busy ≡ true → turn_of p again s marks now ≡ (settled p again s marks now, None) }
 {}

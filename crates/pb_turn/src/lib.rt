@@ -10,11 +10,17 @@ pub use laws::{
     a_slot_counts_from_the_end, a_station_that_is_due_speaks, a_turn_keeps_the_address,
     a_turn_leaves_the_due_later, nothing_due_changes_nothing, one_that_listens_takes_no_token,
     only_a_holder_initiates, the_choice_is_asked_at_most_once,
-    the_tables_stand_for_what_was_heard_asked_and_received, who_is_offline_says_nothing,
+    the_tables_stand_for_what_was_heard_asked_and_received, what_a_station_keeps_can_be_said,
+    who_is_offline_says_nothing, who_waits_for_a_reply_has_an_open_request,
 };
 pub use rules::{
     a_claim_waits_for_a_time_out, a_foreign_request_takes_the_token_away, a_namesake_is_given_way,
-    a_refused_token_is_remembered, a_station_that_is_skipped_twice_listens,
-    a_token_is_tried_three_times, a_whole_telegram_ends_the_check,
-    one_station_is_asked_per_receipt, what_a_master_says_of_itself,
+    a_passive_station_only_replies, a_refused_token_is_remembered,
+    a_reply_is_dropped_where_activity_begins, a_reply_is_the_outcome, a_reply_waits_for_its_delay,
+    a_request_is_sent_again_after_its_slot, a_request_waits_behind_those_of_its_priority,
+    a_station_that_is_skipped_twice_listens, a_token_is_tried_three_times,
+    a_whole_telegram_ends_the_check, one_station_is_asked_per_receipt, requests_go_by_priority,
+    what_a_master_says_of_itself, what_is_only_told_waits_for_no_answer,
+    without_an_answer_the_next_request_is_a_first_one,
+    without_holding_time_one_high_request_is_sent,
 };

@@ -1,18 +1,27 @@
 //! Rules of the turn, number by number.
 
-ghost use Rattle.std.specs.Prelude.{◌≡◌, ◌+◌, ◌*◌, List, ◌<◌, ◌≤◌, ◌==◌, ℕ, Bool, true, false, Some, None, Option};
+ghost use Rattle.std.specs.Prelude.{◌≡◌, ◌+◌, ◌*◌, List, [], ◌∷◌, ◌++◌, length, ◌<◌, ◌≤◌, ◌==◌, max, ℕ, Bool, true, false, Some, None, Option, IfSome};
 ghost use Rattle.pb_telegram.specs.declared.chars.RxChar.{RxChar};
-ghost use Rattle.pb_timers.specs.Timers.{Params};
+ghost use Rattle.pb_timers.specs.Timers.{Params, bits};
 ghost use Rattle.pb_ring.specs.Las.{is_complete, heard, removed, listening, place_of, skips_of};
+ghost use Rattle.pb_rotation.specs.Rotation.{holding_left, is_unused, may_low, may_high};
 ghost use Rattle.pb_cycles.specs.Fields.{Fields};
-ghost use Rattle.pb_cycles.specs.Messages.{has_bit};
-ghost use Rattle.pb_turn.specs.Arrivals.{Token, Framed, arrival_of};
-ghost use Rattle.pb_turn.specs.Hearing.{phase_timed_out, listening_hears, idle_hears, awaiting_status_hears, asks_status, is_taken_from, after_mark};
-ghost use Rattle.pb_turn.specs.Laws.{HasAsked, is_whole, status_reply_of};
-ghost use Rattle.pb_turn.specs.Marks.{Mark, End};
-ghost use Rattle.pb_turn.specs.Phases.{Offline, Listening, Idle, Use, AwaitStatus, Pass, Checking, may_initiate};
-ghost use Rattle.pb_turn.specs.Stations.{Station, timer_of, next_station, previous_station};
-ghost use Rattle.pb_turn.specs.Turns.{says_token, phase_says, token_octets};
+ghost use Rattle.pb_cycles.specs.Initiating.{bits_for, first_sending, retry_of};
+ghost use Rattle.pb_cycles.specs.Messages.{has_bit, frame_octets};
+ghost use Rattle.pb_cycles.specs.RequestFields.{RequestFields};
+ghost use Rattle.pb_cycles.specs.Requests.{is_answered};
+ghost use Rattle.pb_cycles.specs.declared.initiators.OpenRequest.{OpenRequest};
+ghost use Rattle.pb_cycles.specs.Outcomes.{reply_outcome};
+ghost use Rattle.pb_cycles.specs.declared.messages.Message.TheVariants as message;
+ghost use Rattle.pb_cycles.specs.declared.outcomes.Outcome.{Outcome};
+ghost use Rattle.pb_cycles.specs.declared.outcomes.Outcome.TheVariants.{Acked, NoAnswer};
+ghost use Rattle.pb_turn.specs.Arrivals.{Token, Framed, Acknowledgement, NoTelegram, arrival_of};
+ghost use Rattle.pb_turn.specs.Hearing.{phase_timed_out, listening_hears, idle_hears, awaiting_status_hears, awaiting_data_hears, passive_hears, asks_status, is_taken_from, after_mark};
+ghost use Rattle.pb_turn.specs.Laws.{HasAsked, is_asking, is_whole, status_reply_of, are_initiator, HasReply, HasCycles};
+ghost use Rattle.pb_turn.specs.Marks.{Mark, Begin, End};
+ghost use Rattle.pb_turn.specs.Phases.{Offline, PassiveIdle, Listening, Idle, Use, AwaitData, AwaitStatus, Pass, Checking, may_initiate, is_offline};
+ghost use Rattle.pb_turn.specs.Stations.{Station, timer_of, speaks_at, next_station, previous_station, list_for, pushed};
+ghost use Rattle.pb_turn.specs.Turns.{says_token, says_request, says_again, high_request, low_request, high_taken, low_taken, phase_says, turn_of, token_octets};
 
 /// The token is passed again only where no whole telegram came in the slot: one that is whole leaves no
 /// choice, and the station may initiate after it only where it is a token to it from its previous station.
@@ -32,12 +41,19 @@ pub fn a_token_is_tried_three_times()
     ensures given_up { (s : Station) (t : ℕ) → phase_timed_out s (Checking 3) t ≡ record s { phase = Pass 0 t; las = removed s.las (next_station s) } }
 {}
 
-/// At most one station is asked for its status in a receipt of the token.
+/// At most one station is asked for its status in a receipt of the token, however many requests are sent
+/// in it: where none of them may be sent, the token goes on.
 pub fn one_station_is_asked_per_receipt()
-    ensures asked { (p : Params) (s : Station) (ready now : ℕ)
+    ensures asked { (p : Params) (s : Station) (ready now : ℕ) → high_request s now ≡ None → low_request s now ≡ None
         → (phase_says p (record s { phase = Use true ready }) (Use true ready) now).1 ≡ Some (token_octets (next_station s) s.address) }
     ensures heard { (p : Params) (again : Bool) (s : Station) (m : Mark) (of : ℕ) (slot : Bool) → s.phase ≡ AwaitStatus of slot → HasAsked (after_mark p again s m).phase }
     ensures silence { (s : Station) (of t : ℕ) (slot : Bool) → phase_timed_out s (AwaitStatus of slot) t ≡ record s { phase = Use true t } }
+    ensures no_more { (p : Params) (s : Station) (ready now : ℕ) → is_asking (phase_says p (record s { phase = Use true ready }) (Use true ready) now).0.phase ≡ false }
+    ensures request { (p : Params) (s : Station) (r : RequestFields) (now : ℕ) → HasAsked (says_request p s true r now).0.phase }
+    ensures retry { (s : Station) (f : Option Fields) (now : ℕ) → HasAsked (says_again s true f now).0.phase }
+    ensures request_heard { (p : Params) (again : Bool) (s : Station) (m : Mark) (retry : Option ℕ) (slot : Bool) → s.phase ≡ AwaitData true retry slot
+        → HasAsked (after_mark p again s m).phase }
+    ensures request_silence { (s : Station) (retry : Option ℕ) (slot : Bool) (t : ℕ) → HasAsked (phase_timed_out s (AwaitData true retry slot) t).phase }
 {}
 
 /// Who claims the token has waited in silence for its time-out, which depends on its address.
@@ -50,6 +66,7 @@ pub fn a_claim_waits_for_a_time_out()
 
 /// What a master says of itself where it is asked for its status, a reply delay after the request: not ready
 /// while its list is not complete, then ready for the ring, which it joins with this reply, and in the ring.
+/// A passive station says that it is one.
 pub fn what_a_master_says_of_itself()
     ensures not_ready { (p : Params) (s : Station) (doubled : Bool) (at : ℕ) (f : Fields) → asks_status s.address f ≡ true → is_complete s.las.stage ≡ false
         → (listening_hears p s doubled at (Framed f)).reply ≡ Some (status_reply_of p s at f 0x10 false) }
@@ -57,11 +74,16 @@ pub fn what_a_master_says_of_itself()
         → (listening_hears p s doubled at (Framed f)).reply ≡ Some (status_reply_of p s at f 0x20 true) }
     ensures in_ring { (p : Params) (s : Station) (refused : Option ℕ) (at : ℕ) (f : Fields) → asks_status s.address f ≡ true
         → (idle_hears p s refused at (Framed f)).reply ≡ Some (status_reply_of p s at f 0x30 false) }
+    ensures passive { (p : Params) (s : Station) (at : ℕ) (f : Fields) → asks_status s.address f ≡ true
+        → (passive_hears p s at (Framed f)).reply ≡ Some (status_reply_of p s at f 0x00 false) }
 {}
 
-/// A request of another station, heard in place of a reply, takes the token away.
+/// A request of another station, heard in place of a reply, takes the token away; an open request has no
+/// outcome then.
 pub fn a_foreign_request_takes_the_token_away()
-    ensures { (p : Params) (s : Station) (of at : ℕ) (f : Fields) → has_bit f.fc 6 ≡ true → (awaiting_status_hears p s of at (Framed f)).phase ≡ Idle None }
+    ensures data_reply { (p : Params) (s : Station) (asked slot : Bool) (at : ℕ) (f : Fields) → has_bit f.fc 6 ≡ true
+        → awaiting_data_hears p s asked slot at (Framed f) ≡ record s { phase = Idle None } }
+    ensures status_reply { (p : Params) (s : Station) (of at : ℕ) (f : Fields) → has_bit f.fc 6 ≡ true → (awaiting_status_hears p s of at (Framed f)).phase ≡ Idle None }
 {}
 
 /// A token that is refused is remembered by its source, and taken where that source offers the next one.
@@ -83,4 +105,102 @@ pub fn a_station_that_is_skipped_twice_listens()
         → idle_hears p s refused at (Token da sa) ≡ record s { phase = Listening false; las = listening } }
     ensures once { (p : Params) (s : Station) (refused : Option ℕ) (at da sa : ℕ) → (da == s.address) ≡ false → skips_of (place_of (heard s.las sa da).stage) < 2
         → idle_hears p s refused at (Token da sa) ≡ record s { las = heard s.las sa da } }
+{}
+
+/// Without holding time one request of high priority may be sent in a receipt, and no other: after it, and
+/// where none of high priority waits, the token goes on.
+pub fn without_holding_time_one_high_request_is_sent()
+    ensures first { (p : Params) (s : Station) (asked : Bool) (ready now : ℕ) (r : RequestFields) (rs : List RequestFields) → is_unused s.rotation.last ≡ true
+        → s.cycles.queue.high ≡ r ∷ rs
+        → phase_says p (record s { phase = Use asked ready }) (Use asked ready) now ≡ says_request p (high_taken (record s { phase = Use asked ready })) asked r now }
+    ensures used { (s : Station) → is_unused (high_taken s).rotation.last ≡ false }
+    ensures second { (p : Params) (s : Station) (asked : Bool) (ready now : ℕ) → holding_left s.rotation now ≡ 0 → is_unused s.rotation.last ≡ false
+        → phase_says p (record s { phase = Use asked ready }) (Use asked ready) now ≡ says_token p (record s { phase = Use asked ready }) 0 now }
+    ensures low { (p : Params) (s : Station) (asked : Bool) (ready now : ℕ) → holding_left s.rotation now ≡ 0 → s.cycles.queue.high ≡ []
+        → phase_says p (record s { phase = Use asked ready }) (Use asked ready) now ≡ says_token p (record s { phase = Use asked ready }) 0 now }
+{}
+
+/// A request that nobody answers is followed after the second idle time: the station waits for nothing.
+pub fn what_is_only_told_waits_for_no_answer()
+    ensures { (p : Params) (s : Station) (asked : Bool) (r : RequestFields) (now : ℕ) → is_answered r.service ≡ false
+        → (says_request p s asked r now).0.phase ≡ Use asked (now + bits (length (frame_octets (first_sending s.cycles.initiator s.address r))) + p.tid2) }
+{}
+
+/// A reply that is not sent yet is dropped where activity begins, and nobody else speaks then either.
+pub fn a_reply_is_dropped_where_activity_begins()
+    ensures reply { (p : Params) (again : Bool) (s : Station) (at seen : ℕ) → is_offline s.phase ≡ false → (after_mark p again s (Begin at seen)).reply ≡ None }
+    ensures silent { (p : Params) (again : Bool) (s : Station) (at seen : ℕ) → is_offline s.phase ≡ false → speaks_at (after_mark p again s (Begin at seen)) ≡ None }
+{}
+
+/// Where nothing is heard, a request is sent again once its slot has ended and not before, in the same octets.
+pub fn a_request_is_sent_again_after_its_slot()
+    ensures waits { (p : Params) (again : Bool) (s : Station) (asked : Bool) (now : ℕ) → now < s.own.end + p.tsl
+        → turn_of p again (record s { phase = AwaitData asked None true; busy = false }) [] now ≡ (record s { phase = AwaitData asked None true; busy = false }, None) }
+    ensures again { (p : Params) (again : Bool) (s : Station) (asked : Bool) (now : ℕ) (f : Fields) → s.own.end + p.tsl ≤ now → retry_of s.cycles.initiator.pending ≡ Some f
+        → (turn_of p again (record s { phase = AwaitData asked None true; busy = false }) [] now).1 ≡ Some (frame_octets f) }
+{}
+
+/// A request without a retry left, to which nothing was heard in its slot, has the outcome "no answer": the
+/// station goes on, and its next request to the address is a first one.
+pub fn without_an_answer_the_next_request_is_a_first_one()
+    ensures outcome { (s : Station) (asked : Bool) (retry : Option ℕ) (slot : Bool) (t : ℕ) (o : OpenRequest) → s.cycles.initiator.pending ≡ Some o → o.left ≡ 0
+        → (phase_timed_out s (AwaitData asked retry slot) t).cycles.last_outcome ≡ Some (o.sent.da, NoAnswer) }
+    ensures goes_on { (s : Station) (asked : Bool) (retry : Option ℕ) (slot : Bool) (t : ℕ) (o : OpenRequest) → s.cycles.initiator.pending ≡ Some o → o.left ≡ 0
+        → (phase_timed_out s (AwaitData asked retry slot) t).phase ≡ Use asked t }
+    ensures first { (s : Station) (asked : Bool) (retry : Option ℕ) (slot : Bool) (t : ℕ) (o : OpenRequest) (r : RequestFields) → s.cycles.initiator.pending ≡ Some o → o.left ≡ 0
+        → r.da ≡ o.sent.da → is_answered r.service ≡ true → bits_for (phase_timed_out s (AwaitData asked retry slot) t).cycles.initiator r ≡ 0x20 }
+{}
+
+/// A passive station stays one, whatever it hears, and says no token and no request.
+pub fn a_passive_station_only_replies()
+    ensures stays { (p : Params) (again : Bool) (s : Station) (marks : List Mark) (now : ℕ) → s.phase ≡ PassiveIdle → (turn_of p again s marks now).0.phase ≡ PassiveIdle }
+    ensures replies { (p : Params) (again : Bool) (s : Station) (marks : List Mark) (now : ℕ) → HasReply s → HasCycles s → s.phase ≡ PassiveIdle
+        → IfSome (turn_of p again s marks now).1 (λ octets. are_initiator octets ≡ false) }
+{}
+
+/// Requests of high priority go before those of low priority, and of each priority the one that has waited
+/// longest, which waits no longer then.
+pub fn requests_go_by_priority()
+    ensures high { (p : Params) (s : Station) (asked : Bool) (ready now : ℕ) (r : RequestFields) (rs : List RequestFields) → may_high s.rotation now ≡ true
+        → s.cycles.queue.high ≡ r ∷ rs
+        → phase_says p (record s { phase = Use asked ready }) (Use asked ready) now ≡ says_request p (high_taken (record s { phase = Use asked ready })) asked r now }
+    ensures low { (p : Params) (s : Station) (asked : Bool) (ready now : ℕ) (r : RequestFields) (rs : List RequestFields) → s.cycles.queue.high ≡ []
+        → may_low s.rotation now ≡ true → s.cycles.queue.low ≡ r ∷ rs
+        → phase_says p (record s { phase = Use asked ready }) (Use asked ready) now ≡ says_request p (low_taken (record s { phase = Use asked ready })) asked r now }
+    ensures high_left { (p : Params) (s : Station) (asked : Bool) (ready now : ℕ) (r : RequestFields) (rs : List RequestFields) → may_high s.rotation now ≡ true
+        → s.cycles.queue.high ≡ r ∷ rs → (phase_says p (record s { phase = Use asked ready }) (Use asked ready) now).0.cycles.queue.high ≡ rs }
+    ensures low_left { (p : Params) (s : Station) (asked : Bool) (ready now : ℕ) (r : RequestFields) (rs : List RequestFields) → s.cycles.queue.high ≡ []
+        → may_low s.rotation now ≡ true → s.cycles.queue.low ≡ r ∷ rs → (phase_says p (record s { phase = Use asked ready }) (Use asked ready) now).0.cycles.queue.low ≡ rs }
+{}
+
+/// A request waits behind the others of its priority, and is not taken where sixteen wait.
+pub fn a_request_waits_behind_those_of_its_priority()
+    ensures high { (s : Station) (r : RequestFields) → r.high ≡ true → length s.cycles.queue.high < 16 → (pushed s r).cycles.queue.high ≡ s.cycles.queue.high ++ r ∷ [] }
+    ensures low { (s : Station) (r : RequestFields) → r.high ≡ false → length s.cycles.queue.low < 16 → (pushed s r).cycles.queue.low ≡ s.cycles.queue.low ++ r ∷ [] }
+    ensures full { (s : Station) (r : RequestFields) → 16 ≤ length (list_for s.cycles.queue r) → pushed s r ≡ s }
+{}
+
+/// What comes while a station waits for its reply: a reply to the open request is its outcome, and the
+/// station goes on an idle time later. After anything else that takes no token away the request is sent again.
+pub fn a_reply_is_the_outcome()
+    ensures told { (p : Params) (s : Station) (asked slot : Bool) (at : ℕ) (f : Fields) (o : OpenRequest) (outcome : Outcome) → has_bit f.fc 6 ≡ false
+        → s.cycles.initiator.pending ≡ Some o → reply_outcome o.sent.sa o.sent.da (message.Framed f) ≡ Some outcome
+        → (awaiting_data_hears p s asked slot at (Framed f)).cycles.last_outcome ≡ Some (o.sent.da, outcome) }
+    ensures goes_on { (p : Params) (s : Station) (asked slot : Bool) (at : ℕ) (f : Fields) (o : OpenRequest) (outcome : Outcome) → has_bit f.fc 6 ≡ false
+        → s.cycles.initiator.pending ≡ Some o → reply_outcome o.sent.sa o.sent.da (message.Framed f) ≡ Some outcome
+        → (awaiting_data_hears p s asked slot at (Framed f)).phase ≡ Use asked (at + p.tid1) }
+    ensures acknowledged { (p : Params) (s : Station) (asked slot : Bool) (at : ℕ) (o : OpenRequest) → s.cycles.initiator.pending ≡ Some o
+        → (awaiting_data_hears p s asked slot at Acknowledgement).cycles.last_outcome ≡ Some (o.sent.da, Acked) }
+    ensures no_reply { (p : Params) (s : Station) (asked slot : Bool) (at : ℕ) (f : Fields) (o : OpenRequest) → has_bit f.fc 6 ≡ false
+        → s.cycles.initiator.pending ≡ Some o → reply_outcome o.sent.sa o.sent.da (message.Framed f) ≡ None → 0 < o.left
+        → (awaiting_data_hears p s asked slot at (Framed f)).phase ≡ AwaitData asked (Some (max at s.own.end + p.tid1)) slot }
+    ensures damaged { (p : Params) (s : Station) (asked slot : Bool) (at : ℕ) (o : OpenRequest) → s.cycles.initiator.pending ≡ Some o → 0 < o.left
+        → (awaiting_data_hears p s asked slot at NoTelegram).phase ≡ AwaitData asked (Some (max at s.own.end + p.tid1)) slot }
+{}
+
+/// A reply is ready a reply delay after the end of the request.
+pub fn a_reply_waits_for_its_delay()
+    ensures in_ring { (p : Params) (s : Station) (refused : Option ℕ) (at : ℕ) (f : Fields) → IfSome (idle_hears p s refused at (Framed f)).reply (λ r. r.ready ≡ at + p.tsdr) }
+    ensures passive { (p : Params) (s : Station) (at : ℕ) (f : Fields) → IfSome (passive_hears p s at (Framed f)).reply (λ r. r.ready ≡ at + p.tsdr) }
+    ensures listening { (p : Params) (s : Station) (doubled : Bool) (at : ℕ) (f : Fields) → IfSome (listening_hears p s doubled at (Framed f)).reply (λ r. r.ready ≡ at + p.tsdr) }
 {}

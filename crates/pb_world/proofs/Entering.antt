@@ -6,7 +6,7 @@ use Rattle.std.proofs.lemmas.Bool.{le-ltb, ne_eqb}
 use Rattle.std.proofs.lemmas.List.{take_more, at_drop_more, drop-map, drop-drop, take-map, map-append, length-map, length-take-le}
 use Rattle.std.proofs.Math.Seq.{take-add}
 use Rattle.std.proofs.lemmas.Option.{get_or_from_slice_get}
-use Rattle.pb_world.proofs.Items.{item-at, any-default}
+use Rattle.pb_world.proofs.Items.{item-at}
 use Rattle.pb_model.specs.Trace.{Own, Pending, Entry, entry_begin, rank, goes_before, with_entry, heard_at_first}
 use Rattle.pb_model.specs.Laws.{AllOver}
 
@@ -23,9 +23,6 @@ pub passed-at : {X Y : Type 0} (f : X → Y) (xs : List X) (i : ℕ) (x : X) →
 passed-at f xs i x there is =
     take_more (map f xs) i (f x) (subst (λ n. i < n) (sym (length-map xs f)) there)
     ∙ ap (λ y. take i (map f xs) ++ y ∷ []) (get_or_from_slice_get (map f xs) i (f x) (f x) (item-at f xs i x there is))
-
-pub passed-any : {X Y : Type 0} (f : X → Y) (xs : List X) (i : ℕ) (d : X) → i < length xs → take (i + 1) (map f xs) ≡ take i (map f xs) ++ f (slice_index_or xs i d) ∷ []
-passed-any f xs i d there = passed-at f xs i (slice_index_or xs i d) there (any-default xs i d (slice_index_or xs i d) there)
 
 -- it stands before the first that it goes before
 pub stands-before : (e x : Entry) (xs : List Entry) (i : ℕ) → with_entry e xs ≡ take i xs ++ with_entry e (drop i xs) → drop i xs ≡ x ∷ drop (i + 1) xs

@@ -1,16 +1,17 @@
 -- What the recent entries and the taps tell of a step of the whole world.
-use Rattle.std.proofs.Common.{◌≡◌, ◌∙◌, ap, sym, subst, refl, arith, ℕ, ◌+◌, ◌<◌, ◌≤◌, ◌==◌, ◌++◌, List, [], ◌∷◌, length, length-append, map, Bool, true, false, not, ◌||◌, Option, Some, None, Ok, Err, Result}
-use Rattle.std.specs.Prelude.{take, drop, find, is_none, slice_get, slice_set, IsErr, IsErrAnd, MatchResult}
+use Rattle.std.proofs.Common.{◌≡◌, ◌∙◌, ap, sym, subst, refl, arith, ℕ, ◌+◌, ◌<◌, ◌≤◌, ◌==◌, ◌++◌, List, [], ◌∷◌, length, length-append, map, Bool, true, false, not, ◌||◌, ◌&&◌, Option, Some, None, Ok, Err, Result}
+use Rattle.std.specs.Prelude.{take, drop, find, is_none, nat_le, slice_get, slice_set, IsErr, IsErrAnd, MatchResult}
 use Rattle.std.proofs.lemmas.List.{take-append-drop, length-take-le}
 use Rattle.std.proofs.Math.Seq.{take-append_seam, drop-append_seam}
 use Rattle.std.proofs.lemmas.Option.{slice_get-get_or}
-use Rattle.pb_turn.specs.Stations.{Station}
-use Rattle.pb_model.specs.Trace.{Hit, Entry, Sent, Noise, entry_begin, goes_before, with_entry}
+use Rattle.pb_cycles.specs.RequestFields.{RequestFields}
+use Rattle.pb_turn.specs.Stations.{Station, list_for, pushed}
+use Rattle.pb_model.specs.Trace.{Hit, Record, cut_end, cut_at, Entry, Sent, Noise, entry_begin, goes_before, with_entry}
 use Rattle.pb_model.specs.Medium.{Tap, entry_at, ends_between, reaches, heard_by}
 use Rattle.pb_turn.specs.Turns.{turn_of}
-use Rattle.pb_model.specs.World.{World, Event, Turn, Pass, Damage, Start, Reply, Fault, NoSuchTap, Running, NotRunning, NothingInAir, TraceFull, unless, is_in_air_by}
-use Rattle.pb_model.specs.Step.{told, pass_faults, step_pass, with_hit, change_first, has_place, step_damage, step_start, with_speech, after_turn, step_turn, sending, step, world_after}
-use Rattle.pb_model.specs.Laws.{AllBegun, AllOver, AllFrom, IsSound}
+use Rattle.pb_model.specs.World.{World, Event, Turn, Pass, Damage, Start, Stop, Queue, Reply, Fault, NoSuchTap, Running, NotRunning, NothingInAir, QueueFull, TraceFull, unless, is_in_air_by}
+use Rattle.pb_model.specs.Step.{told, pass_faults, step_pass, with_hit, change_first, has_place, step_damage, step_start, halted, step_stop, step_queue, with_speech, after_turn, step_turn, sending, step, world_after}
+use Rattle.pb_model.specs.Laws.{AllBegun, AllOver, AllFrom, IsEvent, IsSound}
 use Rattle.pb_model.proofs.Cases.{by_test}
 use Rattle.pb_model.proofs.Worlds.{sound-step, unless-Ok}
 use Rattle.pb_world.specs.Airs.{plain, IsCut}
@@ -23,7 +24,7 @@ use Rattle.pb_world.specs.declared.faults.WorldFault.{WorldFault}
 use Rattle.pb_world.specs.declared.faults.WorldFault.TheVariants as fault
 use Rattle.pb_world.proofs.Cutting.{begun-behind}
 use Rattle.pb_world.proofs.Entering.{entered-behind}
-use Rattle.pb_world.proofs.Widening.{widened, pass-whole, damage-whole, is_sending, started_amid, start-whole}
+use Rattle.pb_world.proofs.Widening.{widened, pass-whole, damage-whole, is_sending, started_amid, start-whole, cut-whole}
 
 -- the world of the recent entries
 abbrev pub recent_of : ℕ → World → World
@@ -50,8 +51,8 @@ is-there (x ∷ xs) i there = ap is_none (slice_get-get_or (x ∷ xs) i x there)
 
 -- ---- what stays
 
-pub sound-after : (again : Bool) (w : World) (e : Event) (next : World) (reply : Reply) → step again w e ≡ Ok (next, reply) → IsSound w → IsSound next
-sound-after again w e next reply ok sound = subst IsSound (ap (world_after w) ok) (sound-step again w e sound)
+pub sound-after : (again : Bool) (w : World) (e : Event) (next : World) (reply : Reply) → step again w e ≡ Ok (next, reply) → IsEvent e → IsSound w → IsSound next
+sound-after again w e next reply ok is sound = subst IsSound (ap (world_after w) ok) (sound-step again w e is sound)
 
 -- the world of the recent entries is as sound
 pub sound-recent : (over : ℕ) (w : World) → IsSound w → IsSound (recent_of over w)
@@ -59,7 +60,7 @@ sound-recent over w sound = record {
   no_delay = refl;
   begun = begun-behind w.now (take over w.trace) (drop over w.trace) (subst (AllBegun w.now) (sym (take-append-drop over w.trace)) sound.begun);
   in_order = sound.in_order;
-  replies = sound.replies;
+  sayable = sound.sayable;
 }
 
 -- other entries behind those that are over, none of which began before they had ended
@@ -180,6 +181,66 @@ start-running w over tap t none cut at up =
     ∙ ap (λ (b : Bool). unless ((b, Running) ∷ []) (record w { taps = slice_set w.taps tap (started_amid over w tap t) }, record { now = w.now; spoke = None })) up
     ))
     refl
+
+-- ---- Stop
+
+pub stop-done : (w : World) (over tap : ℕ) (t : Tap) → IsCut w.now over w.trace → slice_get w.taps tap ≡ Some t → t.running ≡ true
+    → step_stop w tap (slice_get w.taps tap)
+    ≡ Ok (record w { trace = take over w.trace ++ map (cut_at w.now tap) (drop over w.trace); taps = slice_set w.taps tap (halted t) }, record { now = w.now; spoke = None })
+stop-done w over tap t cut at runs =
+    let ending : Bool → List Entry → Result (World × Reply) Fault
+    = λ b es. unless ((not b, NotRunning) ∷ []) (record w { trace = es; taps = slice_set w.taps tap (halted t) }, record { now = w.now; spoke = None }) in
+    ap (λ o. step_stop w tap o) at ∙ ap (λ b. ending b (map (cut_at w.now tap) w.trace)) runs ∙ ap (ending true) (cut-whole w.now over tap w.trace cut)
+
+pub stop-missing : (w : World) (tap : ℕ) → slice_get w.taps tap ≡ None → Refuses (Stop tap) (step_stop w tap (slice_get w.taps tap)) fault.NoSuchTap
+stop-missing w tap missing = subst (λ o. Refuses (Stop tap) (step_stop w tap o) fault.NoSuchTap) (sym missing) refl
+
+pub stop-stopped : (w : World) (tap : ℕ) (t : Tap) → slice_get w.taps tap ≡ Some t → t.running ≡ false → Refuses (Stop tap) (step_stop w tap (slice_get w.taps tap)) fault.NotRunning
+stop-stopped w tap t at down =
+    subst (λ r. Refuses (Stop tap) r fault.NotRunning)
+    (sym (
+    ap (λ o. step_stop w tap o) at
+    ∙ ap (λ (b : Bool). unless ((not b, NotRunning) ∷ []) (record w { trace = map (cut_at w.now tap) w.trace; taps = slice_set w.taps tap (halted t) }, record { now = w.now; spoke = None })) down
+    ))
+    refl
+
+pub from-cut : (m now tap : ℕ) (es : List Entry) → AllFrom m es → AllFrom m (map (cut_at now tap) es)
+from-cut m now tap [] from = tt
+from-cut m now tap (Noise span ∷ es) from = (from.0, from-cut m now tap es from.1)
+from-cut m now tap (Sent r ∷ es) from =
+    by_test (λ (x : Record). AllFrom m (Sent x ∷ map (cut_at now tap) es)) (r.tap == tap) (record r { end = cut_end now r }) r
+    (λ _. (from.0, from-cut m now tap es from.1)) (λ _. (from.0, from-cut m now tap es from.1))
+
+-- ---- Queue
+
+pub queue-done : (w : World) (tap : ℕ) (r : RequestFields) (t : Tap) → slice_get w.taps tap ≡ Some t → (t.running && t.spec.master) ≡ true
+    → nat_le 16 (length (list_for t.station.cycles.queue r)) ≡ false
+    → step_queue w tap r (slice_get w.taps tap) ≡ Ok (record w { taps = slice_set w.taps tap (record t { station = pushed t.station r }) }, record { now = w.now; spoke = None })
+queue-done w tap r t at takes room =
+    let ending : Bool → Bool → Result (World × Reply) Fault
+    = λ a b. unless ((not a, NotRunning) ∷ (b, QueueFull) ∷ []) (record w { taps = slice_set w.taps tap (record t { station = pushed t.station r }) }, record { now = w.now; spoke = None }) in
+    ap (λ o. step_queue w tap r o) at ∙ ap (λ a. ending a (nat_le 16 (length (list_for t.station.cycles.queue r)))) takes ∙ ap (ending true) room
+
+pub queue-missing : (w : World) (tap : ℕ) (r : RequestFields) → slice_get w.taps tap ≡ None → Refuses (Queue tap r) (step_queue w tap r (slice_get w.taps tap)) fault.NoSuchTap
+queue-missing w tap r missing = subst (λ o. Refuses (Queue tap r) (step_queue w tap r o) fault.NoSuchTap) (sym missing) refl
+
+pub queue-idle : (w : World) (tap : ℕ) (r : RequestFields) (t : Tap) → slice_get w.taps tap ≡ Some t → (t.running && t.spec.master) ≡ false
+    → Refuses (Queue tap r) (step_queue w tap r (slice_get w.taps tap)) fault.NotRunning
+queue-idle w tap r t at idle =
+    subst (λ x. Refuses (Queue tap r) x fault.NotRunning)
+    (sym (
+    ap (λ o. step_queue w tap r o) at
+    ∙ ap (λ (a : Bool). unless ((not a, NotRunning) ∷ (nat_le 16 (length (list_for t.station.cycles.queue r)), QueueFull) ∷ []) (record w { taps = slice_set w.taps tap (record t { station = pushed t.station r }) }, record { now = w.now; spoke = None })) idle
+    ))
+    refl
+
+pub queue-full : (w : World) (tap : ℕ) (r : RequestFields) (t : Tap) → slice_get w.taps tap ≡ Some t → (t.running && t.spec.master) ≡ true
+    → nat_le 16 (length (list_for t.station.cycles.queue r)) ≡ true → Refuses (Queue tap r) (step_queue w tap r (slice_get w.taps tap)) fault.QueueFull
+queue-full w tap r t at takes full =
+    let ending : Bool → Bool → Result (World × Reply) Fault
+    = λ a b. unless ((not a, NotRunning) ∷ (b, QueueFull) ∷ []) (record w { taps = slice_set w.taps tap (record t { station = pushed t.station r }) }, record { now = w.now; spoke = None }) in
+    subst (λ x. Refuses (Queue tap r) x fault.QueueFull)
+    (sym (ap (λ o. step_queue w tap r o) at ∙ ap (λ a. ending a (nat_le 16 (length (list_for t.station.cycles.queue r)))) takes ∙ ap (ending true) full)) refl
 
 -- ---- Turn
 

@@ -3,14 +3,14 @@ use Rattle.std.proofs.Common.{◌≡◌, ◌∙◌, ap, sym, refl, arith, ℕ, �
 use Rattle.std.specs.Prelude.{take, drop, find, is_some, is_none, unwrap_or, slice_get, slice_set}
 use Rattle.std.specs.List.{list_any}
 use Rattle.std.proofs.lemmas.Bool.{le-ltb}
-use Rattle.std.proofs.lemmas.List.{take-append-drop}
+use Rattle.std.proofs.lemmas.List.{take-append-drop, map-append}
 use Rattle.std.proofs.lemmas.List.Folds.{list_any-append}
 use Rattle.pb_refusals.specs.FirstFault.{first_fault}
 use Rattle.pb_timers.specs.Timers.{Params}
 use Rattle.pb_turn.specs.Spans.{Span}
 use Rattle.pb_turn.specs.Marks.{Mark}
 use Rattle.pb_turn.specs.Stations.{started}
-use Rattle.pb_model.specs.Trace.{Entry, Sent, Noise}
+use Rattle.pb_model.specs.Trace.{Record, Entry, Sent, Noise, cut_end, cut_at}
 use Rattle.pb_model.specs.Medium.{Tap, is_unheard, new_marks, entry_at, reaches}
 use Rattle.pb_model.specs.World.{World, Reply, Fault, NoSuchTap, Running, NothingInAir, ZeroTime, TooFar, ClockFull, InboxFull, clock_limit, unless, unless_fault, next_end_of, is_in_air_by}
 use Rattle.pb_model.specs.Step.{told, first_full, is_past, step_pass, with_hit, change_first, has_place, step_damage, is_there, reaches_now, step_start}
@@ -176,3 +176,20 @@ start-whole w over tap t none (m, later, some, old, begun) =
       record { now = w.now; spoke = None },
     ) in
     ap (λ s. ending s (list_any (reaches_now w.params.ttd tap w.now) w.trace)) sends ∙ ap (ending (list_any (is_in_air_by at_once w.now tap) recent)) amid
+
+-- ---- Stop
+
+-- what is over is not cut
+over-uncut : (m now tap : ℕ) (es : List Entry) → AllOver m es → m ≤ now → map (cut_at now tap) es ≡ es
+over-uncut m now tap [] over later = refl
+over-uncut m now tap (Noise span ∷ es) over later = ap (λ xs. Noise span ∷ xs) (over-uncut m now tap es over.2 later)
+over-uncut m now tap (Sent r ∷ es) over later =
+    let whole : cut_end now r ≡ r.end = omega (arith, over.0, over.1, later) in
+    by_test (λ (x : Record). Sent x ∷ map (cut_at now tap) es ≡ Sent r ∷ es) (r.tap == tap) (record r { end = cut_end now r }) r
+    (λ _. ap (λ end. Sent (record r { end = end }) ∷ map (cut_at now tap) es) whole ∙ ap (λ xs. Sent r ∷ xs) (over-uncut m now tap es over.2 later))
+    (λ _. ap (λ xs. Sent r ∷ xs) (over-uncut m now tap es over.2 later))
+
+pub cut-whole : (now over tap : ℕ) (es : List Entry) → IsCut now over es → map (cut_at now tap) es ≡ take over es ++ map (cut_at now tap) (drop over es)
+cut-whole now over tap es (m, later, some, old, begun) =
+    ap (map (cut_at now tap)) (sym (take-append-drop over es)) ∙ map-append (cut_at now tap) (take over es) (drop over es)
+    ∙ ap (λ xs. xs ++ map (cut_at now tap) (drop over es)) (over-uncut m now tap (take over es) old later)

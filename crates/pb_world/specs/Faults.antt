@@ -48,6 +48,8 @@ takes_memory (model.Turn tap) reply = is_some reply.spoke
 takes_memory (model.Pass bits) reply = false
 takes_memory (model.Damage tap speaker place) reply = true
 takes_memory (model.Start tap) reply = false
+takes_memory (model.Stop tap) reply = false
+takes_memory (model.Queue tap request) reply = false
 
 -- why an event is refused, by what its step is: by its own fault; where it has none, for want of the memory that it takes
 abbrev pub Refuses : model.Event → Result (model.World × model.Reply) model.Fault → WorldFault → Type 0

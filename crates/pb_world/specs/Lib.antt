@@ -9,6 +9,8 @@ pub mod Worlds
 pub mod Turning
 pub mod Damaging
 pub mod Starting
+pub mod Stopping
+pub mod Queueing
 pub mod Clocks
 pub mod Making
 pub mod Buses

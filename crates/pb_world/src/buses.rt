@@ -6,10 +6,13 @@ use crate::damaging::damage_recent;
 use crate::entries::{Entry, Hit};
 use crate::events::{Event, Reply};
 use crate::faults::WorldFault;
+use crate::queueing::queue;
 use crate::recents::recent;
 use crate::starting::start;
+use crate::stopping::stop_recent;
 use crate::taps::Tap;
 use crate::turning::{Speaker, keep_turn, say, turn_at};
+use pb_cycles::Request;
 use pb_station::{Station, due};
 use pb_timers::{BusParams, Moment};
 use std::alloc::Global;
@@ -48,6 +51,8 @@ impl Bus {
                 place,
             } => self.damage(speaker, Hit { tap, place }),
             Event::Start(tap) => self.start(tap),
+            Event::Stop(tap) => self.stop(tap),
+            Event::Queue { tap, request } => self.queue(tap, request),
         }
     }
 
@@ -103,6 +108,24 @@ impl Bus {
             tap,
             self.now,
         )?;
+        Ok(silence(self.now))
+    }
+
+    fn stop(&mut self, tap: usize) -> Result<Reply, WorldFault>
+        requires { IsKept self.old }
+        ensures follows { Follows (world_of self.old) (events.Stop tap) result (world_of self.new) }
+        ensures kept { IsKept self.new }
+    {
+        stop_recent(&mut self.trace, self.over, &mut self.taps, tap, self.now)?;
+        Ok(silence(self.now))
+    }
+
+    fn queue(&mut self, tap: usize, request: Request) -> Result<Reply, WorldFault>
+        requires { IsKept self.old }
+        ensures follows { Follows (world_of self.old) (events.Queue tap request) result (world_of self.new) }
+        ensures kept { IsKept self.new }
+    {
+        queue(&mut self.taps, tap, request)?;
         Ok(silence(self.now))
     }
 

@@ -1,8 +1,12 @@
+ghost use Rattle.std.specs.Prelude.{◌≡◌};
+ghost use Rattle.pb_world.specs.Events.{event_of};
+
 use arrayvec::ArrayVec;
+use pb_cycles::Request;
 use pb_timers::Moment;
 
 /// What happens on the bus. A tap is a position in the list of taps, counted from 0.
-#[derive(Clone, Copy, Debug, PartialEq, Eq)]
+#[derive(Debug, PartialEq, Eq, Drop)]
 pub enum Event {
     /// The station at a tap takes its turn.
     Turn(usize),
@@ -19,6 +23,42 @@ pub enum Event {
     },
     /// The station at a tap starts.
     Start(usize),
+    /// The station at a tap stops: a telegram that it sends ends with the character that is on its way.
+    Stop(usize),
+    /// A request waits at the station of a tap.
+    Queue {
+        /// The tap.
+        tap: usize,
+        /// The request.
+        request: Request,
+    },
+}
+
+impl Event {
+    /// An equal event.
+    pub fn copy(&self) -> Event
+        ensures { event_of result ≡ event_of self.now }
+    {
+        match self {
+            Event::Turn(tap) => Event::Turn(*tap),
+            Event::Pass(bits) => Event::Pass(*bits),
+            Event::Damage {
+                tap,
+                speaker,
+                place,
+            } => Event::Damage {
+                tap: *tap,
+                speaker: *speaker,
+                place: *place,
+            },
+            Event::Start(tap) => Event::Start(*tap),
+            Event::Stop(tap) => Event::Stop(*tap),
+            Event::Queue { tap, request } => Event::Queue {
+                tap: *tap,
+                request: request.copy(),
+            },
+        }
+    }
 }
 
 /// What comes of an event.

@@ -2,10 +2,12 @@ ghost use Rattle.std.specs.Prelude.{◌≡◌, ◌≤◌, ◌<◌, ◌+◌, fals
 ghost use Rattle.std.specs.Option.{option_map};
 ghost use Rattle.pb_refusals.specs.FirstFault.{first_fault};
 ghost use Rattle.pb_timers.specs.Timers.{Params};
+ghost use Rattle.pb_model.specs.Laws.{AllFit};
 ghost use Rattle.pb_model.specs.World as world;
 ghost use Rattle.pb_model.specs.World.{new_faults, stopped_tap};
 ghost use Rattle.pb_timers.specs.ParamRules.{IsValid};
 ghost use Rattle.pb_world.specs.Faults.{new_fault};
+ghost use Rattle.pb_turn.specs.Laws.{Fits};
 ghost use Rattle.pb_turn.specs.Stations as turn;
 ghost use Rattle.pb_world.specs.Making.{AreStations, IsNoMemory};
 ghost use Rattle.pb_world.specs.Taps.{is_master, spec_of, seat_of, tap_of, AreSeated};
@@ -77,6 +79,7 @@ pub(crate) fn new_taps(
     requires { AreStations specs.now }
     ensures taps { IfOk result (λ taps. map tap_of taps.items ≡ map (stopped_tap params.now) (map spec_of specs.now)) }
     ensures seats { IfOk result (λ taps. AreSeated params.now 0 (map seat_of taps.items)) }
+    ensures fit { OnOk result (AllFit (map spec_of specs.now)) }
     ensures fault { IfErr result IsNoMemory }
 {
     let mut taps = Vec::with_capacity(alloc, specs.len())?;
@@ -90,6 +93,7 @@ fn new_tap(alloc: Global, params: &BusParams, tap: usize, spec: &TapSpec) -> Res
     requires { spec.now.address ≤ 126 }
     ensures tap { IfOk result (λ t. tap_of t ≡ stopped_tap params.now (spec_of spec.now)) }
     ensures seat { IfOk result (λ t. seat_of t ≡ record { tap = tap; params = params.now }) }
+    ensures fits { OnOk result (Fits spec.now.reply.items) }
     ensures fault { IfErr result IsNoMemory }
 {
     let marks = Inbox::new(alloc)?;
@@ -110,13 +114,14 @@ fn new_station(
     spec: &TapSpec,
 ) -> Result<Station, NewFault>
     requires { spec.now.address ≤ 126 }
-    ensures { MatchResult result (λ s. s ≡ record {
+    ensures station { MatchResult result (λ s. s ≡ record {
       tap = tap;
       params = params.now;
       master = is_master spec.now.kind;
       reply_data = spec.now.reply.items;
-      station = turn.new_station params.now spec.now.address;
+      station = turn.new_station params.now spec.now.address spec.now.reply.items;
     }) IsNoMemory }
+    ensures fits { Fits spec.now.reply.items }
 {
     let station = Station::new(
         alloc,
@@ -131,7 +136,8 @@ fn new_station(
 
 /// The same octets.
 fn copied(octets: &ArrayVec<u8, 246>) -> ArrayVec<u8, 246>
-    ensures { result.items ≡ octets.now.items }
+    ensures same { result.items ≡ octets.now.items }
+    ensures fits { Fits octets.now.items }
 {
     let mut copy = ArrayVec::new();
     copy.try_extend_from_slice(octets).unwrap();

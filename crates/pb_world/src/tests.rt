@@ -1,17 +1,24 @@
+mod cutting;
+mod cycles;
 mod hearing;
 mod making;
 mod memory;
 mod passing;
+mod queueing;
 mod reading;
 mod refusals;
 mod ring;
 mod running;
+mod stopping;
+mod texts;
 
-use crate::{Entry, Event, Heard, Kind, Record, TapSpec, World, WorldFault};
+use crate::{Entry, Event, Kind, TapSpec, World, WorldFault};
 use arrayvec::ArrayVec;
+use pb_cycles::{Request, Service};
 use pb_timers::{BusParams, ParamFault};
-use std::alloc::{AllocError, Global};
+use std::alloc::Global;
 use std::test::Fail;
+use texts::trace_text;
 
 /// How many taps a bus may have.
 const TAPS: usize = 32;
@@ -41,6 +48,15 @@ fn passive(address: u8) -> TapSpec {
     }
 }
 
+/// A passive station that replies some data.
+fn replying(address: u8, data: &[u8]) -> Result<TapSpec, Fail> {
+    Ok(TapSpec {
+        address,
+        kind: Kind::Passive,
+        reply: ArrayVec::try_from(data)?,
+    })
+}
+
 /// A new world with masters of some addresses.
 fn masters(alloc: Global, addresses: &[u8]) -> Result<World, Fail> {
     let mut specs = Vec::new(alloc);
@@ -67,6 +83,12 @@ fn damage(tap: usize, speaker: usize, place: Option<u8>) -> Event {
     }
 }
 
+/// A request with some data waits at a tap.
+fn ask(tap: usize, da: u8, service: Service, high: bool, data: &[u8]) -> Result<Event, Fail> {
+    let request = Request::new(da, service, high, ArrayVec::try_from(data)?)?;
+    Ok(Event::Queue { tap, request })
+}
+
 /// An event, and the moment at which it happens.
 type Step = (u64, Event);
 
@@ -87,7 +109,7 @@ fn play(alloc: Global, world: &mut World, steps: &[Step], until: u64) -> Result<
 fn take_steps(alloc: Global, world: &mut World, steps: &[Step]) -> Result<(), WorldFault> {
     for (at, event) in steps {
         if *at == world.now().get() {
-            world.apply(alloc, *event)?;
+            world.apply(alloc, event.copy())?;
         }
     }
     Ok(())
@@ -145,40 +167,6 @@ fn has_news(world: &World, steps: &[Step]) -> bool {
 
 fn begins_at(entry: &Entry, moment: u64) -> bool {
     matches!(entry, Entry::Sent(record) if record.begin == moment)
-}
-
-/// The trace, a line for each telegram: when it begins and ends, its tap, its octets in hex, and how each
-/// tap heard it.
-fn trace_text(alloc: Global, world: &World) -> Result<String, AllocError> {
-    let mut text = String::new(alloc);
-    for entry in world.trace() {
-        if let Entry::Sent(record) = entry {
-            write_line(&mut text, record)?;
-        }
-    }
-    Ok(text)
-}
-
-fn write_line(text: &mut String, record: &Record) -> Result<(), AllocError> {
-    write!(text, "{} {} tap {} ", record.begin, record.end, record.tap)?;
-    for octet in record.octets.iter() {
-        write!(text, "{octet:02x}")?;
-    }
-    text.push(' ')?;
-    for heard in record.heard.iter() {
-        text.push(letter(*heard))?;
-    }
-    text.push('\n')
-}
-
-fn letter(heard: Heard) -> char {
-    match heard {
-        Heard::Own => '-',
-        Heard::Whole => 'w',
-        Heard::Damaged => 'd',
-        Heard::Unheard => 'u',
-        Heard::Pending => '.',
-    }
 }
 
 /// When a tap has to take its turn, in bit times.

@@ -79,6 +79,11 @@ impl World {
     ///   or the place isn't among the octets that were meant; `NoMemory`.
     /// - `Start`: the station starts afresh: a master listens for the ring. Faults: `NoSuchTap`; `Running`
     ///   where it runs or a telegram of its own is in the air.
+    /// - `Stop`: the station stops, and drops its unread marks and a reply that it has not sent yet. A telegram
+    ///   that it sends ends with the character that is on its way; its record keeps all octets that were meant.
+    ///   Faults: `NoSuchTap`; `NotRunning`.
+    /// - `Queue`: a request waits at a master that runs, behind the others of its priority. Faults: `NoSuchTap`;
+    ///   `NotRunning` for a tap that is stopped, or passive; `QueueFull` where 16 of its priority wait.
     pub fn apply(&mut self, alloc: Global, event: Event) -> Result<Reply, WorldFault>
         ensures { Follows self.old (event_of event) result self.new }
     {
@@ -124,7 +129,7 @@ pub fn run(alloc: Global, world: &mut World, events: &[Event]) -> Result<(), (us
     ensures err { IfErr result (λ e. StopsAt world.old (map event_of events.now) e.0 e.1 world.new) }
 {
     for (place, event) in events.iter().enumerate() {
-        if let Err(fault) = world.apply(alloc, *event) {
+        if let Err(fault) = world.apply(alloc, event.copy()) {
             return Err((place, fault));
         }
     }

@@ -49,6 +49,19 @@ fn no_request_is_open_at_first_nor_after_an_sdn(rt: HostRuntime) -> Result<(), F
 }
 
 #[test]
+fn what_is_kept_can_be_read(rt: HostRuntime) -> Result<(), Fail> {
+    let mut initiator = Initiator::new(1);
+    assert_eq!(rt; initiator.open_to(), None);
+    initiator.request(1, request(7, Service::Srd, true, "-")?);
+    assert_eq!(rt; initiator.open_to(), Some(7));
+    let responder = Responder::new(unit("aabb")?);
+    assert_eq!(rt; responder.data(), [0xaa, 0xbb].as_slice());
+    let outcome = Outcome::Data(unit("aabb")?);
+    assert_eq!(rt; outcome.copy(), outcome);
+    Ok(())
+}
+
+#[test]
 fn a_repeat_is_answered_and_not_executed(rt: HostRuntime) -> Result<(), Fail> {
     let mut responder = Responder::new(ArrayVec::new());
     for (asked, replied, executed) in [

@@ -1,5 +1,6 @@
-use super::{master, usual};
+use super::{ask, master, usual};
 use crate::{Event, NewFault, World, WorldFault};
+use pb_cycles::Service;
 use std::test::Fail;
 
 /// Run with one allocation refused: a world is made and each event done, or the fault is `NoMemory`
@@ -20,7 +21,14 @@ fn refused_memory_in_a_world(rt: HostRuntime) -> Result<(), Fail> {
         speaker: 0,
         place: None,
     };
-    for event in [Event::Start(0), Event::Pass(800), Event::Turn(0), damage] {
+    for event in [
+        Event::Start(0),
+        ask(0, 7, Service::Srd, true, &[1])?,
+        Event::Pass(800),
+        Event::Turn(0),
+        damage,
+        Event::Stop(0),
+    ] {
         let before = (world.now(), world.trace().len(), world.due(0));
         if let Err(fault) = world.apply(alloc, event) {
             assert_eq!(rt; fault, WorldFault::NoMemory);

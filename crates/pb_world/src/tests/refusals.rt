@@ -126,7 +126,7 @@ fn a_refused_event_changes_nothing(rt: HostRuntime) -> Result<(), Fail> {
 
 /// Some masters start, and the one at a tap alone takes turns. It speaks 32 times, nobody answers it, and
 /// its 33rd telegram begins.
-fn unheeded(alloc: Global, addresses: &[u8], speaker: usize) -> Result<World, Fail> {
+pub(super) fn unheeded(alloc: Global, addresses: &[u8], speaker: usize) -> Result<World, Fail> {
     let mut world = started(alloc, addresses)?;
     for _ in 0..32 {
         let end = speak(alloc, &mut world, speaker)?;

@@ -1,4 +1,4 @@
-use Rattle.pb_model.proofs.Sensed.{open-started, open-with_entry}
+use Rattle.pb_model.proofs.Sensed.{open-started, open-with_entry, open-cut}
 use Rattle.pb_model.proofs.medium_laws.only_a_pass_opens_a_burst.Goals as goal
 
 pub returns-clause-started : goal.returns-clause-started
@@ -6,3 +6,6 @@ returns-clause-started c = open-started
 
 pub returns-clause-begun : goal.returns-clause-begun
 returns-clause-begun c = open-with_entry
+
+pub returns-clause-stopped : goal.returns-clause-stopped
+returns-clause-stopped c = open-cut

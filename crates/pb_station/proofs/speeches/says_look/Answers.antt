@@ -13,5 +13,5 @@ returns-in-Some c =
     let p = c.args.params.now in
     let looked = c.next_look-address.ensures in
     asked p (with_phase k (turn.Use c.args.holder.state.asked c.args.holder.state.ready)) c.args.now c.in-Some.address c.next_look-address.result.gap _ _ _
-    c.says_request.ensures (ap (λ l. l.gap) looked) (sym (ap (λ l. l.address) looked) ∙ c.in-Some.is)
+    c.asks_status.ensures (ap (λ l. l.gap) looked) (sym (ap (λ l. l.address) looked) ∙ c.in-Some.is)
     (ap (λ ns. next_asked k.address ns p.hsa (last_asked k.gap)) (c.ns-ns.ensures.value ∙ ap (λ a. next_address a (members_of k.las.stage)) c.get.ensures.value))

@@ -1,3 +1,4 @@
+use Rattle.std.proofs.Common.{refl}
 use Rattle.pb_turn.proofs.Busy.{silent-started, silent-turn_of, silent-busy}
 use Rattle.pb_turn.proofs.laws.a_busy_station_says_nothing.Goals as goal
 
@@ -9,3 +10,9 @@ returns-clause-turn c = silent-turn_of
 
 pub returns-clause-silent : goal.returns-clause-silent
 returns-clause-silent c = silent-busy
+
+pub returns-clause-stopped : goal.returns-clause-stopped
+returns-clause-stopped c s busy = refl
+
+pub returns-clause-pushed : goal.returns-clause-pushed
+returns-clause-pushed c s r silent = silent

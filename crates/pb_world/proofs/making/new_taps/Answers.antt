@@ -1,10 +1,13 @@
 use Rattle.std.proofs.Common.{◌≡◌, ap, sym, subst, ◌∙◌, ◌++◌, ◌∷◌, [], ◌+◌, arith, map, length, length-append}
 use Rattle.std.specs.Prelude.{take}
 use Rattle.std.proofs.lemmas.List.{length-map, map-append}
+use Rattle.pb_turn.specs.Laws.{Fits}
 use Rattle.pb_model.specs.World.{stopped_tap}
 use Rattle.pb_world.specs.Taps.{spec_of, seat_of, tap_of, AreSeated}
 use Rattle.pb_world.proofs.Entering.{passed-at}
+use Rattle.pb_world.proofs.Items.{below-more}
 use Rattle.pb_world.proofs.Seats.{seated-more}
+use Rattle.pb_world.proofs.Specified.{all-fit}
 use Rattle.pb_world.proofs.making.new_taps.Goals as goal
 
 pub loop-tap-preserved : goal.loop-tap-preserved
@@ -23,6 +26,10 @@ loop-tap-preserved c =
       seats = subst (AreSeated p 0) (sym (ap (map seat_of) c.push_reserved.ensures.items ∙ map-append seat_of c.loop-tap.taps.items (new ∷ [])))
           (seated-more p 0 (map seat_of c.loop-tap.taps.items) (seat_of new) c.loop-tap.invariant.seats
           (c.in_ok-new_tap.ensures.seat ∙ ap (λ n. record { tap = n; params = p }) place));
+      fit = below-more (λ s. Fits s.reply.items) specs i c.index-specs-tap.result c.loop-tap-test.true c.index-specs-tap.is c.in_ok-new_tap.ensures.fits c.loop-tap.invariant.fit;
       count = ap length c.push_reserved.ensures.items ∙ length-append c.loop-tap.taps.items (new ∷ []) ∙ ap (λ n. n + 1) c.loop-tap.invariant.count;
       room = omega (arith, c.loop-tap.invariant.room, c.push_reserved.ensures.capacity);
     }
+
+pub returns-clause-fit : goal.returns-clause-fit
+returns-clause-fit c = all-fit c.args.specs.now c.loop-tap.tap (omega arith) c.loop-tap.invariant.fit

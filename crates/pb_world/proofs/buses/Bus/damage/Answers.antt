@@ -71,7 +71,7 @@ returns-clause-kept c =
     let hits = subst (λ xs. map entry_of c.damage_recent.new.trace ≡ take bus.over (map entry_of xs) ++ change_first test (with_hit (hit_of hit)) (drop bus.over (map entry_of xs)))
     items c.in_ok-damage_recent.ensures.ok in
     record {
-      sound = sound-after true w (Damage hit.tap c.args.speaker hit.place) _ _ (returns-clause-follows c).1 c.requires.sound;
+      sound = sound-after true w (Damage hit.tap c.args.speaker hit.place) _ _ (returns-clause-follows c).1 tt c.requires.sound;
       clock = c.requires.clock;
       room = c.requires.room;
       seats = c.requires.seats;

@@ -82,7 +82,7 @@ returns-clause-kept c =
     let passes = subst (λ (x : World). PassesTo x c.args.bits (take bus.over w.trace) to after taps) same
     (subst (λ xs. PassesTo (air bus.now (drop bus.over c.deref_mut.result.now) c.deref_mut-2.result.now) c.args.bits (take bus.over (map entry_of xs)) to after taps) entries
     c.in_ok-self.ensures.ok) in
-    let sound = sound-after true w (Pass c.args.bits) _ _ (returns-clause-follows c).1 c.requires.sound in
+    let sound = sound-after true w (Pass c.args.bits) _ _ (returns-clause-follows c).1 tt c.requires.sound in
     let cut = subst (λ xs. IsCut w.now bus.over (map entry_of xs)) (sym trace-back) (cut-passed w bus.over c.args.bits to after taps c.requires.cut passes) in
     let seen = c.deref.ensures.value in
     record {

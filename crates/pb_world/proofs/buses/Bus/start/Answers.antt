@@ -98,7 +98,7 @@ returns-clause-kept c =
     (subst (λ ts. IsStarted bus.now (map entry_of c.recent.result.now) ts c.args.tap next) items c.in_ok-start.ensures.ok) in
     let back = written-back bus.taps.len bus.taps.items next (ap length (sym items) ∙ c.deref_mut.ensures.len) (size bus c.args.tap next starts) in
     record {
-      sound = sound-after true (world_of bus) (Start c.args.tap) _ _ (returns-clause-follows c).1 c.requires.sound;
+      sound = sound-after true (world_of bus) (Start c.args.tap) _ _ (returns-clause-follows c).1 tt c.requires.sound;
       clock = c.requires.clock;
       room = omega (arith, ap length back, size bus c.args.tap next starts, c.requires.room);
       seats = subst (λ ts. AreSeated bus.params 0 (map seat_of ts)) (sym back) (seated bus c.args.tap next c.requires starts);

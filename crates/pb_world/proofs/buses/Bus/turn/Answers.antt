@@ -93,7 +93,7 @@ returns-clause-kept c =
     let set = c.keep_turn.ensures t (ap (λ xs. slice_get xs i) items ∙ at) ∙ ap (λ xs. slice_set xs i x) items in
     let back = written-back bus.taps.len bus.taps.items c.keep_turn.new.taps (ap length (sym items) ∙ c.deref_mut.ensures.len) (ap length set ∙ length-set bus.taps.items i x) in
     record {
-      sound = sound-after (returns-clause-follows c).0 w (Turn i) _ _ (returns-clause-follows c).1 c.requires.sound;
+      sound = sound-after (returns-clause-follows c).0 w (Turn i) _ _ (returns-clause-follows c).1 tt c.requires.sound;
       clock = c.requires.clock;
       room = omega (arith, ap length back, ap length set, length-set bus.taps.items i x, c.requires.room);
       seats = subst (AreSeated bus.params 0) (sym (ap (map seat_of) (back ∙ set) ∙ same-seats bus.taps.items i t x at (turned-seat t bus.now turn turned.3))) c.requires.seats;

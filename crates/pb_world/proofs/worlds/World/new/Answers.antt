@@ -23,7 +23,7 @@ invariant_of-result c =
     ∙ ap (λ es. Ok (made c.beginning.result es (map (stopped_tap p) specs))) (sym none)
     ∙ ap (λ ts. Ok (made c.beginning.result (map entry_of c.new.result.items) ts)) (sym there) in
     record {
-      sound = sound-new_world p specs _ c.in_ok-check_taps.ensures.valid.no_delay new;
+      sound = sound-new_world p specs _ c.in_ok-check_taps.ensures.valid.no_delay c.in_ok-taps.ensures.fit new;
       clock = omega (arith, c.beginning.ensures);
       room = omega (
         arith,
