@@ -64,6 +64,8 @@ fn push_event(text: &mut String, alloc: Global, event: &Event) -> Result<(), All
         } => write!(text, "Damage tap {tap} speaker {speaker} place {place}"),
         Event::Start(tap) => write!(text, "Start {tap}"),
         Event::Stop(tap) => write!(text, "Stop {tap}"),
+        Event::Noise(bits) => write!(text, "Noise {bits}"),
+        Event::Unheard { tap, speaker } => write!(text, "Unheard tap {tap} speaker {speaker}"),
         Event::Queue { tap, request } => {
             write!(text, "Queue tap {tap} ")?;
             push_request(text, alloc, request)

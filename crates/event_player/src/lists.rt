@@ -132,12 +132,13 @@ struct WrittenList<'a> {
     events: Vec<WrittenEvent<'a>>,
 }
 
-/// The rules that a list is written for: a station that hears damage of its token may pass it again.
+/// The rules that a list is written for: those of this bus, where a station that passes its token takes the first
+/// sign of another for its successor's.
 #[derive(Clone, Copy, Debug, Default, Deserialize)]
 #[serde(rename_all = "lowercase")]
 enum Stage {
     #[default]
-    Weak,
+    Final,
 }
 
 /// A tap as it is written.
@@ -180,6 +181,11 @@ enum WrittenEvent<'a> {
     },
     Start(usize),
     Stop(usize),
+    Noise(u32),
+    Unheard {
+        tap: usize,
+        speaker: usize,
+    },
     Queue {
         tap: usize,
         da: u8,
@@ -272,6 +278,8 @@ fn read_event(alloc: Global, place: usize, event: WrittenEvent<'_>) -> Result<Ev
         },
         WrittenEvent::Start(tap) => Event::Start(tap),
         WrittenEvent::Stop(tap) => Event::Stop(tap),
+        WrittenEvent::Noise(bits) => Event::Noise(bits),
+        WrittenEvent::Unheard { tap, speaker } => Event::Unheard { tap, speaker },
         WrittenEvent::Queue {
             tap,
             da,

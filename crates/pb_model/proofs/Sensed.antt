@@ -1,16 +1,16 @@
 -- What a tap senses of entries that have begun.
 use Rattle.std.proofs.Common.{◌≡◌, ℕ, ◌+◌, ◌-◌, ◌/◌, ◌<◌, ◌≤◌, List, [], ◌∷◌, map, Bool, true, false, if◌then◌else◌, ◌||◌, ◌&&◌, ◌==◌, refl, ap, sym, ◌∙◌, arith, Option, Some, None}
-use Rattle.std.specs.Prelude.{nat_lt, max, min, slice_get}
+use Rattle.std.specs.Prelude.{nat_lt, max, min, slice_get, slice_set}
 use Rattle.std.specs.List.{cons_option}
 use Rattle.std.specs.Option.{option_and_then}
-use Rattle.std.proofs.lemmas.Bool.{ltb-true, ltb-false, lt-ltb, le-ltb, eq-eqb}
+use Rattle.std.proofs.lemmas.Bool.{and_parts, ltb-true, ltb-false, lt-ltb, le-ltb, eq-eqb, eqb-true}
 use Rattle.pb_turn.specs.Spans.{Span}
 use Rattle.pb_turn.specs.Stations.{earlier}
 use Rattle.pb_timers.specs.Timers.{bits}
-use Rattle.pb_model.specs.Trace.{Record, Entry, Sent, Noise, entry_begin, goes_before, with_entry, cut_end, cut_at}
+use Rattle.pb_model.specs.Trace.{Record, Entry, Sent, Noise, entry_begin, goes_before, with_entry, cut_end, cut_at, Unheard, is_noise_at, noisy_until, begins_from, unheard_at}
 use Rattle.pb_model.specs.Medium.{lasts_through, part_after, reaches, is_unheard, at_tap, sensed}
 use Rattle.pb_model.specs.World.{later_end, entry_next_end, next_end_of}
-use Rattle.pb_model.specs.Step.{is_past}
+use Rattle.pb_model.specs.Step.{is_past, change_first}
 use Rattle.pb_model.specs.Laws.{AllBegun, is_open}
 use Rattle.pb_model.proofs.Cases.{by_test}
 use Rattle.pb_model.proofs.Bursts.{AllReady}
@@ -163,6 +163,49 @@ open-cut delay tap since now speaker (Sent r ∷ es) none =
     (open-cut delay tap since now speaker es none)
     ∙ by_test (λ (x : Record). is_open (seen before x) now ≡ is_open (seen before r) now) (r.tap == speaker) (record r { end = cut_end now r }) r
     (λ _. by_answer (λ b. is_open (cons_option (option_and_then (part_after since) (if b then None else Some (reaches delay (record r { end = cut_end now r })))) before) now
-        ≡ is_open (cons_option (option_and_then (part_after since) (if b then None else Some (reaches delay r))) before) now) (r.tap == tap || is_unheard (slice_get r.heard tap))
-        (λ _. refl) (λ _. cut-part delay since now r before none))
+    ≡ is_open (cons_option (option_and_then (part_after since) (if b then None else Some (reaches delay r))) before) now) (r.tap == tap || is_unheard (slice_get r.heard tap))
+    (λ _. refl) (λ _. cut-part delay since now r before none))
     (λ _. refl)
+
+-- a change of the first entry that passes a test changes nothing that is open, where it changes nothing of such an entry
+open-change_first : (delay : ℕ) (tap since now : ℕ) (test : Entry → Bool) (change : Entry → Entry) (trace : List Entry)
+    → ((e : Entry) (rest : List Span) → test e ≡ true → is_open (cons_option (option_and_then (part_after since) (at_tap delay tap (change e))) rest) now
+    ≡ is_open (cons_option (option_and_then (part_after since) (at_tap delay tap e)) rest) now)
+    → is_open (sensed delay tap since (change_first test change trace)) now ≡ is_open (sensed delay tap since trace) now
+open-change_first delay tap since now test change [] same = refl
+open-change_first delay tap since now test change (e ∷ es) same =
+    by_test (λ (xs : List Entry). is_open (sensed delay tap since xs) now ≡ is_open (sensed delay tap since (e ∷ es)) now) (test e) (change e ∷ es) (e ∷ change_first test change es)
+    (λ passes. same e (sensed delay tap since es) passes)
+    (λ _. open-behind now (option_and_then (part_after since) (at_tap delay tap e)) (sensed delay tap since (change_first test change es)) (sensed delay tap since es)
+    (open-change_first delay tap since now test change es same))
+
+-- noise that lasts longer is as open
+pub open-longer : (delay : ℕ) (tap since now end : ℕ) (trace : List Entry) → now < end
+    → is_open (sensed delay tap since (change_first (is_noise_at now) (noisy_until end) trace)) now ≡ is_open (sensed delay tap since trace) now
+open-longer delay tap since now end trace later = open-change_first delay tap since now (is_noise_at now) (noisy_until end) trace same
+  where
+    same : (e : Entry) (rest : List Span) → is_noise_at now e ≡ true → is_open (cons_option (option_and_then (part_after since) (at_tap delay tap (noisy_until end e))) rest) now
+        ≡ is_open (cons_option (option_and_then (part_after since) (at_tap delay tap e)) rest) now
+    same (Sent r) rest noise = refl
+    same (Noise span) rest noise =
+        open-part now since (record span { end = max span.end end }) rest
+        ∙ ap (λ (b : Bool). (nat_lt (max span.begin since) now && b) || is_open rest now) (lt-ltb now (max span.end end) (omega (arith, later)) ∙ sym noise)
+        ∙ sym (open-part now since span rest)
+
+-- what begins now is not open yet, whether it is lost at a tap or not
+pub open-lost : (delay : ℕ) (tap since now at speaker : ℕ) (trace : List Entry)
+    → is_open (sensed delay tap since (change_first (begins_from now speaker) (unheard_at at) trace)) now ≡ is_open (sensed delay tap since trace) now
+open-lost delay tap since now at speaker trace = open-change_first delay tap since now (begins_from now speaker) (unheard_at at) trace same
+  where
+    unopened : (r : Record) (rest : List Span) → r.begin ≡ now → is_open (cons_option (option_and_then (part_after since) (at_tap delay tap (Sent r))) rest) now ≡ is_open rest now
+    unopened r rest begun =
+        by_test (λ (o : Option Span). is_open (cons_option (option_and_then (part_after since) o) rest) now ≡ is_open rest now)
+        (r.tap == tap || is_unheard (slice_get r.heard tap)) None (Some (reaches delay r))
+        (λ _. refl) (λ _. open-part_after now since (reaches delay r) rest (omega (arith, begun)))
+
+    same : (e : Entry) (rest : List Span) → begins_from now speaker e ≡ true → is_open (cons_option (option_and_then (part_after since) (at_tap delay tap (unheard_at at e))) rest) now
+        ≡ is_open (cons_option (option_and_then (part_after since) (at_tap delay tap e)) rest) now
+    same (Noise span) rest begins = refl
+    same (Sent r) rest begins =
+        let begun : r.begin ≡ now = eqb-true r.begin now (and_parts (r.tap == speaker) (r.begin == now) begins).1 in
+        unopened (record r { heard = slice_set r.heard at Unheard }) rest begun ∙ sym (unopened r rest begun)

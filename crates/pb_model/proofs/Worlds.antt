@@ -1,5 +1,5 @@
 -- What every event keeps of a world.
-use Rattle.std.proofs.Common.{◌≡◌, ℕ, ◌+◌, ◌<◌, ◌≤◌, List, [], ◌∷◌, length, map, Bool, not, ◌||◌, ◌&&◌, ◌==◌, refl, ap, subst, arith, Option, Some, None, Ok, Err, zero, suc}
+use Rattle.std.proofs.Common.{◌≡◌, ℕ, ◌+◌, ◌<◌, ◌≤◌, List, [], ◌∷◌, length, map, Bool, true, false, not, ◌||◌, ◌&&◌, ◌==◌, refl, ap, subst, arith, Option, Some, None, Ok, Err, zero, suc}
 use Rattle.std.specs.Prelude.{IfSome, nat_le, slice_get, slice_set, is_some, is_none, find}
 use Rattle.std.specs.List.{list_any}
 use Rattle.std.proofs.lemmas.Bool.{eqb-false}
@@ -7,16 +7,17 @@ use Rattle.std.proofs.lemmas.Option.{none-some, same_Some}
 use Rattle.pb_refusals.specs.FirstFault.{first_fault, NoneHolds}
 use Rattle.pb_refusals.proofs.FirstFaults.{none_holds}
 use Rattle.pb_timers.specs.Timers.{Params}
-use Rattle.pb_turn.specs.Laws.{HasReply, HasCycles, IsRequest}
+use Rattle.pb_turn.specs.Laws.{IsRequest}
 use Rattle.pb_cycles.specs.RequestFields.{RequestFields}
 use Rattle.pb_turn.specs.Stations.{started, list_for, pushed}
 use Rattle.pb_turn.specs.Turns.{turn_of}
 use Rattle.pb_turn.proofs.Initiating.{fits-turn_of, reply-turn_of}
 use Rattle.pb_turn.proofs.Keeping.{Sayable, cycles-new, cycles-started, cycles-pushed}
-use Rattle.pb_model.specs.Trace.{Hit, Record, Entry, Sent, Noise, entry_begin, entry_end, goes_before, with_entry, cut_end, cut_at}
+use Rattle.pb_model.specs.Trace.{Hit, Record, Entry, Sent, Noise, entry_begin, entry_end, goes_before, with_entry, cut_end, cut_at, is_noise_at, noisy_until, begins_from, unheard_at}
 use Rattle.pb_model.specs.Medium.{TapSpec, Tap, reaches, ends_between, entry_at, heard_by}
-use Rattle.pb_model.specs.World.{World, Event, Turn, Pass, Damage, Start, Stop, Queue, Reply, Fault, NoSuchTap, Running, NotRunning, NothingInAir, QueueFull, TraceFull, trace_limit, unless, unless_fault, is_in_air_by, new_world, stopped_tap, new_faults}
-use Rattle.pb_model.specs.Step.{sending, with_speech, step_turn, told, pass_faults, step_pass, with_hit, change_first, has_place, step_damage, started_tap, step_start, halted, step_stop, step_queue, step, world_after, replay}
+use Rattle.pb_model.specs.World as world
+use Rattle.pb_model.specs.World.{World, Event, Turn, Pass, Damage, Start, Stop, Queue, Reply, Fault, NoSuchTap, Running, NotRunning, NothingInAir, ZeroTime, QueueFull, TraceFull, trace_limit, unless, unless_fault, is_in_air_by, new_world, stopped_tap, new_faults}
+use Rattle.pb_model.specs.Step.{sending, with_speech, step_turn, told, pass_faults, step_pass, with_hit, change_first, has_place, step_damage, started_tap, step_start, halted, step_stop, step_queue, with_noise, is_noisy, step_noise, step_unheard, step, world_after, replay}
 use Rattle.pb_model.specs.Laws.{AllBegun, AllInOrder, InOrder, AllSayable, IsEvent, AreEvents, AllFit, IsSound}
 use Rattle.pb_model.proofs.Cases.{by_test}
 use Rattle.pb_model.proofs.Marked.{in_order-told}
@@ -50,15 +51,27 @@ begun-entry_at delay taps trace now later (Sent r ∷ es) le all =
     (λ _. (omega (arith, all.0), all.1, begun-entry_at delay taps trace now later es le all.2))
     (λ _. (omega (arith, all.0), all.1, begun-entry_at delay taps trace now later es le all.2))
 
-begun-with_hit : (now : ℕ) (hit : Hit) (e : Entry) (es : List Entry) → AllBegun now (e ∷ es) → AllBegun now (with_hit hit e ∷ es)
-begun-with_hit now hit (Noise span) es all = all
-begun-with_hit now hit (Sent r) es all = all
+-- a change that leaves an entry its begin, and shortens none
+abbrev Lengthens : (Entry → Entry) → Type 0
+Lengthens change = (e : Entry) → (entry_begin (change e) ≡ entry_begin e) × (entry_end e ≤ entry_end (change e))
 
-begun-change_first : (now : ℕ) (test : Entry → Bool) (hit : Hit) (es : List Entry) → AllBegun now es → AllBegun now (change_first test (with_hit hit) es)
-begun-change_first now test hit [] all = tt
-begun-change_first now test hit (e ∷ es) all =
-    by_test (λ (xs : List Entry). AllBegun now xs) (test e) (with_hit hit e ∷ es) (e ∷ change_first test (with_hit hit) es)
-    (λ _. begun-with_hit now hit e es all) (λ _. (all.0, all.1, begun-change_first now test hit es all.2))
+lengthens-with_hit : (hit : Hit) → Lengthens (with_hit hit)
+lengthens-with_hit hit (Noise span) = (refl, omega arith)
+lengthens-with_hit hit (Sent r) = (refl, omega arith)
+
+lengthens-noisy_until : (m : ℕ) → Lengthens (noisy_until m)
+lengthens-noisy_until m (Noise span) = (refl, omega arith)
+lengthens-noisy_until m (Sent r) = (refl, omega arith)
+
+lengthens-unheard_at : (tap : ℕ) → Lengthens (unheard_at tap)
+lengthens-unheard_at tap (Noise span) = (refl, omega arith)
+lengthens-unheard_at tap (Sent r) = (refl, omega arith)
+
+begun-change_first : (now : ℕ) (test : Entry → Bool) (change : Entry → Entry) (es : List Entry) → Lengthens change → AllBegun now es → AllBegun now (change_first test change es)
+begun-change_first now test change [] same all = tt
+begun-change_first now test change (e ∷ es) same all =
+    by_test (λ (xs : List Entry). AllBegun now xs) (test e) (change e ∷ es) (e ∷ change_first test change es)
+    (λ _. (omega (arith, (same e).0, all.0), omega (arith, (same e).0, (same e).1, all.1), all.2)) (λ _. (all.0, all.1, begun-change_first now test change es same all.2))
 
 begun-cut_at : (now tap : ℕ) (es : List Entry) → AllBegun now es → AllBegun now (map (cut_at now tap) es)
 begun-cut_at now tap [] all = tt
@@ -101,10 +114,10 @@ begun-with_speech w tap None fits all = all
 begun-with_speech w tap (Some octets) fits all =
     begun-with_entry w.now (Sent (sending tap octets w.now w.taps)) w.trace (omega arith) (omega (arith, fits.0)) all
 
-sound-turn : (again : Bool) (w : World) (tap : ℕ) (o : Option Tap) → slice_get w.taps tap ≡ o → IsSound w → IsSound (world_after w (step_turn again w tap o))
-sound-turn again w tap None e sound = sound
-sound-turn again w tap (Some t) e sound =
-    let turn = turn_of w.params again t.station t.marks w.now in
+sound-turn : (w : World) (tap : ℕ) (o : Option Tap) → slice_get w.taps tap ≡ o → IsSound w → IsSound (world_after w (step_turn w tap o))
+sound-turn w tap None e sound = sound
+sound-turn w tap (Some t) e sound =
+    let turn = turn_of w.params t.station t.marks w.now in
     let has = sayable-at w.taps tap t sound.sayable e in
     world_after-unless IsSound w
     (record w { trace = with_speech w tap turn.1; taps = slice_set w.taps tap (record t { station = turn.0; marks = [] }) })
@@ -113,8 +126,8 @@ sound-turn again w tap (Some t) e sound =
     sound
     (λ _. record {
       no_delay = sound.no_delay;
-      begun = begun-with_speech w tap turn.1 (fits-turn_of w.params again t.station t.marks w.now has) sound.begun;
-      sayable = sayable-set w.taps tap (record t { station = turn.0; marks = [] }) (reply-turn_of w.params again t.station t.marks w.now has) sound.sayable;
+      begun = begun-with_speech w tap turn.1 (fits-turn_of w.params t.station t.marks w.now has) sound.begun;
+      sayable = sayable-set w.taps tap (record t { station = turn.0; marks = [] }) (reply-turn_of w.params t.station t.marks w.now has) sound.sayable;
       in_order = in_order-set w.now w.taps tap (record t { station = turn.0; marks = [] }) (started-at w.now w.taps tap t sound.in_order e) (omega arith) sound.in_order;
     })
 
@@ -143,7 +156,7 @@ sound-damage w tap speaker place at from sound =
     world_after-unless IsSound w (record w { trace = change_first in_air (with_hit hit) w.trace }) (record { now = w.now; spoke = None })
     ((is_none at || is_none from, NoSuchTap) ∷ (tap == speaker || not (has_place (find in_air w.trace) place), NothingInAir) ∷ [])
     sound
-    (λ _. record { no_delay = sound.no_delay; begun = begun-change_first w.now in_air hit w.trace sound.begun; in_order = sound.in_order; sayable = sound.sayable })
+    (λ _. record { no_delay = sound.no_delay; begun = begun-change_first w.now in_air (with_hit hit) w.trace (lengthens-with_hit hit) sound.begun; in_order = sound.in_order; sayable = sound.sayable })
 
 sound-start : (w : World) (tap : ℕ) (o : Option Tap) → slice_get w.taps tap ≡ o → IsSound w → IsSound (world_after w (step_start w tap o))
 sound-start w tap None e sound = sound
@@ -192,19 +205,52 @@ sound-queue w tap r (Some t) e is sound =
           sayable-set w.taps tap (record t { station = pushed t.station r }) (has.0, cycles-pushed t.station r has.1 is) sound.sayable;
     })
 
+-- ---- Noise and Unheard
+
+begun-with_noise : (w : World) (bits : ℕ) (noisy : Bool) → 0 < bits → AllBegun w.now w.trace → AllBegun w.now (with_noise w.now (w.now + bits) noisy w.trace)
+begun-with_noise w bits true some all = begun-change_first w.now (is_noise_at w.now) (noisy_until (w.now + bits)) w.trace (lengthens-noisy_until (w.now + bits)) all
+begun-with_noise w bits false some all = begun-with_entry w.now (Noise (record { begin = w.now; end = w.now + bits })) w.trace (omega arith) (omega (arith, some)) all
+
+sound-noise : (w : World) (bits : ℕ) (noisy : Bool) → IsSound w → IsSound (world_after w (step_noise w bits noisy))
+sound-noise w bits noisy sound =
+    world_after-unless IsSound w (record w { trace = with_noise w.now (w.now + bits) noisy w.trace }) (record { now = w.now; spoke = None })
+    ((bits == 0, ZeroTime) ∷ (not noisy && nat_le trace_limit (length w.trace), TraceFull) ∷ [])
+    sound
+    (λ none. record {
+      no_delay = sound.no_delay;
+      begun = begun-with_noise w bits noisy (let some : bits ≡ 0 → ⊥ = eqb-false bits 0 none.0 in grind (arith, some)) sound.begun;
+      in_order = sound.in_order;
+      sayable = sound.sayable;
+    })
+
+sound-unheard : (w : World) (tap speaker : ℕ) (at from : Option Tap) → IsSound w → IsSound (world_after w (step_unheard w tap speaker at from))
+sound-unheard w tap speaker at from sound =
+    let begins = begins_from w.now speaker in
+    world_after-unless IsSound w (record w { trace = change_first begins (unheard_at tap) w.trace }) (record { now = w.now; spoke = None })
+    ((is_none at || is_none from, NoSuchTap) ∷ (tap == speaker || not (list_any begins w.trace), NothingInAir) ∷ [])
+    sound
+    (λ _. record {
+      no_delay = sound.no_delay;
+      begun = begun-change_first w.now begins (unheard_at tap) w.trace (lengthens-unheard_at tap) sound.begun;
+      in_order = sound.in_order;
+      sayable = sound.sayable;
+    })
+
 -- ---- every event
 
-pub sound-step : (again : Bool) (w : World) (e : Event) → IsEvent e → IsSound w → IsSound (world_after w (step again w e))
-sound-step again w (Turn tap) is sound = sound-turn again w tap (slice_get w.taps tap) refl sound
-sound-step again w (Pass d) is sound = sound-pass w d sound
-sound-step again w (Damage tap speaker place) is sound = sound-damage w tap speaker place (slice_get w.taps tap) (slice_get w.taps speaker) sound
-sound-step again w (Start tap) is sound = sound-start w tap (slice_get w.taps tap) refl sound
-sound-step again w (Stop tap) is sound = sound-stop w tap (slice_get w.taps tap) refl sound
-sound-step again w (Queue tap r) is sound = sound-queue w tap r (slice_get w.taps tap) refl is sound
+pub sound-step : (w : World) (e : Event) → IsEvent e → IsSound w → IsSound (world_after w (step w e))
+sound-step w (Turn tap) is sound = sound-turn w tap (slice_get w.taps tap) refl sound
+sound-step w (Pass d) is sound = sound-pass w d sound
+sound-step w (Damage tap speaker place) is sound = sound-damage w tap speaker place (slice_get w.taps tap) (slice_get w.taps speaker) sound
+sound-step w (Start tap) is sound = sound-start w tap (slice_get w.taps tap) refl sound
+sound-step w (Stop tap) is sound = sound-stop w tap (slice_get w.taps tap) refl sound
+sound-step w (Queue tap r) is sound = sound-queue w tap r (slice_get w.taps tap) refl is sound
+sound-step w (world.Noise bits) is sound = sound-noise w bits (is_noisy w) sound
+sound-step w (world.Unheard tap speaker) is sound = sound-unheard w tap speaker (slice_get w.taps tap) (slice_get w.taps speaker) sound
 
-pub sound-replay : (w : World) (events : List (Bool × Event)) → AreEvents events → IsSound w → IsSound (replay w events)
+pub sound-replay : (w : World) (events : List Event) → AreEvents events → IsSound w → IsSound (replay w events)
 sound-replay w [] are sound = sound
-sound-replay w (e ∷ es) are sound = sound-replay (world_after w (step e.0 w e.1)) es are.1 (sound-step e.0 w e.1 are.0 sound)
+sound-replay w (e ∷ es) are sound = sound-replay (world_after w (step w e)) es are.1 (sound-step w e are.0 sound)
 
 -- ---- a new world
 
@@ -232,10 +278,10 @@ sound-new_world p specs w none fit new =
 
 -- ---- the clock
 
-later-turn : (again : Bool) (w : World) (tap : ℕ) (o : Option Tap) → w.now ≤ (world_after w (step_turn again w tap o)).now
-later-turn again w tap None = omega arith
-later-turn again w tap (Some t) =
-    let turn = turn_of w.params again t.station t.marks w.now in
+later-turn : (w : World) (tap : ℕ) (o : Option Tap) → w.now ≤ (world_after w (step_turn w tap o)).now
+later-turn w tap None = omega arith
+later-turn w tap (Some t) =
+    let turn = turn_of w.params t.station t.marks w.now in
     world_after-unless (λ (x : World). w.now ≤ x.now) w
     (record w { trace = with_speech w tap turn.1; taps = slice_set w.taps tap (record t { station = turn.0; marks = [] }) })
     (record { now = w.now; spoke = turn.1 })
@@ -277,19 +323,33 @@ later-queue w tap r (Some t) =
     ((not (t.running && t.spec.master), NotRunning) ∷ (nat_le 16 (length (list_for t.station.cycles.queue r)), QueueFull) ∷ [])
     (omega arith) (λ _. omega arith)
 
-later-step : (again : Bool) (w : World) (e : Event) → w.now ≤ (world_after w (step again w e)).now
-later-step again w (Turn tap) = later-turn again w tap (slice_get w.taps tap)
-later-step again w (Pass d) = later-pass w d
-later-step again w (Damage tap speaker place) = later-damage w tap speaker place (slice_get w.taps tap) (slice_get w.taps speaker)
-later-step again w (Start tap) = later-start w tap (slice_get w.taps tap)
-later-step again w (Stop tap) = later-stop w tap (slice_get w.taps tap)
-later-step again w (Queue tap r) = later-queue w tap r (slice_get w.taps tap)
+later-noise : (w : World) (bits : ℕ) (noisy : Bool) → w.now ≤ (world_after w (step_noise w bits noisy)).now
+later-noise w bits noisy =
+    world_after-unless (λ (x : World). w.now ≤ x.now) w (record w { trace = with_noise w.now (w.now + bits) noisy w.trace }) (record { now = w.now; spoke = None })
+    ((bits == 0, ZeroTime) ∷ (not noisy && nat_le trace_limit (length w.trace), TraceFull) ∷ []) (omega arith) (λ _. omega arith)
+
+later-unheard : (w : World) (tap speaker : ℕ) (at from : Option Tap) → w.now ≤ (world_after w (step_unheard w tap speaker at from)).now
+later-unheard w tap speaker at from =
+    let begins = begins_from w.now speaker in
+    world_after-unless (λ (x : World). w.now ≤ x.now) w (record w { trace = change_first begins (unheard_at tap) w.trace }) (record { now = w.now; spoke = None })
+    ((is_none at || is_none from, NoSuchTap) ∷ (tap == speaker || not (list_any begins w.trace), NothingInAir) ∷ [])
+    (omega arith) (λ _. omega arith)
+
+later-step : (w : World) (e : Event) → w.now ≤ (world_after w (step w e)).now
+later-step w (Turn tap) = later-turn w tap (slice_get w.taps tap)
+later-step w (Pass d) = later-pass w d
+later-step w (Damage tap speaker place) = later-damage w tap speaker place (slice_get w.taps tap) (slice_get w.taps speaker)
+later-step w (Start tap) = later-start w tap (slice_get w.taps tap)
+later-step w (Stop tap) = later-stop w tap (slice_get w.taps tap)
+later-step w (Queue tap r) = later-queue w tap r (slice_get w.taps tap)
+later-step w (world.Noise bits) = later-noise w bits (is_noisy w)
+later-step w (world.Unheard tap speaker) = later-unheard w tap speaker (slice_get w.taps tap) (slice_get w.taps speaker)
 
 -- the clock never falls
-pub later-replay : (w : World) (events : List (Bool × Event)) → w.now ≤ (replay w events).now
+pub later-replay : (w : World) (events : List Event) → w.now ≤ (replay w events).now
 later-replay w [] = omega arith
-later-replay w (e ∷ es) = omega (arith, later-step e.0 w e.1, later-replay (world_after w (step e.0 w e.1)) es)
+later-replay w (e ∷ es) = omega (arith, later-step w e, later-replay (world_after w (step w e)) es)
 
 -- a refused event changes nothing
-pub replay-refused : (again : Bool) (w : World) (e : Event) (fault : Fault) → step again w e ≡ Err fault → replay w ((again, e) ∷ []) ≡ w
-replay-refused again w e fault refused = ap (world_after w) refused
+pub replay-refused : (w : World) (e : Event) (fault : Fault) → step w e ≡ Err fault → replay w (e ∷ []) ≡ w
+replay-refused w e fault refused = ap (world_after w) refused

@@ -7,7 +7,7 @@ use Rattle.pb_turn.specs.Marks.{Mark, Begin, End, moment_of}
 use Rattle.pb_turn.specs.Laws.{HasReply, HasCycles, IsRequest, Fits}
 use Rattle.pb_model.specs.Trace.{Record, Entry, Sent, entry_begin, entry_end, characters_at}
 use Rattle.pb_model.specs.Medium.{TapSpec, Tap, lasts_through, overlaps, hears_from, sends_during, reaches, is_unheard, burst_begins, burst_ends, burst_characters, fills_burst, sensed}
-use Rattle.pb_model.specs.World.{World, Event, Turn, Pass, Damage, Start, Stop, Queue}
+use Rattle.pb_model.specs.World.{World, Event, Turn, Pass, Damage, Start, Stop, Queue, Noise, Unheard}
 
 -- ---- bursts
 
@@ -71,10 +71,12 @@ IsEvent (Damage tap speaker place) = Unit {0}
 IsEvent (Start tap) = Unit {0}
 IsEvent (Stop tap) = Unit {0}
 IsEvent (Queue tap request) = IsRequest request
+IsEvent (Noise bits) = Unit {0}
+IsEvent (Unheard tap speaker) = Unit {0}
 
-abbrev pub AreEvents : List (Bool × Event) → Type 0
+abbrev pub AreEvents : List Event → Type 0
 AreEvents [] = Unit {0}
-AreEvents (e ∷ es) = IsEvent e.1 × AreEvents es
+AreEvents (e ∷ es) = IsEvent e × AreEvents es
 
 -- the data that each tap replies fits into a telegram
 abbrev pub AllFit : List TapSpec → Type 0

@@ -1,13 +1,14 @@
 -- Worked scenarios: events, and what they lead to.
-use Rattle.std.specs.Prelude.{ℕ, Bool, true, false, List, [], ◌∷◌, map, Option, Some, None, Result, Ok, Err}
+use Rattle.std.specs.Prelude.{ℕ, true, false, List, [], ◌∷◌, map, Option, Some, None, Result, Ok, Err}
 use Rattle.pb_cycles.specs.RequestFields.{RequestFields}
 use Rattle.pb_cycles.specs.declared.outcomes.Outcome.{Outcome}
 use Rattle.pb_cycles.specs.declared.services.Service.TheVariants.{Srd}
 use Rattle.pb_timers.specs.Timers.{Params}
-use Rattle.pb_turn.specs.Phases.{Phase, Checking, AwaitStatus}
-use Rattle.pb_model.specs.Trace.{Entry, Sent, Own, Whole, Damaged, Pending}
+use Rattle.pb_turn.specs.Phases.{Phase, Checking, Use}
+use Rattle.pb_model.specs.Trace as trace
+use Rattle.pb_model.specs.Trace.{Entry, Sent, Own, Whole, Damaged}
 use Rattle.pb_model.specs.Medium.{TapSpec}
-use Rattle.pb_model.specs.World.{World, NewFault, Event, Turn, Pass, Damage, Start, Stop, Queue, new_world}
+use Rattle.pb_model.specs.World.{World, NewFault, Event, Turn, Pass, Damage, Start, Stop, Queue, Noise, Unheard, new_world}
 use Rattle.pb_model.specs.Step.{replay}
 
 abbrev pub example_bus : Params
@@ -16,13 +17,13 @@ example_bus = record { tsl = 100; tid1 = 37; tid2 = 60; tsdr = 11; lag = 0; ttr 
 abbrev pub master : ℕ → TapSpec
 master address = record { address = address; master = true; reply = [] }
 
-abbrev pub replay_from : Result World NewFault → List (Bool × Event) → Option World
+abbrev pub replay_from : Result World NewFault → List Event → Option World
 replay_from (Ok w) events = Some (replay w events)
 replay_from (Err fault) events = None
 
--- the world after the events, where a damaged end in Checking passes the token again
+-- the world after the events
 abbrev pub world_of : List TapSpec → List Event → Option World
-world_of specs events = replay_from (new_world example_bus specs) (map (λ event. (true, event)) events)
+world_of specs events = replay_from (new_world example_bus specs) events
 
 abbrev pub trace_of : Option World → List Entry
 trace_of None = []
@@ -78,7 +79,8 @@ taker_damaged =
     Start 0 ∷ Start 1 ∷ Pass 800 ∷ Turn 0 ∷ Pass 1 ∷ Turn 1 ∷ Pass 32 ∷ Turn 1 ∷ Pass 37 ∷ Turn 0 ∷
     Pass 1 ∷ Turn 1 ∷ Pass 32 ∷ Turn 1 ∷ Pass 37 ∷ Turn 0 ∷ Pass 1 ∷ Turn 1 ∷ Pass 65 ∷ Turn 1 ∷ Pass 11 ∷
     Turn 1 ∷ Pass 1 ∷ Turn 0 ∷ Pass 65 ∷ Turn 0 ∷ Pass 37 ∷ Turn 0 ∷ Pass 1 ∷ Turn 1 ∷ Pass 32 ∷ Turn 1 ∷
-    Pass 37 ∷ Turn 1 ∷ Pass 1 ∷ Damage 0 1 (Some 0) ∷ Turn 0 ∷ Pass 65 ∷ Turn 0 ∷ []
+    Pass 37 ∷ Turn 1 ∷ Pass 1 ∷ Damage 0 1 (Some 0) ∷ Turn 0 ∷ Pass 65 ∷ Turn 0 ∷ Pass 100 ∷ Turn 1 ∷ Pass 1 ∷ Turn 0 ∷
+    Pass 32 ∷ Turn 0 ∷ []
 
 abbrev pub taker_damaged_trace : List Entry
 taker_damaged_trace =
@@ -88,12 +90,45 @@ taker_damaged_trace =
     ∷ Sent (record { tap = 1; octets = 0x10 ∷ 0x01 ∷ 0x02 ∷ 0x20 ∷ 0x23 ∷ 0x16 ∷ []; begin = 1017; end = 1083; hits = []; heard = Whole ∷ Own ∷ [] })
     ∷ Sent (record { tap = 0; octets = 0xdc ∷ 0x02 ∷ 0x01 ∷ []; begin = 1120; end = 1153; hits = []; heard = Own ∷ Whole ∷ [] })
     ∷ Sent (record { tap = 1; octets = 0x10 ∷ 0x03 ∷ 0x02 ∷ 0x49 ∷ 0x4e ∷ 0x16 ∷ []; begin = 1190; end = 1256; hits = record { tap = 0; place = Some 0 } ∷ []; heard = Damaged ∷ Own ∷ [] })
-    ∷ Sent (record { tap = 0; octets = 0xdc ∷ 0x02 ∷ 0x01 ∷ []; begin = 1256; end = 1289; hits = []; heard = Own ∷ Pending ∷ [] })
+    ∷ Sent (record { tap = 1; octets = 0xdc ∷ 0x01 ∷ 0x02 ∷ []; begin = 1356; end = 1389; hits = []; heard = Whole ∷ Own ∷ [] })
     ∷ []
 
--- the first has passed the token again, while the second waits for a reply
+-- the first uses the token that the second has passed back to it
 abbrev pub taker_damaged_phases : List Phase
-taker_damaged_phases = Checking 2 ∷ AwaitStatus 3 true ∷ []
+taker_damaged_phases = Use false 1426 ∷ Checking 1 ∷ []
+
+-- what the second says with the token is lost at the first
+abbrev pub taker_unheard : List Event
+taker_unheard =
+    Start 0 ∷ Start 1 ∷ Pass 800 ∷ Turn 0 ∷ Pass 1 ∷ Turn 1 ∷ Pass 32 ∷ Turn 1 ∷ Pass 37 ∷ Turn 0 ∷
+    Pass 1 ∷ Turn 1 ∷ Pass 32 ∷ Turn 1 ∷ Pass 37 ∷ Turn 0 ∷ Pass 1 ∷ Turn 1 ∷ Pass 65 ∷ Turn 1 ∷ Pass 11 ∷
+    Turn 1 ∷ Pass 1 ∷ Turn 0 ∷ Pass 65 ∷ Turn 0 ∷ Pass 37 ∷ Turn 0 ∷ Pass 1 ∷ Turn 1 ∷ Pass 32 ∷ Turn 1 ∷
+    Pass 37 ∷ Turn 1 ∷ Unheard 0 1 ∷ Pass 63 ∷ Turn 0 ∷ Pass 1 ∷ Turn 1 ∷ Pass 2 ∷ Turn 1 ∷ Pass 30 ∷ Turn 1 ∷ Turn 0 ∷ []
+
+abbrev pub taker_unheard_trace : List Entry
+taker_unheard_trace =
+    Sent (record { tap = 0; octets = 0xdc ∷ 0x01 ∷ 0x01 ∷ []; begin = 800; end = 833; hits = []; heard = Own ∷ Whole ∷ [] })
+    ∷ Sent (record { tap = 0; octets = 0xdc ∷ 0x01 ∷ 0x01 ∷ []; begin = 870; end = 903; hits = []; heard = Own ∷ Whole ∷ [] })
+    ∷ Sent (record { tap = 0; octets = 0x10 ∷ 0x02 ∷ 0x01 ∷ 0x49 ∷ 0x4c ∷ 0x16 ∷ []; begin = 940; end = 1006; hits = []; heard = Own ∷ Whole ∷ [] })
+    ∷ Sent (record { tap = 1; octets = 0x10 ∷ 0x01 ∷ 0x02 ∷ 0x20 ∷ 0x23 ∷ 0x16 ∷ []; begin = 1017; end = 1083; hits = []; heard = Whole ∷ Own ∷ [] })
+    ∷ Sent (record { tap = 0; octets = 0xdc ∷ 0x02 ∷ 0x01 ∷ []; begin = 1120; end = 1153; hits = []; heard = Own ∷ Whole ∷ [] })
+    ∷ Sent (record { tap = 1; octets = 0x10 ∷ 0x03 ∷ 0x02 ∷ 0x49 ∷ 0x4e ∷ 0x16 ∷ []; begin = 1190; end = 1256; hits = []; heard = trace.Unheard ∷ Own ∷ [] })
+    ∷ Sent (record { tap = 0; octets = 0xdc ∷ 0x02 ∷ 0x01 ∷ []; begin = 1253; end = 1286; hits = []; heard = Own ∷ Damaged ∷ [] })
+    ∷ []
+
+-- the first has passed the token again, while the second uses it
+abbrev pub taker_unheard_phases : List Phase
+taker_unheard_phases = Checking 2 ∷ Use true 1323 ∷ []
+
+-- noise, and more of it before that has ended; a master claims the token a time-out after it
+abbrev pub noise_heard : List Event
+noise_heard = Start 0 ∷ Pass 100 ∷ Noise 30 ∷ Pass 10 ∷ Turn 0 ∷ Noise 50 ∷ Pass 50 ∷ Turn 0 ∷ Pass 800 ∷ Turn 0 ∷ Pass 33 ∷ []
+
+abbrev pub noise_heard_trace : List Entry
+noise_heard_trace =
+    trace.Noise (record { begin = 100; end = 160 })
+    ∷ Sent (record { tap = 0; octets = 0xdc ∷ 0x01 ∷ 0x01 ∷ []; begin = 960; end = 993; hits = []; heard = Own ∷ [] })
+    ∷ []
 
 -- the first stops in the middle of its question: what the second hears is damaged, and it claims the token
 abbrev pub speaker_stopped : List Event

@@ -6,9 +6,10 @@ use Rattle.pb_cycles.specs.RequestFields.{RequestFields}
 use Rattle.pb_turn.specs.Spans.{Span}
 use Rattle.pb_turn.specs.Stations.{Station, started, stopped, list_for, pushed}
 use Rattle.pb_turn.specs.Turns.{turn_of}
-use Rattle.pb_model.specs.Trace.{Record, Hit, Entry, Sent, Noise, with_entry, heard_at_first, cut_at}
+use Rattle.pb_model.specs.Trace as trace
+use Rattle.pb_model.specs.Trace.{Record, Hit, Entry, Sent, with_entry, heard_at_first, cut_at, is_noise_at, noisy_until, begins_from, unheard_at}
 use Rattle.pb_model.specs.Medium.{Tap, at_tap, contains_moment, new_marks, entry_at}
-use Rattle.pb_model.specs.World.{World, Event, Turn, Pass, Damage, Start, Stop, Queue, Reply, Fault, NoSuchTap, Running, NotRunning, NothingInAir, ZeroTime, TooFar, ClockFull, QueueFull, InboxFull, TraceFull, clock_limit, mark_limit, trace_limit, unless, next_end, is_in_air_by}
+use Rattle.pb_model.specs.World.{World, Event, Turn, Pass, Damage, Start, Stop, Queue, Noise, Unheard, Reply, Fault, NoSuchTap, Running, NotRunning, NothingInAir, ZeroTime, TooFar, ClockFull, QueueFull, InboxFull, TraceFull, clock_limit, mark_limit, trace_limit, unless, next_end, is_in_air_by}
 
 -- ---- Turn
 
@@ -35,9 +36,9 @@ after_turn w tap t turn =
       record { now = w.now; spoke = turn.1 },
     )
 
-abbrev pub step_turn : Bool → World → ℕ → Option Tap → Result (World × Reply) Fault
-step_turn again w tap None = Err NoSuchTap
-step_turn again w tap (Some t) = after_turn w tap t (turn_of w.params again t.station t.marks w.now)
+abbrev pub step_turn : World → ℕ → Option Tap → Result (World × Reply) Fault
+step_turn w tap None = Err NoSuchTap
+step_turn w tap (Some t) = after_turn w tap t (turn_of w.params t.station t.marks w.now)
 
 -- ---- Pass
 
@@ -77,7 +78,7 @@ step_pass w bits = after_pass w bits (told w.params.ttd w.trace w.now (w.now + b
 -- ---- Damage
 
 abbrev pub with_hit : Hit → Entry → Entry
-with_hit hit (Noise span) = Noise span
+with_hit hit (trace.Noise span) = trace.Noise span
 with_hit hit (Sent r) = Sent (record r { hits = r.hits ++ hit ∷ [] })
 
 -- the first entry that passes the test, changed
@@ -155,16 +156,48 @@ step_queue w tap r (Some t) =
       record { now = w.now; spoke = None },
     )
 
+-- ---- Noise
+
+-- noise for some time from now on: the noise that is in the air lasts so long, or there is a new one
+abbrev pub with_noise : ℕ → ℕ → Bool → List Entry → List Entry
+with_noise now end true es = change_first (is_noise_at now) (noisy_until end) es
+with_noise now end false es = with_entry (trace.Noise (record { begin = now; end = end })) es
+
+abbrev pub is_noisy : World → Bool
+is_noisy w = list_any (is_noise_at w.now) w.trace
+
+abbrev pub step_noise : World → ℕ → Bool → Result (World × Reply) Fault
+step_noise w bits noisy =
+    unless ((bits == 0, ZeroTime) ∷ (not noisy && nat_le trace_limit (length w.trace), TraceFull) ∷ []) (
+      record w { trace = with_noise w.now (w.now + bits) noisy w.trace },
+      record { now = w.now; spoke = None },
+    )
+
+-- ---- Unheard
+
+abbrev pub step_unheard : World → ℕ → ℕ → Option Tap → Option Tap → Result (World × Reply) Fault
+step_unheard w tap speaker at from =
+    let begins = begins_from w.now speaker in
+    unless (
+    (is_none at || is_none from, NoSuchTap)
+    ∷ (tap == speaker || not (list_any begins w.trace), NothingInAir)
+    ∷ []
+    ) (
+      record w { trace = change_first begins (unheard_at tap) w.trace },
+      record { now = w.now; spoke = None },
+    )
+
 -- ---- the step
 
--- an event; the choice says whether a station in Checking passes the token again after a damaged end
-abbrev pub step : Bool → World → Event → Result (World × Reply) Fault
-step again w (Turn tap) = step_turn again w tap (slice_get w.taps tap)
-step again w (Pass bits) = step_pass w bits
-step again w (Damage tap speaker place) = step_damage w tap speaker place (slice_get w.taps tap) (slice_get w.taps speaker)
-step again w (Start tap) = step_start w tap (slice_get w.taps tap)
-step again w (Stop tap) = step_stop w tap (slice_get w.taps tap)
-step again w (Queue tap request) = step_queue w tap request (slice_get w.taps tap)
+abbrev pub step : World → Event → Result (World × Reply) Fault
+step w (Turn tap) = step_turn w tap (slice_get w.taps tap)
+step w (Pass bits) = step_pass w bits
+step w (Damage tap speaker place) = step_damage w tap speaker place (slice_get w.taps tap) (slice_get w.taps speaker)
+step w (Start tap) = step_start w tap (slice_get w.taps tap)
+step w (Stop tap) = step_stop w tap (slice_get w.taps tap)
+step w (Queue tap request) = step_queue w tap request (slice_get w.taps tap)
+step w (Noise bits) = step_noise w bits (is_noisy w)
+step w (Unheard tap speaker) = step_unheard w tap speaker (slice_get w.taps tap) (slice_get w.taps speaker)
 
 -- ---- replay
 
@@ -172,7 +205,7 @@ abbrev pub world_after : World → Result (World × Reply) Fault → World
 world_after w (Ok next) = next.0
 world_after w (Err fault) = w
 
--- the world after a list of events, each with its choice; a refused event changes nothing
-abbrev pub replay : World → List (Bool × Event) → World
+-- the world after a list of events; a refused event changes nothing
+abbrev pub replay : World → List Event → World
 replay w [] = w
-replay w (e ∷ es) = replay (world_after w (step e.0 w e.1)) es
+replay w (e ∷ es) = replay (world_after w (step w e)) es

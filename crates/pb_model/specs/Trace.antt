@@ -1,5 +1,5 @@
 -- The trace of the bus: what was sent, and noise.
-use Rattle.std.specs.Prelude.{ℕ, ◌+◌, ◌-◌, ◌/◌, Bool, true, if◌then◌else◌, ◌==◌, nat_lt, ◌||◌, ◌&&◌, List, [], ◌∷◌, take, min, Option, Some, None}
+use Rattle.std.specs.Prelude.{ℕ, ◌+◌, ◌-◌, ◌/◌, Bool, true, false, if◌then◌else◌, ◌==◌, nat_lt, ◌||◌, ◌&&◌, List, [], ◌∷◌, take, max, min, slice_set, Option, Some, None}
 use Rattle.std.specs.List.{list_any}
 use Rattle.pb_telegram.specs.declared.chars.RxChar.{RxChar}
 use Rattle.pb_telegram.specs.declared.chars.RxChar.TheVariants.{Good, Bad}
@@ -82,6 +82,26 @@ cut_end now r = min r.end (r.begin + bits ((now - r.begin) / 11 + 1))
 abbrev pub cut_at : ℕ → ℕ → Entry → Entry
 cut_at now tap (Noise span) = Noise span
 cut_at now tap (Sent r) = Sent (if r.tap == tap then record r { end = cut_end now r } else r)
+
+-- whether an entry is noise that is in the air at a moment
+abbrev pub is_noise_at : ℕ → Entry → Bool
+is_noise_at now (Noise span) = nat_lt now span.end
+is_noise_at now (Sent r) = false
+
+-- noise that lasts until a moment at least
+abbrev pub noisy_until : ℕ → Entry → Entry
+noisy_until m (Noise span) = Noise (record span { end = max span.end m })
+noisy_until m (Sent r) = Sent r
+
+-- whether an entry is a telegram of a speaker that began at a moment
+abbrev pub begins_from : ℕ → ℕ → Entry → Bool
+begins_from now speaker (Noise span) = false
+begins_from now speaker (Sent r) = r.tap == speaker && r.begin == now
+
+-- a telegram that a tap doesn't hear
+abbrev pub unheard_at : ℕ → Entry → Entry
+unheard_at tap (Noise span) = Noise span
+unheard_at tap (Sent r) = Sent (record r { heard = slice_set r.heard tap Unheard })
 
 -- the characters that went out, as a tap gets them
 abbrev pub characters_at : ℕ → Record → List RxChar

@@ -4,7 +4,8 @@ use Rattle.pb_refusals.specs.FirstFault.{first_fault}
 use Rattle.pb_timers.specs.Timers.{Params}
 use Rattle.pb_cycles.specs.RequestFields.{RequestFields}
 use Rattle.pb_turn.specs.Stations.{earlier, new_station}
-use Rattle.pb_model.specs.Trace.{Entry, Sent, Noise}
+use Rattle.pb_model.specs.Trace as trace
+use Rattle.pb_model.specs.Trace.{Entry, Sent}
 use Rattle.pb_model.specs.Medium.{TapSpec, Tap, reaches}
 
 pub record World : Type 0 where
@@ -26,6 +27,10 @@ pub data Event : Type 0 where
   Stop : (tap : ℕ) → Event
   -- a request waits at a station
   Queue : (tap : ℕ) (request : RequestFields) → Event
+  -- noise reaches every tap
+  Noise : (bits : ℕ) → Event
+  -- a telegram that began now is lost at a tap
+  Unheard : (tap speaker : ℕ) → Event
 
 -- the clock after an event, and what a turn said
 pub record Reply : Type 0 where
@@ -112,7 +117,7 @@ later_end now m = if nat_lt now m then Some m else None
 
 -- the next end of an entry, at its speaker or at the other taps
 abbrev pub entry_next_end : ℕ → ℕ → Entry → Option ℕ
-entry_next_end delay now (Noise span) = later_end now span.end
+entry_next_end delay now (trace.Noise span) = later_end now span.end
 entry_next_end delay now (Sent r) = earlier (later_end now r.end) (later_end now (reaches delay r).end)
 
 -- the next end of some entries
@@ -126,5 +131,5 @@ next_end w = next_end_of w.params.ttd w.now w.trace
 
 -- a telegram of the speaker that has not reached the others yet
 abbrev pub is_in_air_by : ℕ → ℕ → ℕ → Entry → Bool
-is_in_air_by delay now speaker (Noise span) = false
+is_in_air_by delay now speaker (trace.Noise span) = false
 is_in_air_by delay now speaker (Sent r) = r.tap == speaker && nat_lt now (reaches delay r).end

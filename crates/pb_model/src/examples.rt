@@ -1,5 +1,5 @@
 ghost use Rattle.std.specs.Prelude.{◌≡◌, ◌∷◌, []};
-ghost use Rattle.pb_model.specs.Scenarios.{master, world_of, trace_of, phases_of, two_masters, alone, alone_trace, ring_formed, ring_formed_trace, taker_damaged, taker_damaged_trace, taker_damaged_phases, speaker_stopped, speaker_stopped_trace, master_and_passive, data_requested, data_requested_trace, executed_of, outcomes_of};
+ghost use Rattle.pb_model.specs.Scenarios.{master, world_of, trace_of, phases_of, two_masters, alone, alone_trace, ring_formed, ring_formed_trace, taker_damaged, taker_damaged_trace, taker_damaged_phases, taker_unheard, taker_unheard_trace, taker_unheard_phases, noise_heard, noise_heard_trace, speaker_stopped, speaker_stopped_trace, master_and_passive, data_requested, data_requested_trace, executed_of, outcomes_of};
 ghost use Rattle.std.specs.Prelude.{Some, None};
 ghost use Rattle.pb_cycles.specs.declared.outcomes.Outcome.TheVariants.{Data};
 
@@ -14,10 +14,23 @@ pub fn two_masters_form_a_ring()
     ensures { trace_of (world_of two_masters ring_formed) ≡ ring_formed_trace }
 {}
 
-/// While the check of the token pass is weak, damage alone leads to two stations that initiate.
-pub fn damage_alone_makes_two_holders()
+/// Damage alone makes no second holder: a station that has passed the token and hears that something begins
+/// takes it for the sign that the token was taken, also where it comes damaged.
+pub fn damage_alone_makes_no_second_holder()
     ensures trace { trace_of (world_of two_masters taker_damaged) ≡ taker_damaged_trace }
     ensures phases { phases_of (world_of two_masters taker_damaged) ≡ taker_damaged_phases }
+{}
+
+/// Where what a station says with the token is lost at the one that passed it, that one passes it again, and
+/// two stations hold it: nothing on the bus could tell it.
+pub fn what_is_lost_at_a_tap_makes_two_holders()
+    ensures trace { trace_of (world_of two_masters taker_unheard) ≡ taker_unheard_trace }
+    ensures phases { phases_of (world_of two_masters taker_unheard) ≡ taker_unheard_phases }
+{}
+
+/// Noise that begins while noise is in the air makes that longer; a time-out counts from its end.
+pub fn noise_lasts_to_the_later_end()
+    ensures { trace_of (world_of (master 1 ∷ []) noise_heard) ≡ noise_heard_trace }
 {}
 
 /// A station that stops while it speaks leaves a telegram that nobody hears whole; after a silence another

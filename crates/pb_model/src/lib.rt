@@ -11,7 +11,8 @@ mod world_laws;
 
 pub use examples::{
     a_damaged_reply_is_asked_for_again, a_master_alone_keeps_the_token,
-    a_stopped_speaker_is_heard_damaged, damage_alone_makes_two_holders, two_masters_form_a_ring,
+    a_stopped_speaker_is_heard_damaged, damage_alone_makes_no_second_holder,
+    noise_lasts_to_the_later_end, two_masters_form_a_ring, what_is_lost_at_a_tap_makes_two_holders,
 };
 pub use medium_laws::{
     a_tap_does_not_hear_itself, only_a_pass_opens_a_burst, stretches_that_overlap_are_one_burst,

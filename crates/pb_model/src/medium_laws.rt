@@ -2,8 +2,9 @@ ghost use Rattle.std.specs.Prelude.{◌≡◌, ◌≢◌, ◌≤◌, ◌<◌, �
 ghost use Rattle.pb_telegram.specs.declared.chars.RxChar.{RxChar};
 ghost use Rattle.pb_telegram.specs.declared.chars.RxChar.TheVariants.{Bad};
 ghost use Rattle.pb_turn.specs.Spans.{Span};
-ghost use Rattle.pb_model.specs.Trace.{Record, Entry, Sent, entry_begin, with_entry, cut_at};
+ghost use Rattle.pb_model.specs.Trace.{Record, Entry, Sent, entry_begin, with_entry, cut_at, is_noise_at, noisy_until, begins_from, unheard_at};
 ghost use Rattle.pb_model.specs.Medium.{Tap, sensed, burst_begins, burst_ends, fills_burst, burst_characters, is_whole_at, marks_between, entry_at};
+ghost use Rattle.pb_model.specs.Step.{change_first};
 ghost use Rattle.pb_model.specs.World.{next_end_of};
 ghost use Rattle.pb_model.specs.Laws.{is_open, AllFrom, AllOver, FillsBurst, FillsAlone};
 
@@ -48,13 +49,18 @@ pub fn telegrams_of_one_instant_are_not_heard()
 {}
 
 /// Only a pass opens or closes a burst at a tap: nothing is open at its start, what begins now opens
-/// none yet, and a telegram whose speaker stops now closes none yet.
+/// none yet, a telegram whose speaker stops now closes none yet, noise that lasts longer leaves its own
+/// open, and what begins now and is lost at a tap was not open there.
 pub fn only_a_pass_opens_a_burst()
     ensures started { (delay : ℕ) (tap now : ℕ) (trace : List Entry) → is_open (sensed delay tap now trace) now ≡ false }
     ensures begun { (delay : ℕ) (tap since now : ℕ) (e : Entry) (trace : List Entry) → delay ≡ 0 → entry_begin e ≡ now
         → is_open (sensed delay tap since (with_entry e trace)) now ≡ is_open (sensed delay tap since trace) now }
     ensures stopped { (delay : ℕ) (tap since now speaker : ℕ) (trace : List Entry) → delay ≡ 0
         → is_open (sensed delay tap since (map (cut_at now speaker) trace)) now ≡ is_open (sensed delay tap since trace) now }
+    ensures longer { (delay : ℕ) (tap since now end : ℕ) (trace : List Entry) → now < end
+        → is_open (sensed delay tap since (change_first (is_noise_at now) (noisy_until end) trace)) now ≡ is_open (sensed delay tap since trace) now }
+    ensures lost { (delay : ℕ) (tap since now at speaker : ℕ) (trace : List Entry)
+        → is_open (sensed delay tap since (change_first (begins_from now speaker) (unheard_at at) trace)) now ≡ is_open (sensed delay tap since trace) now }
 {}
 
 /// What has ended before everything recent began, and before the clock, matters no more: a tap's

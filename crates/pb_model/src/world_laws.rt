@@ -7,24 +7,24 @@ ghost use Rattle.pb_model.specs.Laws.{AllInOrder, AllFit, AreEvents, PassTells};
 
 /// The clock never falls, whatever the events.
 pub fn the_clock_never_falls()
-    ensures { (w : World) (events : List (Bool × Event)) → w.now ≤ (replay w events).now }
+    ensures { (w : World) (events : List Event) → w.now ≤ (replay w events).now }
 {}
 
 /// A refused event changes nothing.
 pub fn a_refused_event_changes_nothing()
-    ensures { (again : Bool) (w : World) (event : Event) (fault : Fault) → step again w event ≡ Err fault → replay w ((again, event) ∷ []) ≡ w }
+    ensures { (w : World) (event : Event) (fault : Fault) → step w event ≡ Err fault → replay w (event ∷ []) ≡ w }
 {}
 
 /// The unread marks of every tap stand in order of time, up to the clock.
 pub fn marks_stand_in_order_of_time()
-    ensures { (p : Params) (specs : List TapSpec) (w : World) (events : List (Bool × Event)) → p.ttd ≡ 0 → AllFit specs → AreEvents events → new_world p specs ≡ Ok w
+    ensures { (p : Params) (specs : List TapSpec) (w : World) (events : List Event) → p.ttd ≡ 0 → AllFit specs → AreEvents events → new_world p specs ≡ Ok w
         → AllInOrder (replay w events).now (replay w events).taps }
 {}
 
 /// A pass tells a running tap, behind its unread marks, of the bursts that begin and end in it:
 /// Begins and Ends alternate, from whether a burst is open to whether one is open afterwards.
 pub fn what_a_pass_tells_a_tap()
-    ensures { (p : Params) (specs : List TapSpec) (w : World) (events : List (Bool × Event)) (again : Bool) (d tap : ℕ) (next : World) (reply : Reply) (t : Tap)
-        → p.ttd ≡ 0 → AllFit specs → AreEvents events → new_world p specs ≡ Ok w → step again (replay w events) (Pass d) ≡ Ok (next, reply)
+    ensures { (p : Params) (specs : List TapSpec) (w : World) (events : List Event) (d tap : ℕ) (next : World) (reply : Reply) (t : Tap)
+        → p.ttd ≡ 0 → AllFit specs → AreEvents events → new_world p specs ≡ Ok w → step (replay w events) (Pass d) ≡ Ok (next, reply)
         → slice_get (replay w events).taps tap ≡ Some t → t.running ≡ true → PassTells (replay w events) next tap t }
 {}

@@ -2,7 +2,7 @@ pub mod Answering
 pub mod Closing
 pub mod Looking
 pub mod Receipts
-pub mod Choices
+pub mod MarkByMark
 pub mod Places
 pub mod Arriving
 pub mod Incomplete

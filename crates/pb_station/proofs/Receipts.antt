@@ -16,7 +16,7 @@ use Rattle.pb_cycles.specs.declared.outcomes.Outcome.{Outcome}
 use Rattle.pb_cycles.specs.Outcomes.{status_reply}
 use Rattle.pb_cycles.specs.declared.messages.Message.TheVariants as message
 use Rattle.pb_turn.specs.Arrivals.{Arrival, Token, Framed, Acknowledgement, NoTelegram, arrival_of}
-use Rattle.pb_turn.specs.Hearing.{not_answered, data_told, awaiting_data_hears, passive_hears, phase_timed_out, timed_out, after_timer, tries_limit, taking, is_taken_from, skips_limit, own_token, foreign_token, idle_hears, listening_hears, holder_hears, status_told, awaiting_status_hears, checking_hears, with_token, lost, phase_ended, heard, after_mark}
+use Rattle.pb_turn.specs.Hearing.{not_answered, data_told, awaiting_data_hears, passive_hears, phase_timed_out, timed_out, after_timer, tries_limit, taking, is_taken_from, skips_limit, own_token, foreign_token, idle_hears, listening_hears, holder_hears, status_told, awaiting_status_hears, with_token, lost, phase_ended, heard, after_mark}
 use Rattle.pb_turn.specs.Marks.{Mark, Begin, End, moment_of}
 use Rattle.pb_turn.specs.Phases.{Phase, Offline, PassiveIdle, Listening, Idle, Claim, Use, AwaitData, AwaitStatus, Pass, Checking, is_offline}
 use Rattle.pb_turn.specs.Stations.{Station, Reply, timer_of, speaks_at, next_station, previous_station}
@@ -51,17 +51,18 @@ by-timer p limit s h = by_moment (timer_of p s)
 
 -- ---- marks
 
-by-begin : (s : Station) (ph : Phase) (at seen : ℕ) (p : Params) (again : Bool) → has_received ph s.rotation.last → HasReceived (heard p again (record s { phase = ph }) (Begin at seen))
-by-begin s Offline at seen p again h = h
-by-begin s PassiveIdle at seen p again h = h
-by-begin s (Listening doubled) at seen p again h = h
-by-begin s (Idle refused) at seen p again h = h
-by-begin s (Claim sent ready) at seen p again h = tt
-by-begin s (Use asked ready) at seen p again h = tt
-by-begin s (AwaitData asked retry slot) at seen p again h = h
-by-begin s (AwaitStatus of slot) at seen p again h = h
-by-begin s (Pass tries ready) at seen p again h = tt
-by-begin s (Checking tries) at seen p again h = h
+by-begin : (s : Station) (ph : Phase) (at seen : ℕ) (p : Params) → has_received ph s.rotation.last → HasReceived (heard p (record s { phase = ph }) (Begin at seen))
+by-begin s Offline at seen p h = h
+by-begin s PassiveIdle at seen p h = h
+by-begin s (Listening doubled) at seen p h = h
+by-begin s (Idle refused) at seen p h = h
+by-begin s (Claim sent ready) at seen p h = tt
+by-begin s (Use asked ready) at seen p h = tt
+by-begin s (AwaitData asked retry slot) at seen p h = h
+by-begin s (AwaitStatus of slot) at seen p h = h
+by-begin s (Pass tries ready) at seen p h = tt
+by-begin s (Checking tries) at seen p h =
+    by_test (λ ph. has_received ph s.rotation.last) (nat_lt at s.own.begin) (Checking tries) (Idle None) (λ _. tt) (λ _. tt)
 
 by-own_token : (p : Params) (s : Station) (taken : Bool) (sa at : ℕ) → HasReceived (own_token p s taken sa at)
 by-own_token p s taken sa at = by_test HasReceived taken (taking p s at) _ (λ _. refl) (λ _. tt)
@@ -106,12 +107,6 @@ by-awaiting p s of at (Framed f) h =
 by-awaiting p s of at Acknowledgement h = h
 by-awaiting p s of at NoTelegram h = h
 
-by-checking : (p : Params) (again : Bool) (s : Station) (tries at : ℕ) (a : Arrival) → HasReceived (checking_hears p again s tries at a)
-by-checking p again s tries at (Token da sa) = by-idle p (lost s) None at (Token da sa) tt
-by-checking p again s tries at (Framed f) = tt
-by-checking p again s tries at Acknowledgement = tt
-by-checking p again s tries at NoTelegram = by_test HasReceived again _ (lost s) (λ _. tt) (λ _. tt)
-
 by-passive : (p : Params) (s : Station) (at : ℕ) (a : Arrival) → HasReceived s → HasReceived (passive_hears p s at a)
 by-passive p s at (Token da sa) h = h
 by-passive p s at (Framed f) h = h
@@ -124,34 +119,34 @@ by-holder s (Framed f) h = h
 by-holder s Acknowledgement h = h
 by-holder s NoTelegram h = h
 
-by-ended : (p : Params) (again : Bool) (s : Station) (ph : Phase) (at : ℕ) (a : Arrival) → has_received ph s.rotation.last → HasReceived (phase_ended p again (record s { phase = ph }) ph at a)
-by-ended p again s Offline at a h = h
-by-ended p again s PassiveIdle at a h = by-passive p (record s { phase = PassiveIdle }) at a tt
-by-ended p again s (Listening doubled) at a h = by-listening p (record s { phase = Listening doubled }) doubled at a tt
-by-ended p again s (Idle refused) at a h = by-idle p (record s { phase = Idle refused }) refused at a tt
-by-ended p again s (Claim sent ready) at a h = by-holder (record s { phase = Claim sent ready }) a tt
-by-ended p again s (Use asked ready) at a h = by-holder (record s { phase = Use asked ready }) a h
-by-ended p again s (AwaitData asked retry slot) at a h = by-awaiting_data p (record s { phase = AwaitData asked retry slot }) asked slot at a h
-by-ended p again s (AwaitStatus of slot) at a h = by-awaiting p (record s { phase = AwaitStatus of slot }) of at a h
-by-ended p again s (Pass tries ready) at a h = by-holder (record s { phase = Pass tries ready }) a tt
-by-ended p again s (Checking tries) at a h = by-checking p again (record s { phase = Checking tries }) tries at a
+by-ended : (p : Params) (s : Station) (ph : Phase) (at : ℕ) (a : Arrival) → has_received ph s.rotation.last → HasReceived (phase_ended p (record s { phase = ph }) ph at a)
+by-ended p s Offline at a h = h
+by-ended p s PassiveIdle at a h = by-passive p (record s { phase = PassiveIdle }) at a tt
+by-ended p s (Listening doubled) at a h = by-listening p (record s { phase = Listening doubled }) doubled at a tt
+by-ended p s (Idle refused) at a h = by-idle p (record s { phase = Idle refused }) refused at a tt
+by-ended p s (Claim sent ready) at a h = by-holder (record s { phase = Claim sent ready }) a tt
+by-ended p s (Use asked ready) at a h = by-holder (record s { phase = Use asked ready }) a h
+by-ended p s (AwaitData asked retry slot) at a h = by-awaiting_data p (record s { phase = AwaitData asked retry slot }) asked slot at a h
+by-ended p s (AwaitStatus of slot) at a h = by-awaiting p (record s { phase = AwaitStatus of slot }) of at a h
+by-ended p s (Pass tries ready) at a h = by-holder (record s { phase = Pass tries ready }) a tt
+by-ended p s (Checking tries) at a h = by-holder (record s { phase = Checking tries }) a tt
 
-by-heard : (p : Params) (again : Bool) (s : Station) (m : Mark) → HasReceived s → HasReceived (heard p again s m)
-by-heard p again s (Begin at seen) h = by-begin s s.phase at seen p again h
-by-heard p again s (End at seen chars) h =
-    by-ended p again (record s { busy = false; quiet = max s.quiet at; reply = None }) s.phase at (arrival_of chars) h
+by-heard : (p : Params) (s : Station) (m : Mark) → HasReceived s → HasReceived (heard p s m)
+by-heard p s (Begin at seen) h = by-begin s s.phase at seen p h
+by-heard p s (End at seen chars) h =
+    by-ended p (record s { busy = false; quiet = max s.quiet at; reply = None }) s.phase at (arrival_of chars) h
 
-by-mark : (p : Params) (again : Bool) (s : Station) (m : Mark) → HasReceived s → HasReceived (after_mark p again s m)
-by-mark p again s m h = by_test HasReceived (is_offline s.phase) s (heard p again s m) (λ _. h) (λ _. by-heard p again s m h)
+by-mark : (p : Params) (s : Station) (m : Mark) → HasReceived s → HasReceived (after_mark p s m)
+by-mark p s m h = by_test HasReceived (is_offline s.phase) s (heard p s m) (λ _. h) (λ _. by-heard p s m h)
 
-by-marks : (p : Params) (again : Bool) (s : Station) (marks : List Mark) → HasReceived s → HasReceived (after_marks p again s marks)
-by-marks p again s [] h = h
-by-marks p again s (m ∷ ms) h =
-    by-marks p again (after_mark p again (after_timer p (moment_of m) s) m) ms
-    (by-mark p again (after_timer p (moment_of m) s) m (by-timer p (moment_of m) s h))
+by-marks : (p : Params) (s : Station) (marks : List Mark) → HasReceived s → HasReceived (after_marks p s marks)
+by-marks p s [] h = h
+by-marks p s (m ∷ ms) h =
+    by-marks p (after_mark p (after_timer p (moment_of m) s) m) ms
+    (by-mark p (after_timer p (moment_of m) s) m (by-timer p (moment_of m) s h))
 
-pub received-settled : (p : Params) (again : Bool) (s : Station) (marks : List Mark) (now : ℕ) → HasReceived s → HasReceived (settled p again s marks now)
-received-settled p again s marks now h = by-timer p (now + 1) (after_marks p again s marks) (by-marks p again s marks h)
+pub received-settled : (p : Params) (s : Station) (marks : List Mark) (now : ℕ) → HasReceived s → HasReceived (settled p s marks now)
+received-settled p s marks now h = by-timer p (now + 1) (after_marks p s marks) (by-marks p s marks h)
 
 -- ---- speech
 
@@ -217,15 +212,15 @@ received-speech p s None now h = h
 received-speech p s (Some moment) now h =
     by_test (λ (x : Station × Option (List ℕ)). HasReceived x.0) (nat_le moment now) (phase_says p s s.phase now) (s, None) (λ _. by-says p s s.phase now h) (λ _. h)
 
-pub received-turn : (p : Params) (again : Bool) (s : Station) (marks : List Mark) (now : ℕ) → HasReceived s → HasReceived (turn_of p again s marks now).0
-received-turn p again s marks now h =
-    let x = settled p again s marks now in
-    received-speech p x (speaks_at x) now (received-settled p again s marks now h)
+pub received-turn : (p : Params) (s : Station) (marks : List Mark) (now : ℕ) → HasReceived s → HasReceived (turn_of p s marks now).0
+received-turn p s marks now h =
+    let x = settled p s marks now in
+    received-speech p x (speaks_at x) now (received-settled p s marks now h)
 
 -- the station at the clock, from the parts that are computed
-pub received-at_clock : (p : Params) (s first read timed : Station) (marks : List Mark) (now limit : ℕ) → HasReceived s → first ≡ s
-    → (again : Bool) × (read ≡ after_marks p again first marks) → limit ≡ now → timed ≡ after_timer p (limit + 1) read → HasReceived timed
-received-at_clock p s first read timed marks now limit h same (again, is) at later =
+pub received-at_clock : (p : Params) (s first read timed : Station) (marks : List Mark) (now limit : ℕ) → HasReceived s → first ≡ s → read ≡ after_marks p first marks
+    → limit ≡ now → timed ≡ after_timer p (limit + 1) read → HasReceived timed
+received-at_clock p s first read timed marks now limit h same is at later =
     subst HasReceived
-    (sym (later ∙ ap (λ n. after_timer p (n + 1) read) at ∙ ap (after_timer p (now + 1)) (is ∙ ap (λ x. after_marks p again x marks) same)))
-    (received-settled p again s marks now h)
+    (sym (later ∙ ap (λ n. after_timer p (n + 1) read) at ∙ ap (after_timer p (now + 1)) (is ∙ ap (λ x. after_marks p x marks) same)))
+    (received-settled p s marks now h)

@@ -1,12 +1,9 @@
 -- The core of a station as a turn says it.
-use Rattle.std.specs.Prelude.{◌≡◌, ℕ, Bool, Option, IsSome}
+use Rattle.std.specs.Prelude.{Option, IsSome}
 use Rattle.std.specs.Option.{option_map}
-use Rattle.pb_timers.specs.Timers.{Params}
 use Rattle.pb_rotation.specs.Rotation.{Receipt}
-use Rattle.pb_turn.specs.Arrivals.{Arrival}
 use Rattle.pb_turn.specs.Phases as turn
 use Rattle.pb_turn.specs.Stations as turn_station
-use Rattle.pb_turn.specs.Hearing.{ended, checking_hears, phase_ended}
 use Rattle.pb_tokenfsm.specs.Phases.{phase_of}
 use Rattle.pb_station.specs.declared.cores.Core.{Core}
 use Rattle.pb_station.specs.declared.cores.Kept.{Kept}
@@ -30,18 +27,6 @@ with_phase k phase = record {
 
 abbrev pub station_of : Core → turn_station.Station
 station_of c = with_phase c.kept (phase_of c.phase)
-
--- some choice makes the station that Checking becomes by an arrival
-abbrev pub ChecksArrival : Params → turn_station.Station → (tries at : ℕ) → Arrival → turn_station.Station → Type 0
-ChecksArrival p s tries at arrival after = (again : Bool) × (after ≡ checking_hears p again s tries at arrival)
-
--- some choice makes the station that a phase becomes by an arrival
-abbrev pub FollowsArrival : Params → turn_station.Station → turn.Phase → ℕ → Arrival → turn_station.Station → Type 0
-FollowsArrival p s phase at arrival after = (again : Bool) × (after ≡ phase_ended p again s phase at arrival)
-
--- some choice makes the station after an end
-abbrev pub FollowsEnd : Params → turn_station.Station → ℕ → Arrival → turn_station.Station → Type 0
-FollowsEnd p s at arrival after = (again : Bool) × (after ≡ ended p again s at arrival)
 
 -- a phase that uses the token has received it
 abbrev pub has_received : turn.Phase → Option Receipt → Type 0

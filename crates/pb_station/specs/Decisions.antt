@@ -1,20 +1,17 @@
 -- What a decision is.
-use Rattle.std.specs.Prelude.{◌≡◌, ℕ, Bool, List, Option, map}
+use Rattle.std.specs.Prelude.{◌≡◌, ℕ, List, Option, map}
 use Rattle.std.specs.Option.{option_map}
-use Rattle.pb_turn.specs.Stations as turn
 use Rattle.pb_turn.specs.Turns.{turn_of}
 use Rattle.pb_station.specs.MarkViews.{mark_of}
 use Rattle.pb_station.specs.Stations.{StationView}
 use Rattle.pb_station.specs.declared.decisions.Decision.TheInside.{Inside}
 use Rattle.pb_station.specs.declared.marks.Mark.{Mark}
 
--- some choice makes the station and the octets that follow a turn
-abbrev pub FollowsTurn : StationView → List Mark → ℕ → turn.Station → Option (List ℕ) → Type 0
-FollowsTurn before marks now after speak = (again : Bool) × (turn_of before.params again before.station (map mark_of marks) now ≡ (after, speak))
-
--- a turn of a station, which changes nothing else of it
-abbrev pub IsTurn : StationView → List Mark → ℕ → StationView → Option (List ℕ) → Type 0
-IsTurn before marks now after speak = (after ≡ record before { station = after.station }) × FollowsTurn before marks now after.station speak
+-- a station after its turn, which changes nothing else of it, and what it says
+abbrev pub turned : StationView → List Mark → ℕ → StationView × Option (List ℕ)
+turned before marks now =
+    let turn = turn_of before.params before.station (map mark_of marks) now in
+    (record before { station = turn.0 }, turn.1)
 
 pub record DecisionView : Type 0 where
   pub tap : ℕ
@@ -34,6 +31,6 @@ decision_view d = record {
   speak = option_map (λ octets. octets.items) d.speak;
 }
 
--- what each decision keeps
+-- each decision is a turn
 abbrev pub IsDecision : DecisionView → Type 0
-IsDecision d = IsTurn d.before d.marks d.now d.after d.speak
+IsDecision d = (d.after, d.speak) ≡ turned d.before d.marks d.now

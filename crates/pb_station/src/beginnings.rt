@@ -10,7 +10,8 @@ use pb_timers::Moment;
 use pb_tokenfsm::Phase;
 
 /// The phase after activity has begun at a moment, with the beginning of the own last telegram: a holder
-/// gives way, and the slot of one that has asked is over.
+/// gives way, the slot of one that has asked is over, and one that checks takes it for a sign that its token
+/// was taken.
 fn phase_begun(phase: Phase, own: Moment, at: Moment) -> Phase
     ensures { phase_of result ≡ phase_begun (phase_of phase) own at }
 {
@@ -22,6 +23,7 @@ fn phase_begun(phase: Phase, own: Moment, at: Moment) -> Phase
             Phase::AwaitStatus(holder.on_activity())
         }
         Phase::Pass(holder) => Phase::Idle(holder.on_foreign()),
+        Phase::Checking(checking) if at.get() >= own.get() => Phase::Idle(checking.on_activity()),
         other => other,
     }
 }

@@ -26,9 +26,6 @@ pub struct Glance {
 
 /// A turn of a station. Each value of this type is one: `after` is the station after its turn at `now`, with
 /// `marks` unread before, and `speak` the octets that it says.
-///
-/// One thing is left open: whether a station that waits for a sign that its token was taken passes it again
-/// after an end that brings no whole telegram.
 #[derive(Debug, Drop)]
 pub struct Decision {
     /// The tap of the station, counted from 0.

@@ -8,26 +8,26 @@ ghost use Rattle.pb_cycles.specs.Initiating.{outcome_of};
 ghost use Rattle.pb_cycles.specs.Messages.{message_of};
 ghost use Rattle.pb_turn.specs.Arrivals.{Framed};
 ghost use Rattle.pb_turn.specs.Phases as turn;
-ghost use Rattle.pb_turn.specs.Hearing.{doubled_by, listening_hears, is_taken_from, own_token, foreign_token, token_in_idle, idle_hears, passive_hears, holder_hears, no_reply, data_told, awaiting_data_hears, status_told, awaiting_status_hears, with_token, lost, tells_ready};
-ghost use Rattle.pb_tokenfsm.specs.Phases.{phase_of, is_doubled, refused_by, asked_station, was_asked, has_data_slot, tries_of};
+ghost use Rattle.pb_turn.specs.Hearing.{doubled_by, listening_hears, is_taken_from, own_token, foreign_token, token_in_idle, idle_hears, passive_hears, holder_hears, no_reply, data_told, awaiting_data_hears, status_told, awaiting_status_hears, with_token, lost, tells_ready, phase_ended, ended};
+ghost use Rattle.pb_tokenfsm.specs.Phases.{phase_of, is_doubled, refused_by, asked_station, was_asked, has_data_slot};
 ghost use Rattle.pb_station.specs.Arrivals.{brings, telegram_brings, is_framed, is_request, is_token};
 ghost use Rattle.pb_station.specs.Replies.{reply_of, fields_of, answer_to};
 ghost use Rattle.pb_station.specs.declared.replies.StationType.TheVariants.{Ready, NotReady};
 ghost use Rattle.pb_station.specs.Clocks.{last_turn};
-ghost use Rattle.pb_station.specs.Cores.{with_phase, station_of, ChecksArrival, FollowsArrival, FollowsEnd};
+ghost use Rattle.pb_station.specs.Cores.{with_phase, station_of};
 
 use crate::cores::{Core, Kept};
 use crate::cycles;
 use crate::lists::{entered, heard};
 use crate::moments::after;
 use crate::replies::{Head, Reply, StationType, answering, status_answer};
-use crate::timers::{given_up, slot_timer};
+use crate::timers::given_up;
 use pb_cycles::status_reply;
 use pb_ring::Las;
 use pb_rotation::Rotation;
 use pb_telegram::{Fc, Telegram, TokenTelegram};
 use pb_timers::{BusParams, Moment};
-use pb_tokenfsm::{AwaitData, AwaitStatus, Checking, Holding, Idle, Listening, Phase};
+use pb_tokenfsm::{AwaitData, AwaitStatus, Holding, Idle, Listening, Phase};
 
 /// How many tokens may skip a station in the ring before it listens anew.
 const SKIPS: u8 = 2;
@@ -253,7 +253,7 @@ fn listening_hears(
     }
 }
 
-/// A holder that hears a token takes note of it.
+/// One that holds the token, or checks what became of it, takes note of a token that it hears.
 fn holder_hears(core: Core, arrival: &Option<Telegram>) -> Core
     ensures { station_of result ≡ holder_hears (station_of core) (brings arrival.now) }
 {
@@ -476,35 +476,10 @@ fn awaiting_data_hears(
     }
 }
 
-/// A station that waits for a sign that the token was taken, after an arrival: a whole telegram is heard as in
-/// Idle.
-fn checking_hears(
-    checking: Checking,
-    kept: Kept,
-    params: &BusParams,
-    at: Moment,
-    arrival: &Option<Telegram>,
-) -> Core
-    requires { at ≤ last_turn }
-    ensures { ChecksArrival params.now (with_phase kept (phase_of (Phase.Checking checking))) (tries_of (Phase.Checking checking)) at (brings arrival.now) (station_of result) }
-{
-    let slot_end = slot_timer(&kept, params);
-    match arrival {
-        None => Core {
-            phase: checking.on_damaged(at, slot_end),
-            kept,
-        },
-        Some(_) => match checking.noted_whole().on_damaged(at, slot_end) {
-            Phase::Idle(idle) => idle_hears(idle, kept, params, at, arrival),
-            other => Core { phase: other, kept },
-        },
-    }
-}
-
 /// The station after an arrival.
 fn phase_ended(core: Core, params: &BusParams, at: Moment, arrival: &Option<Telegram>) -> Core
     requires { at ≤ last_turn }
-    ensures { FollowsArrival params.now (station_of core) (phase_of core.phase) at (brings arrival.now) (station_of result) }
+    ensures { station_of result ≡ phase_ended params.now (station_of core) (phase_of core.phase) at (brings arrival.now) }
 {
     let Core { phase, kept } = core;
     match phase {
@@ -512,26 +487,19 @@ fn phase_ended(core: Core, params: &BusParams, at: Moment, arrival: &Option<Tele
         Phase::Idle(idle) => idle_hears(idle, kept, params, at, arrival),
         Phase::AwaitData(holder) => awaiting_data_hears(holder, kept, params, at, arrival),
         Phase::AwaitStatus(holder) => awaiting_status_hears(holder, kept, params, at, arrival),
-        Phase::Checking(checking) => checking_hears(checking, kept, params, at, arrival),
         Phase::Offline(_) => Core { phase, kept },
         Phase::PassiveIdle(_) => Core {
             phase,
             kept: passive_hears(kept, params, at, arrival),
         },
-        holding => holder_hears(
-            Core {
-                phase: holding,
-                kept,
-            },
-            arrival,
-        ),
+        other => holder_hears(Core { phase: other, kept }, arrival),
     }
 }
 
 /// The station after activity has ended at a moment.
 pub(crate) fn ended(core: Core, params: &BusParams, at: Moment, arrival: &Option<Telegram>) -> Core
     requires { at ≤ last_turn }
-    ensures { FollowsEnd params.now (station_of core) at (brings arrival.now) (station_of result) }
+    ensures { station_of result ≡ ended params.now (station_of core) at (brings arrival.now) }
 {
     let Core { phase, kept } = core;
     let kept = Kept {

@@ -1,6 +1,6 @@
 //! A station that reads its marks.
 
-ghost use Rattle.std.specs.Prelude.{◌≡◌, ◌≤◌, Bool, map};
+ghost use Rattle.std.specs.Prelude.{◌≡◌, ◌≤◌, map};
 ghost use Rattle.pb_turn.specs.Hearing.{after_mark};
 ghost use Rattle.pb_turn.specs.Marks.{moment_of};
 ghost use Rattle.pb_turn.specs.Phases.{is_offline};
@@ -31,7 +31,7 @@ fn is_offline(core: &Core) -> bool
 /// The station after a mark; one that is offline notices nothing.
 fn after_mark(core: Core, params: &BusParams, mark: &Mark) -> Core
     requires { moment_of (mark_of mark.now) ≤ last_turn }
-    ensures { (again : Bool) × (station_of result ≡ after_mark params.now again (station_of core) (mark_of mark.now)) }
+    ensures { station_of result ≡ after_mark params.now (station_of core) (mark_of mark.now) }
 {
     if is_offline(&core) {
         return core;
@@ -46,7 +46,7 @@ fn after_mark(core: Core, params: &BusParams, mark: &Mark) -> Core
 pub(crate) fn after_marks(core: Core, params: &BusParams, marks: &[Mark], now: Moment) -> Core
     requires clock { now ≤ last_turn }
     requires over { AreOver now marks.now }
-    ensures { (again : Bool) × (station_of result ≡ after_marks params.now again (station_of core) (map mark_of marks.now)) }
+    ensures { station_of result ≡ after_marks params.now (station_of core) (map mark_of marks.now) }
 {
     let mut station = core;
     for mark in marks {

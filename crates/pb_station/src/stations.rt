@@ -127,7 +127,7 @@ impl Station {
     ghost use Rattle.pb_tokenfsm.specs.Phases.{phase_of};
     ghost use Rattle.std.specs.Option.{option_map};
     ghost use Rattle.pb_station.specs.Clocks.{last_turn};
-    ghost use Rattle.pb_station.specs.Decisions.{IsTurn};
+    ghost use Rattle.pb_station.specs.Decisions.{turned};
     ghost use Rattle.pb_station.specs.MarkViews.{mark_of, AreOver};
 
     /// A station that doesn't run, at a tap, counted from 0: a master or a passive station, with an address,
@@ -260,7 +260,7 @@ impl Station {
     pub fn turn(&self, marks: &[Mark], now: Moment) -> Turn
         requires clock { now ≤ last_turn }
         requires over { AreOver now marks.now }
-        ensures { IsTurn self.now marks.now now result.after (option_map (λ octets. octets.items) result.speak) }
+        ensures { (result.after, option_map (λ octets. octets.items) result.speak) ≡ turned self.now marks.now now }
     {
         let spoken = turn(&self.core, &self.params, marks, now);
         Turn {

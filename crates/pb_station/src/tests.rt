@@ -177,8 +177,9 @@ fn a_passive_station_waits(rt: HostRuntime) -> Result<(), Fail> {
     Ok(())
 }
 
-/// A lone station asks its GAP; a listener learns the ring, joins it, takes and passes the token, and hears
-/// damage; one that was skipped twice listens anew; and one that hears its namesake gives way.
+/// A lone station asks its GAP; a listener learns the ring, joins it, takes and passes the token, and passes
+/// it no more once it has heard anything since, damage too; one that was skipped twice listens anew; and one
+/// that hears its namesake gives way.
 #[test]
 fn stations_take_their_turns(rt: HostRuntime) -> Result<(), Fail> {
     let alloc = rt.alloc();

@@ -41,7 +41,7 @@ pub(crate) fn silence_timer(kept: &Kept, params: &BusParams) -> Moment
 }
 
 /// A slot after the own telegram.
-pub(crate) fn slot_timer(kept: &Kept, params: &BusParams) -> Moment
+fn slot_timer(kept: &Kept, params: &BusParams) -> Moment
     ensures { result ≡ kept.now.past.end + params.now.tsl }
 {
     after(kept.past.end.get(), u64::from(params.tsl()))

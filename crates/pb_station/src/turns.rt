@@ -1,6 +1,6 @@
 //! The turn of a station, and when it is due.
 
-ghost use Rattle.std.specs.Prelude.{◌≡◌, ◌≤◌, Bool, map};
+ghost use Rattle.std.specs.Prelude.{◌≡◌, ◌≤◌, map};
 ghost use Rattle.pb_turn.specs.Stations.{earlier, first_seen, due_of};
 ghost use Rattle.pb_turn.specs.Turns.{turn_of};
 ghost use Rattle.pb_station.specs.Clocks.{last_turn};
@@ -20,7 +20,7 @@ pub(crate) fn turn(core: &Core, params: &BusParams, marks: &[Mark], now: Moment)
     requires clock { now ≤ last_turn }
     requires over { AreOver now marks.now }
     requires received { HasReceived (station_of core.now) }
-    ensures turn { (again : Bool) × (spoken_of result ≡ turn_of params.now again (station_of core.now) (map mark_of marks.now) now) }
+    ensures turn { spoken_of result ≡ turn_of params.now (station_of core.now) (map mark_of marks.now) now }
     ensures received { HasReceived (station_of result.after) }
 {
     let read = after_marks(core.copy(), params, marks, now);

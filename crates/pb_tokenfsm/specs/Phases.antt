@@ -1,5 +1,5 @@
 -- Which phase of a turn a state is, and what follows it.
-use Rattle.std.specs.Prelude.{◌≡◌, ℕ, ◌+◌, ◌==◌, nat_le, min, Bool, false, not, ◌&&◌, if◌then◌else◌, Option, Some, None, List, codes}
+use Rattle.std.specs.Prelude.{ℕ, ◌+◌, ◌==◌, nat_le, min, Bool, false, if◌then◌else◌, Option, Some, List, codes}
 use Rattle.pb_turn.specs.Phases as turn
 use Rattle.pb_turn.specs.Hearing.{tries_limit, is_taken_from}
 use Rattle.pb_tokenfsm.specs.declared.phases.Phase.{Phase}
@@ -69,11 +69,6 @@ tries_of (phase.Pass h) = h.state.tries
 tries_of (phase.Checking s) = s.tries
 tries_of other = 0
 
--- whether a whole telegram was noted in the slot
-abbrev pub is_noted : Phase → Bool
-is_noted (phase.Checking s) = s.noted
-is_noted other = false
-
 abbrev pub name_of : Phase → List ℕ
 name_of (phase.Offline s) = codes "Offline"
 name_of (phase.PassiveIdle s) = codes "PassiveIdle"
@@ -105,7 +100,3 @@ token_sent tries ns ts ready = if ns == ts then turn.Use false ready else turn.C
 -- nobody took the token: after the last try it goes to another station
 abbrev pub not_taken : (tries ready : ℕ) → turn.Phase
 not_taken tries ready = if nat_le tries_limit tries then turn.Pass 0 ready else turn.Pass tries ready
-
--- the weak check of the token pass: a damaged end may lead to Idle, or to a further pass, and that only where no whole telegram was noted
-abbrev pub MayFollowDamage : Bool → (tries ready : ℕ) → Phase → Type 0
-MayFollowDamage noted tries ready phase = (again : Bool) × (phase_of phase ≡ (if again && not noted then turn.Pass tries ready else turn.Idle None))

@@ -5,10 +5,12 @@
 //! the states. No call takes memory.
 #![tactic(auto)]
 
+mod laws;
 mod phases;
 mod states;
 mod waiting;
 
+pub use laws::states_seen_alike_are_equal;
 pub use phases::Phase;
 pub use states::{AwaitData, AwaitStatus, Checking, Claim, Holding, Pass, Use};
 pub use waiting::{Idle, Listening, Offline, PassiveIdle};

@@ -1,10 +1,10 @@
 //! The states of a station that has the token, or has just passed it.
 
-ghost use Rattle.std.specs.Prelude.{◌≡◌, ℕ, Bool, true, false, ◌&&◌, nat_lt, max, Some, None};
+ghost use Rattle.std.specs.Prelude.{◌≡◌, ℕ, Bool, true, false, ◌&&◌, nat_lt, Some, None};
 ghost use Rattle.pb_telegram.specs.Grammar.{spelling};
 ghost use Rattle.pb_telegram.specs.Initiators.{IsInitiator};
 ghost use Rattle.pb_turn.specs.Phases as turn;
-ghost use Rattle.pb_tokenfsm.specs.Phases.{phase_of, claims_sent, has_asked, was_asked, retry_at, has_data_slot, asked_station, has_slot, tries_of, is_noted, claim_sent, token_sent, not_taken, MayFollowDamage};
+ghost use Rattle.pb_tokenfsm.specs.Phases.{phase_of, claims_sent, has_asked, was_asked, retry_at, has_data_slot, asked_station, has_slot, tries_of, claim_sent, token_sent, not_taken};
 
 use crate::phases::Phase;
 use crate::waiting::Idle;
@@ -20,8 +20,6 @@ const TRIES: u8 = 3;
 pub struct Checking {
     /// How often the token was sent to this successor, 1 to 3.
     tries: u8,
-    /// Whether a whole telegram came in the slot.
-    noted: bool,
 }
 
 /// A station that may initiate.
@@ -340,8 +338,7 @@ impl Holding<Pass> {
     /// The token is sent from `ts` to the next station `ns`. A token to the own address is a
     /// receipt, and the station speaks at `ready`.
     pub fn on_sent(self, ns: u8, ts: u8, ready: Moment) -> Phase
-        ensures phase { phase_of result ≡ token_sent (tries_of (Phase.Pass self)) ns ts ready }
-        ensures fresh { is_noted result ≡ false }
+        ensures { phase_of result ≡ token_sent (tries_of (Phase.Pass self)) ns ts ready }
     {
         let Holding {
             state: Pass { tries, ready: _ },
@@ -351,26 +348,15 @@ impl Holding<Pass> {
         }
         Phase::Checking(Checking {
             tries: if tries < TRIES { tries + 1 } else { TRIES },
-            noted: false,
         })
     }
-}
-
-/// The later of two moments.
-fn later(a: Moment, b: Moment) -> Moment
-    ensures { result ≡ max a b }
-{
-    if a.get() < b.get() { b } else { a }
 }
 
 impl Checking {
     pub(crate) fn copy(&self) -> Checking
         ensures { result ≡ self.now }
     {
-        Checking {
-            tries: self.tries,
-            noted: self.noted,
-        }
+        Checking { tries: self.tries }
     }
 
     /// How often the token was sent to this successor.
@@ -380,31 +366,13 @@ impl Checking {
         self.tries
     }
 
-    /// A whole telegram came in the slot.
-    pub fn noted_whole(self) -> Checking
-        ensures noted { is_noted (Phase.Checking result) ≡ true }
-        ensures tries { tries_of (Phase.Checking result) ≡ tries_of (Phase.Checking self) }
+    /// Activity has begun, not before the own token, the caller's part. It is a sign that the token was
+    /// taken, a telegram or not: the station waits for the token again, and has refused nobody's.
+    pub fn on_activity(self) -> Idle
+        ensures { phase_of (Phase.Idle result) ≡ turn.Idle None }
     {
-        let Checking { tries, noted: _ } = self;
-        Checking { tries, noted: true }
-    }
-
-    /// An end came in the slot at `at`, whose slot ends at `slot_end`. The station may pass the
-    /// token again only where no whole telegram was noted.
-    pub fn on_damaged(self, at: Moment, slot_end: Moment) -> Phase
-        ensures phase { MayFollowDamage (is_noted (Phase.Checking self)) (tries_of (Phase.Checking self)) (max at slot_end) result }
-        ensures fresh { is_noted result ≡ false }
-    {
-        let Checking { tries, noted } = self;
-        if noted {
-            return Phase::Idle(Idle::new());
-        }
-        Phase::Pass(Holding {
-            state: Pass {
-                tries,
-                ready: later(at, slot_end),
-            },
-        })
+        let Checking { tries: _ } = self;
+        Idle::new()
     }
 
     /// The slot ended in silence: the token is passed again at `ready`. After the third time the
@@ -412,7 +380,7 @@ impl Checking {
     pub fn on_silence(self, ready: Moment) -> Holding<Pass>
         ensures { phase_of (Phase.Pass result) ≡ not_taken (tries_of (Phase.Checking self)) ready }
     {
-        let Checking { tries, noted: _ } = self;
+        let Checking { tries } = self;
         let tries = if tries < TRIES { tries } else { 0 };
         Holding {
             state: Pass { tries, ready },

@@ -187,10 +187,9 @@ fn checking() -> Result<Checking, Fail> {
     }
 }
 
-/// After its token a station that hears nothing passes it again, three times to one successor; and one that
-/// has heard a whole telegram does not.
+/// After its token a station that hears nothing passes it again, three times to one successor.
 #[test]
-fn a_token_is_passed_again_only_without_a_sign(rt: HostRuntime) -> Result<(), Fail> {
+fn a_token_is_passed_again_three_times(rt: HostRuntime) -> Result<(), Fail> {
     let mut silent = checking()?;
     for tries in 1..4 {
         assert_eq!(rt; silent.tries(), tries);
@@ -202,9 +201,25 @@ fn a_token_is_passed_again_only_without_a_sign(rt: HostRuntime) -> Result<(), Fa
         silent = checking;
     }
     assert_eq!(rt; silent.tries(), 1);
-    let phase = checking()?.on_damaged(at(1043)?, at(1073)?);
-    assert_eq!(rt; phase.name(), "Pass");
-    let phase = checking()?.noted_whole().on_damaged(at(1043)?, at(1073)?);
+    Ok(())
+}
+
+/// One that hears anything after its token waits for the token again, and takes the first from the previous
+/// station alone.
+#[test]
+fn activity_ends_the_check(rt: HostRuntime) -> Result<(), Fail> {
+    let from_three = TokenTelegram { da: 1, sa: 3 };
+    let from_two = TokenTelegram { da: 1, sa: 2 };
+    let phase = Phase::Idle(checking()?.on_activity());
+    assert_eq!(rt; phase.name(), "Idle");
+    assert!(rt; !phase.may_initiate());
+    let phase = checking()?
+        .on_activity()
+        .hear_token(&from_three, 1, 3, at(1100)?);
+    assert_eq!(rt; phase.name(), "Use");
+    let phase = checking()?
+        .on_activity()
+        .hear_token(&from_two, 1, 3, at(1100)?);
     assert_eq!(rt; phase.name(), "Idle");
     Ok(())
 }

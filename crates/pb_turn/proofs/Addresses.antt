@@ -14,7 +14,7 @@ use Rattle.pb_cycles.specs.declared.outcomes.Outcome.{Outcome}
 use Rattle.pb_cycles.specs.declared.messages.Message.TheVariants as message
 use Rattle.pb_ring.specs.Las.{place_of, skips_of}
 use Rattle.pb_turn.specs.Arrivals.{Arrival, Token, Framed, Acknowledgement, NoTelegram, arrival_of}
-use Rattle.pb_turn.specs.Hearing.{not_answered, passive_hears, data_told, awaiting_data_hears, phase_timed_out, timed_out, after_timer, tries_limit, listening_hears, is_taken_from, skips_limit, own_token, foreign_token, idle_hears, holder_hears, status_told, awaiting_status_hears, checking_hears, with_token, lost, phase_ended, heard, after_mark}
+use Rattle.pb_turn.specs.Hearing.{not_answered, passive_hears, data_told, awaiting_data_hears, phase_timed_out, timed_out, after_timer, tries_limit, listening_hears, is_taken_from, skips_limit, own_token, foreign_token, idle_hears, holder_hears, status_told, awaiting_status_hears, with_token, lost, phase_ended, heard, after_mark}
 use Rattle.pb_turn.specs.Marks.{Mark, Begin, End, moment_of}
 use Rattle.pb_turn.specs.Phases.{Phase, Offline, PassiveIdle, Listening, Idle, Claim, Use, AwaitData, AwaitStatus, Pass, Checking, is_offline}
 use Rattle.pb_turn.specs.Stations.{Station, Reply, timer_of, speaks_at, next_station, previous_station}
@@ -107,37 +107,30 @@ passive p s at (Framed f) = refl
 passive p s at Acknowledgement = refl
 passive p s at NoTelegram = refl
 
-checking : (p : Params) (again : Bool) (s : Station) (tries at : ℕ) (arrival : Arrival) → Has s.address (checking_hears p again s tries at arrival)
-checking p again s tries at (Token da sa) = idle p (lost s) None at (Token da sa)
-checking p again s tries at (Framed f) = idle p (lost s) None at (Framed f)
-checking p again s tries at Acknowledgement = refl
-checking p true s tries at NoTelegram = refl
-checking p false s tries at NoTelegram = refl
+ended-in : (p : Params) (s : Station) (ph : Phase) (at : ℕ) (arrival : Arrival) → Has s.address (phase_ended p s ph at arrival)
+ended-in p s Offline at arrival = refl
+ended-in p s PassiveIdle at arrival = passive p s at arrival
+ended-in p s (Listening doubled) at arrival = listening p s doubled at arrival
+ended-in p s (Idle refused) at arrival = idle p s refused at arrival
+ended-in p s (Claim sent ready) at arrival = holder s arrival
+ended-in p s (Use asked ready) at arrival = holder s arrival
+ended-in p s (AwaitData asked retry slot) at arrival = awaiting-data p s asked slot at arrival
+ended-in p s (AwaitStatus of slot) at arrival = awaiting p s of at arrival
+ended-in p s (Pass tries ready) at arrival = holder s arrival
+ended-in p s (Checking tries) at arrival = holder s arrival
 
-ended-in : (p : Params) (again : Bool) (s : Station) (ph : Phase) (at : ℕ) (arrival : Arrival) → Has s.address (phase_ended p again s ph at arrival)
-ended-in p again s Offline at arrival = refl
-ended-in p again s PassiveIdle at arrival = passive p s at arrival
-ended-in p again s (Listening doubled) at arrival = listening p s doubled at arrival
-ended-in p again s (Idle refused) at arrival = idle p s refused at arrival
-ended-in p again s (Claim sent ready) at arrival = holder s arrival
-ended-in p again s (Use asked ready) at arrival = holder s arrival
-ended-in p again s (AwaitData asked retry slot) at arrival = awaiting-data p s asked slot at arrival
-ended-in p again s (AwaitStatus of slot) at arrival = awaiting p s of at arrival
-ended-in p again s (Pass tries ready) at arrival = holder s arrival
-ended-in p again s (Checking tries) at arrival = checking p again s tries at arrival
+hearing : (p : Params) (s : Station) (m : Mark) → Has s.address (heard p s m)
+hearing p s (Begin at seen) = refl
+hearing p s (End at seen chars) = ended-in p _ s.phase at (arrival_of chars)
 
-hearing : (p : Params) (again : Bool) (s : Station) (m : Mark) → Has s.address (heard p again s m)
-hearing p again s (Begin at seen) = refl
-hearing p again s (End at seen chars) = ended-in p again _ s.phase at (arrival_of chars)
+mark : (p : Params) (s : Station) (m : Mark) → Has s.address (after_mark p s m)
+mark p s m = by_test (Has s.address) (is_offline s.phase) s _ (λ _. refl) (λ _. hearing p s m)
 
-mark : (p : Params) (again : Bool) (s : Station) (m : Mark) → Has s.address (after_mark p again s m)
-mark p again s m = by_test (Has s.address) (is_offline s.phase) s _ (λ _. refl) (λ _. hearing p again s m)
-
-marks : (p : Params) (again : Bool) (s : Station) (ms : List Mark) → Has s.address (after_marks p again s ms)
-marks p again s [] = refl
-marks p again s (m ∷ ms) =
+marks : (p : Params) (s : Station) (ms : List Mark) → Has s.address (after_marks p s ms)
+marks p s [] = refl
+marks p s (m ∷ ms) =
     let timed_first = after_timer p (moment_of m) s in
-    marks p again (after_mark p again timed_first m) ms ∙ mark p again timed_first m ∙ timer p (moment_of m) s
+    marks p (after_mark p timed_first m) ms ∙ mark p timed_first m ∙ timer p (moment_of m) s
 
 -- ---- speech
 
@@ -204,7 +197,7 @@ speaks : (p : Params) (s : Station) (o : Option ℕ) (now : ℕ) → Says s.addr
 speaks p s None now = refl
 speaks p s (Some moment) now = by_test (Says s.address) (nat_le moment now) _ _ (λ _. says p s s.phase now) (λ _. refl)
 
-pub turn-address : (p : Params) (again : Bool) (s : Station) (ms : List Mark) (now : ℕ) → (turn_of p again s ms now).0.address ≡ s.address
-turn-address p again s ms now =
-    let at_clock = settled p again s ms now in
-    speaks p at_clock (speaks_at at_clock) now ∙ timer p (now + 1) (after_marks p again s ms) ∙ marks p again s ms
+pub turn-address : (p : Params) (s : Station) (ms : List Mark) (now : ℕ) → (turn_of p s ms now).0.address ≡ s.address
+turn-address p s ms now =
+    let at_clock = settled p s ms now in
+    speaks p at_clock (speaks_at at_clock) now ∙ timer p (now + 1) (after_marks p s ms) ∙ marks p s ms

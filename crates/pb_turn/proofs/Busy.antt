@@ -14,7 +14,7 @@ use Rattle.pb_cycles.specs.declared.messages.Message.{Message}
 use Rattle.pb_cycles.specs.declared.outcomes.Outcome.{Outcome}
 use Rattle.pb_cycles.specs.declared.messages.Message.TheVariants as message
 use Rattle.pb_turn.specs.Arrivals.{Arrival, Token, Framed, Acknowledgement, NoTelegram, arrival_of}
-use Rattle.pb_turn.specs.Hearing.{not_answered, passive_hears, data_told, awaiting_data_hears, timed_out, after_timer, phase_timed_out, phase_begun, listening_hears, taking, is_taken_from, skips_limit, token_in_idle, idle_hears, holder_hears, status_told, awaiting_status_hears, checking_hears, with_token, lost, phase_ended, heard, after_mark}
+use Rattle.pb_turn.specs.Hearing.{not_answered, passive_hears, data_told, awaiting_data_hears, timed_out, after_timer, phase_timed_out, phase_begun, listening_hears, taking, is_taken_from, skips_limit, token_in_idle, idle_hears, holder_hears, status_told, awaiting_status_hears, with_token, lost, phase_ended, heard, after_mark}
 use Rattle.pb_turn.specs.Laws.{IsSilentWhileBusy}
 use Rattle.pb_turn.specs.Marks.{Mark, Begin, End, moment_of}
 use Rattle.pb_turn.specs.Phases.{Phase, Offline, PassiveIdle, Listening, Idle, Claim, Use, AwaitData, AwaitStatus, Pass, Checking, is_offline}
@@ -86,23 +86,17 @@ busy-passive p s at (Framed f) = refl
 busy-passive p s at Acknowledgement = refl
 busy-passive p s at NoTelegram = refl
 
-busy-checking : (p : Params) (again : Bool) (s : Station) (tries at : ℕ) (a : Arrival) → Busy s.busy (checking_hears p again s tries at a)
-busy-checking p again s tries at (Token da sa) = busy-idle_hears p (lost s) None at (Token da sa)
-busy-checking p again s tries at (Framed f) = refl
-busy-checking p again s tries at Acknowledgement = refl
-busy-checking p again s tries at NoTelegram = by_test (Busy s.busy) again _ (lost s) (λ _. refl) (λ _. refl)
-
-busy-ended : (p : Params) (again : Bool) (s : Station) (ph : Phase) (at : ℕ) (a : Arrival) → Busy s.busy (phase_ended p again s ph at a)
-busy-ended p again s Offline at a = refl
-busy-ended p again s PassiveIdle at a = busy-passive p s at a
-busy-ended p again s (Listening doubled) at a = busy-listening_hears p s doubled at a
-busy-ended p again s (Idle refused) at a = busy-idle_hears p s refused at a
-busy-ended p again s (Claim sent ready) at a = busy-holder_hears s a
-busy-ended p again s (Use asked ready) at a = busy-holder_hears s a
-busy-ended p again s (AwaitData asked retry slot) at a = busy-awaiting_data p s asked slot at a
-busy-ended p again s (AwaitStatus of slot) at a = busy-awaiting p s of at a
-busy-ended p again s (Pass tries ready) at a = busy-holder_hears s a
-busy-ended p again s (Checking tries) at a = busy-checking p again s tries at a
+busy-ended : (p : Params) (s : Station) (ph : Phase) (at : ℕ) (a : Arrival) → Busy s.busy (phase_ended p s ph at a)
+busy-ended p s Offline at a = refl
+busy-ended p s PassiveIdle at a = busy-passive p s at a
+busy-ended p s (Listening doubled) at a = busy-listening_hears p s doubled at a
+busy-ended p s (Idle refused) at a = busy-idle_hears p s refused at a
+busy-ended p s (Claim sent ready) at a = busy-holder_hears s a
+busy-ended p s (Use asked ready) at a = busy-holder_hears s a
+busy-ended p s (AwaitData asked retry slot) at a = busy-awaiting_data p s asked slot at a
+busy-ended p s (AwaitStatus of slot) at a = busy-awaiting p s of at a
+busy-ended p s (Pass tries ready) at a = busy-holder_hears s a
+busy-ended p s (Checking tries) at a = busy-holder_hears s a
 
 -- ---- marks and timers
 
@@ -116,16 +110,16 @@ silent-begun (Use asked ready) own at = refl
 silent-begun (AwaitData asked retry slot) own at = refl
 silent-begun (AwaitStatus of slot) own at = refl
 silent-begun (Pass tries ready) own at = refl
-silent-begun (Checking tries) own at = refl
+silent-begun (Checking tries) own at = by_test (λ ph. phase_speaks None ph ≡ None) (nat_lt at own) (Checking tries) (Idle None) (λ _. refl) (λ _. refl)
 
-silent-heard : (p : Params) (again : Bool) (s : Station) (m : Mark) → IsSilentWhileBusy (heard p again s m)
-silent-heard p again s (Begin at seen) busy = silent-begun s.phase s.own.begin at
-silent-heard p again s (End at seen chars) busy =
-    absurd (let wrong : false ≡ true = sym (busy-ended p again (at_end s at) s.phase at (arrival_of chars)) ∙ busy in cc)
+silent-heard : (p : Params) (s : Station) (m : Mark) → IsSilentWhileBusy (heard p s m)
+silent-heard p s (Begin at seen) busy = silent-begun s.phase s.own.begin at
+silent-heard p s (End at seen chars) busy =
+    absurd (let wrong : false ≡ true = sym (busy-ended p (at_end s at) s.phase at (arrival_of chars)) ∙ busy in cc)
 
-silent-after_mark : (p : Params) (again : Bool) (s : Station) (m : Mark) → IsSilentWhileBusy s → IsSilentWhileBusy (after_mark p again s m)
-silent-after_mark p again s m silent =
-    by_test IsSilentWhileBusy (is_offline s.phase) s (heard p again s m) (λ _. silent) (λ _. silent-heard p again s m)
+silent-after_mark : (p : Params) (s : Station) (m : Mark) → IsSilentWhileBusy s → IsSilentWhileBusy (after_mark p s m)
+silent-after_mark p s m silent =
+    by_test IsSilentWhileBusy (is_offline s.phase) s (heard p s m) (λ _. silent) (λ _. silent-heard p s m)
 
 -- no timer ends while the station is busy
 timed_out-busy : (p : Params) (limit : ℕ) (s : Station) → s.busy ≡ true → after_timer p limit s ≡ s
@@ -155,14 +149,14 @@ silent-after_timer p limit s silent busy =
     let before : s.busy ≡ true = sym (busy-after_timer p limit s) ∙ busy in
     ap speaks_at (timed_out-busy p limit s before) ∙ silent before
 
-silent-after_marks : (p : Params) (again : Bool) (s : Station) (marks : List Mark) → IsSilentWhileBusy s → IsSilentWhileBusy (after_marks p again s marks)
-silent-after_marks p again s [] silent = silent
-silent-after_marks p again s (m ∷ marks) silent =
+silent-after_marks : (p : Params) (s : Station) (marks : List Mark) → IsSilentWhileBusy s → IsSilentWhileBusy (after_marks p s marks)
+silent-after_marks p s [] silent = silent
+silent-after_marks p s (m ∷ marks) silent =
     let x = after_timer p (moment_of m) s in
-    silent-after_marks p again (after_mark p again x m) marks (silent-after_mark p again x m (silent-after_timer p (moment_of m) s silent))
+    silent-after_marks p (after_mark p x m) marks (silent-after_mark p x m (silent-after_timer p (moment_of m) s silent))
 
-silent-settled : (p : Params) (again : Bool) (s : Station) (marks : List Mark) (now : ℕ) → IsSilentWhileBusy s → IsSilentWhileBusy (settled p again s marks now)
-silent-settled p again s marks now silent = silent-after_timer p (now + 1) (after_marks p again s marks) (silent-after_marks p again s marks silent)
+silent-settled : (p : Params) (s : Station) (marks : List Mark) (now : ℕ) → IsSilentWhileBusy s → IsSilentWhileBusy (settled p s marks now)
+silent-settled p s marks now silent = silent-after_timer p (now + 1) (after_marks p s marks) (silent-after_marks p s marks silent)
 
 -- ---- speech
 
@@ -223,16 +217,16 @@ busy-speech p s (Some moment) now =
     by_test (λ (turn : Station × Option (List ℕ)). Busy s.busy turn.0) (nat_le moment now) (phase_says p s s.phase now) (s, None)
     (λ _. busy-phase_says p s s.phase now) (λ _. refl)
 
-pub silent-busy : (p : Params) (again : Bool) (s : Station) (marks : List Mark) (now : ℕ) → IsSilentWhileBusy s
-    → (settled p again s marks now).busy ≡ true → turn_of p again s marks now ≡ (settled p again s marks now, None)
-silent-busy p again s marks now silent busy =
-    let x = settled p again s marks now in ap (λ (o : Option ℕ). speech p x o now) (silent-settled p again s marks now silent busy)
+pub silent-busy : (p : Params) (s : Station) (marks : List Mark) (now : ℕ) → IsSilentWhileBusy s
+    → (settled p s marks now).busy ≡ true → turn_of p s marks now ≡ (settled p s marks now, None)
+silent-busy p s marks now silent busy =
+    let x = settled p s marks now in ap (λ (o : Option ℕ). speech p x o now) (silent-settled p s marks now silent busy)
 
-pub silent-turn_of : (p : Params) (again : Bool) (s : Station) (marks : List Mark) (now : ℕ) → IsSilentWhileBusy s → IsSilentWhileBusy (turn_of p again s marks now).0
-silent-turn_of p again s marks now silent busy =
-    let x = settled p again s marks now in
+pub silent-turn_of : (p : Params) (s : Station) (marks : List Mark) (now : ℕ) → IsSilentWhileBusy s → IsSilentWhileBusy (turn_of p s marks now).0
+silent-turn_of p s marks now silent busy =
+    let x = settled p s marks now in
     let before : x.busy ≡ true = sym (busy-speech p x (speaks_at x) now) ∙ busy in
-    ap (λ (turn : Station × Option (List ℕ)). speaks_at turn.0) (silent-busy p again s marks now silent before) ∙ silent-settled p again s marks now silent before
+    ap (λ (turn : Station × Option (List ℕ)). speaks_at turn.0) (silent-busy p s marks now silent before) ∙ silent-settled p s marks now silent before
 
 pub silent-started : (p : Params) (s : Station) (master : Bool) (now : ℕ) → IsSilentWhileBusy (started p s master now)
 silent-started p s master now busy = absurd (let wrong : false ≡ true = busy in cc)

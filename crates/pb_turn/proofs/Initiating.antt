@@ -16,7 +16,7 @@ use Rattle.pb_cycles.specs.declared.outcomes.Outcome.{Outcome}
 use Rattle.pb_cycles.specs.Outcomes.{status_reply}
 use Rattle.pb_cycles.specs.declared.messages.Message.TheVariants as message
 use Rattle.pb_turn.specs.Arrivals.{Arrival, Token, Framed, Acknowledgement, NoTelegram, arrival_of}
-use Rattle.pb_turn.specs.Hearing.{not_answered, passive_hears, data_told, awaiting_data_hears, phase_timed_out, timed_out, after_timer, tries_limit, asks_status, status_answer, listening_answer, listening_hears, taking, is_taken_from, skips_limit, token_in_idle, idle_hears, holder_hears, status_told, awaiting_status_hears, checking_hears, with_token, lost, phase_ended, heard, after_mark, not_ready, ready_for_ring}
+use Rattle.pb_turn.specs.Hearing.{not_answered, passive_hears, data_told, awaiting_data_hears, phase_timed_out, timed_out, after_timer, tries_limit, asks_status, status_answer, listening_answer, listening_hears, taking, is_taken_from, skips_limit, token_in_idle, idle_hears, holder_hears, status_told, awaiting_status_hears, with_token, lost, phase_ended, heard, after_mark, not_ready, ready_for_ring}
 use Rattle.pb_turn.specs.Laws.{IsRequest, IsOpenRequest, AreCycles, are_initiator, IsReply}
 use Rattle.pb_turn.specs.Marks.{Mark, Begin, End, moment_of}
 use Rattle.pb_turn.specs.Phases.{Phase, Offline, PassiveIdle, Listening, Idle, Claim, Use, AwaitData, AwaitStatus, Pass, Checking, may_initiate, is_offline}
@@ -124,39 +124,33 @@ reply-passive p s at (Framed f) has = sayable-passive p s at f has.1
 reply-passive p s at Acknowledgement has = has
 reply-passive p s at NoTelegram has = has
 
-reply-checking : (p : Params) (again : Bool) (s : Station) (tries at : ℕ) (a : Arrival) → Sayable s → Sayable (checking_hears p again s tries at a)
-reply-checking p again s tries at (Token da sa) has = reply-idle_hears p (lost s) None at (Token da sa) has
-reply-checking p again s tries at (Framed f) has = reply-idle_hears p (lost s) None at (Framed f) has
-reply-checking p again s tries at Acknowledgement has = has
-reply-checking p again s tries at NoTelegram has = by_test Sayable again _ (lost s) (λ _. has) (λ _. has)
+reply-ended : (p : Params) (s : Station) (ph : Phase) (at : ℕ) (a : Arrival) → Sayable s → Sayable (phase_ended p s ph at a)
+reply-ended p s Offline at a has = has
+reply-ended p s PassiveIdle at a has = reply-passive p s at a has
+reply-ended p s (Listening doubled) at a has = reply-listening_hears p s doubled at a has
+reply-ended p s (Idle refused) at a has = reply-idle_hears p s refused at a has
+reply-ended p s (Claim sent ready) at a has = reply-holder_hears s a has
+reply-ended p s (Use asked ready) at a has = reply-holder_hears s a has
+reply-ended p s (AwaitData asked retry slot) at a has = reply-awaiting_data p s asked slot at a has
+reply-ended p s (AwaitStatus of slot) at a has = reply-awaiting p s of at a has
+reply-ended p s (Pass tries ready) at a has = reply-holder_hears s a has
+reply-ended p s (Checking tries) at a has = reply-holder_hears s a has
 
-reply-ended : (p : Params) (again : Bool) (s : Station) (ph : Phase) (at : ℕ) (a : Arrival) → Sayable s → Sayable (phase_ended p again s ph at a)
-reply-ended p again s Offline at a has = has
-reply-ended p again s PassiveIdle at a has = reply-passive p s at a has
-reply-ended p again s (Listening doubled) at a has = reply-listening_hears p s doubled at a has
-reply-ended p again s (Idle refused) at a has = reply-idle_hears p s refused at a has
-reply-ended p again s (Claim sent ready) at a has = reply-holder_hears s a has
-reply-ended p again s (Use asked ready) at a has = reply-holder_hears s a has
-reply-ended p again s (AwaitData asked retry slot) at a has = reply-awaiting_data p s asked slot at a has
-reply-ended p again s (AwaitStatus of slot) at a has = reply-awaiting p s of at a has
-reply-ended p again s (Pass tries ready) at a has = reply-holder_hears s a has
-reply-ended p again s (Checking tries) at a has = reply-checking p again s tries at a has
+reply-heard : (p : Params) (s : Station) (m : Mark) → Sayable s → Sayable (heard p s m)
+reply-heard p s (Begin at seen) has = (tt, has.1)
+reply-heard p s (End at seen chars) has = reply-ended p (at_end s at) s.phase at (arrival_of chars) (tt, has.1)
 
-reply-heard : (p : Params) (again : Bool) (s : Station) (m : Mark) → Sayable s → Sayable (heard p again s m)
-reply-heard p again s (Begin at seen) has = (tt, has.1)
-reply-heard p again s (End at seen chars) has = reply-ended p again (at_end s at) s.phase at (arrival_of chars) (tt, has.1)
+pub reply-after_mark : (p : Params) (s : Station) (m : Mark) → Sayable s → Sayable (after_mark p s m)
+reply-after_mark p s m has = by_test Sayable (is_offline s.phase) s (heard p s m) (λ _. has) (λ _. reply-heard p s m has)
 
-pub reply-after_mark : (p : Params) (again : Bool) (s : Station) (m : Mark) → Sayable s → Sayable (after_mark p again s m)
-reply-after_mark p again s m has = by_test Sayable (is_offline s.phase) s (heard p again s m) (λ _. has) (λ _. reply-heard p again s m has)
-
-pub reply-after_marks : (p : Params) (again : Bool) (s : Station) (marks : List Mark) → Sayable s → Sayable (after_marks p again s marks)
-reply-after_marks p again s [] has = has
-reply-after_marks p again s (m ∷ marks) has =
+pub reply-after_marks : (p : Params) (s : Station) (marks : List Mark) → Sayable s → Sayable (after_marks p s marks)
+reply-after_marks p s [] has = has
+reply-after_marks p s (m ∷ marks) has =
     let x = after_timer p (moment_of m) s in
-    reply-after_marks p again (after_mark p again x m) marks (reply-after_mark p again x m (reply-after_timer p (moment_of m) s has))
+    reply-after_marks p (after_mark p x m) marks (reply-after_mark p x m (reply-after_timer p (moment_of m) s has))
 
-pub reply-settled : (p : Params) (again : Bool) (s : Station) (marks : List Mark) (now : ℕ) → Sayable s → Sayable (settled p again s marks now)
-reply-settled p again s marks now has = reply-after_timer p (now + 1) (after_marks p again s marks) (reply-after_marks p again s marks has)
+pub reply-settled : (p : Params) (s : Station) (marks : List Mark) (now : ℕ) → Sayable s → Sayable (settled p s marks now)
+reply-settled p s marks now has = reply-after_timer p (now + 1) (after_marks p s marks) (reply-after_marks p s marks has)
 
 -- ---- speech
 
@@ -252,19 +246,19 @@ rightly-speech p s None now has = record { fits = tt; holder = tt; reply = has }
 rightly-speech p s (Some moment) now has =
     by_test (SaysRightly s) (nat_le moment now) (phase_says p s s.phase now) (s, None) (λ _. rightly-phase_says p s s.phase now has) (λ _. record { fits = tt; holder = tt; reply = has })
 
-pub holder-turn_of : (p : Params) (again : Bool) (s : Station) (marks : List Mark) (now : ℕ) → Sayable s
-    → IfSome (turn_of p again s marks now).1 (λ octets. are_initiator octets ≡ true → may_initiate (settled p again s marks now).phase ≡ true)
-holder-turn_of p again s marks now has =
-    let x = settled p again s marks now in (rightly-speech p x (speaks_at x) now (reply-settled p again s marks now has)).holder
+pub holder-turn_of : (p : Params) (s : Station) (marks : List Mark) (now : ℕ) → Sayable s
+    → IfSome (turn_of p s marks now).1 (λ octets. are_initiator octets ≡ true → may_initiate (settled p s marks now).phase ≡ true)
+holder-turn_of p s marks now has =
+    let x = settled p s marks now in (rightly-speech p x (speaks_at x) now (reply-settled p s marks now has)).holder
 
 -- what is said has octets, and no more than a telegram may have
-pub fits-turn_of : (p : Params) (again : Bool) (s : Station) (marks : List Mark) (now : ℕ) → Sayable s
-    → IfSome (turn_of p again s marks now).1 (λ octets. (0 < length octets) × (length octets ≤ 255))
-fits-turn_of p again s marks now has =
-    let x = settled p again s marks now in
-    (rightly-speech p x (speaks_at x) now (reply-settled p again s marks now has)).fits
+pub fits-turn_of : (p : Params) (s : Station) (marks : List Mark) (now : ℕ) → Sayable s
+    → IfSome (turn_of p s marks now).1 (λ octets. (0 < length octets) × (length octets ≤ 255))
+fits-turn_of p s marks now has =
+    let x = settled p s marks now in
+    (rightly-speech p x (speaks_at x) now (reply-settled p s marks now has)).fits
 
 -- and what the station keeps can still be said
-pub reply-turn_of : (p : Params) (again : Bool) (s : Station) (marks : List Mark) (now : ℕ) → Sayable s → Sayable (turn_of p again s marks now).0
-reply-turn_of p again s marks now has =
-    let x = settled p again s marks now in (rightly-speech p x (speaks_at x) now (reply-settled p again s marks now has)).reply
+pub reply-turn_of : (p : Params) (s : Station) (marks : List Mark) (now : ℕ) → Sayable s → Sayable (turn_of p s marks now).0
+reply-turn_of p s marks now has =
+    let x = settled p s marks now in (rightly-speech p x (speaks_at x) now (reply-settled p s marks now has)).reply

@@ -2,6 +2,7 @@ pub mod Acts
 pub mod Addresses
 pub mod Busy
 pub mod Cases
+pub mod Checks
 pub mod Initiating
 pub mod Keeping
 pub mod Moments

@@ -54,8 +54,8 @@ timer-timed_out p now s (Some t) e =
     (λ ended. later_unless_busy now (phase_timed_out s s.phase t).busy _ (no_timer-timed_out p s s.phase t))
     (λ runs. subst (IsLater now) (sym e) (omega (arith, ltb-false t (now + 1) runs)))
 
-pub timer-settled : (p : Params) (again : Bool) (s : Station) (marks : List Mark) (now : ℕ) → IsLater now (timer_of p (settled p again s marks now))
-timer-settled p again s marks now = timer-timed_out p now (after_marks p again s marks) (timer_of p (after_marks p again s marks)) refl
+pub timer-settled : (p : Params) (s : Station) (marks : List Mark) (now : ℕ) → IsLater now (timer_of p (settled p s marks now))
+timer-settled p s marks now = timer-timed_out p now (after_marks p s marks) (timer_of p (after_marks p s marks)) refl
 
 -- ---- speech
 
@@ -166,9 +166,9 @@ later-speech p s now (Some moment) e timer =
     (λ waits. earlier-later now (timer_of p s) (speaks_at s) timer (subst (IsLater now) (sym e) (omega (arith, leb-false moment now waits))))
 
 -- after a turn the station is due later than the clock, or not at all
-pub later-turn_of : (p : Params) (again : Bool) (s : Station) (marks : List Mark) (now : ℕ) → IsDueLater p (turn_of p again s marks now).0 now
-later-turn_of p again s marks now =
-    later-speech p (settled p again s marks now) now (speaks_at (settled p again s marks now)) refl (timer-settled p again s marks now)
+pub later-turn_of : (p : Params) (s : Station) (marks : List Mark) (now : ℕ) → IsDueLater p (turn_of p s marks now).0 now
+later-turn_of p s marks now =
+    later-speech p (settled p s marks now) now (speaks_at (settled p s marks now)) refl (timer-settled p s marks now)
 
 -- ---- a turn with nothing due
 
@@ -180,24 +180,24 @@ speech-later : (p : Params) (s : Station) (o : Option ℕ) (now : ℕ) → IsLat
 speech-later p s None now later = refl
 speech-later p s (Some moment) now later = ap (λ (b : Bool). if b then phase_says p s s.phase now else (s, None)) (lt-leb moment now later)
 
-pub turn_of-nothing_due : (p : Params) (again : Bool) (s : Station) (now : ℕ) → IsDueLater p s now → turn_of p again s [] now ≡ (s, None)
-turn_of-nothing_due p again s now later =
+pub turn_of-nothing_due : (p : Params) (s : Station) (now : ℕ) → IsDueLater p s now → turn_of p s [] now ≡ (s, None)
+turn_of-nothing_due p s now later =
     let both = later-earlier now (timer_of p s) (speaks_at s) later in
     ap (λ (x : Station). speech p x (speaks_at x) now) (timed_out-later s (timer_of p s) now both.0) ∙ speech-later p s (speaks_at s) now both.1
 
-pub turn_of-busy : (p : Params) (again : Bool) (s : Station) (now : ℕ) → s.busy ≡ true → speaks_at s ≡ None → turn_of p again s [] now ≡ (s, None)
-turn_of-busy p again s now busy silent =
-    turn_of-nothing_due p again s now
+pub turn_of-busy : (p : Params) (s : Station) (now : ℕ) → s.busy ≡ true → speaks_at s ≡ None → turn_of p s [] now ≡ (s, None)
+turn_of-busy p s now busy silent =
+    turn_of-nothing_due p s now
     (subst (λ (b : Bool). IsLater now (earlier (if b then None else phase_timer p s s.phase) (speaks_at s))) (sym busy)
     (subst (IsLater now) (sym silent) tt))
 
 -- ---- marks and the timer
 
 -- a timer that ends before the next mark's moment is read first, and one that ends with it or later is not
-pub after_marks-timer : (p : Params) (again : Bool) (s : Station) (t : ℕ) (m : Mark) (marks : List Mark) → timer_of p s ≡ Some t → t < moment_of m
-    → after_marks p again s (m ∷ marks) ≡ after_marks p again (after_mark p again (phase_timed_out s s.phase t) m) marks
-after_marks-timer p again s t m marks e first =
-    ap (λ (x : Station). after_marks p again (after_mark p again x m) marks)
+pub after_marks-timer : (p : Params) (s : Station) (t : ℕ) (m : Mark) (marks : List Mark) → timer_of p s ≡ Some t → t < moment_of m
+    → after_marks p s (m ∷ marks) ≡ after_marks p (after_mark p (phase_timed_out s s.phase t) m) marks
+after_marks-timer p s t m marks e first =
+    ap (λ (x : Station). after_marks p (after_mark p x m) marks)
     (ap (λ (o : Option ℕ). timed_out s o (moment_of m)) e
     ∙ ap (λ (b : Bool). if b then phase_timed_out s s.phase t else s) (lt-ltb t (moment_of m) first))
 
@@ -205,10 +205,10 @@ timed_out-not_before : (s : Station) (o : Option ℕ) (limit : ℕ) → IfSome o
 timed_out-not_before s None limit late = refl
 timed_out-not_before s (Some t) limit late = ap (λ (b : Bool). if b then phase_timed_out s s.phase t else s) (le-ltb t limit late)
 
-pub after_marks-mark : (p : Params) (again : Bool) (s : Station) (m : Mark) (marks : List Mark) → IfSome (timer_of p s) (λ t. moment_of m ≤ t)
-    → after_marks p again s (m ∷ marks) ≡ after_marks p again (after_mark p again s m) marks
-after_marks-mark p again s m marks late =
-    ap (λ (x : Station). after_marks p again (after_mark p again x m) marks) (timed_out-not_before s (timer_of p s) (moment_of m) late)
+pub after_marks-mark : (p : Params) (s : Station) (m : Mark) (marks : List Mark) → IfSome (timer_of p s) (λ t. moment_of m ≤ t)
+    → after_marks p s (m ∷ marks) ≡ after_marks p (after_mark p s m) marks
+after_marks-mark p s m marks late =
+    ap (λ (x : Station). after_marks p (after_mark p x m) marks) (timed_out-not_before s (timer_of p s) (moment_of m) late)
 
 -- ---- one that is offline
 
@@ -217,33 +217,33 @@ no_timer : (s : Station) (busy : Bool) (limit : ℕ) → timed_out s (if busy th
 no_timer s true limit = refl
 no_timer s false limit = refl
 
-after_marks-offline : (p : Params) (again : Bool) (s : Station) (marks : List Mark) → after_marks p again (record s { phase = Offline }) marks ≡ record s { phase = Offline }
-after_marks-offline p again s [] = refl
-after_marks-offline p again s (m ∷ marks) =
-    ap (λ (x : Station). after_marks p again (after_mark p again x m) marks) (no_timer (record s { phase = Offline }) s.busy (moment_of m))
-    ∙ after_marks-offline p again s marks
+after_marks-offline : (p : Params) (s : Station) (marks : List Mark) → after_marks p (record s { phase = Offline }) marks ≡ record s { phase = Offline }
+after_marks-offline p s [] = refl
+after_marks-offline p s (m ∷ marks) =
+    ap (λ (x : Station). after_marks p (after_mark p x m) marks) (no_timer (record s { phase = Offline }) s.busy (moment_of m))
+    ∙ after_marks-offline p s marks
 
-turn_of-offline_phase : (p : Params) (again : Bool) (s : Station) (ph : Phase) (marks : List Mark) (now : ℕ) → ph ≡ Offline
-    → turn_of p again (record s { phase = ph }) marks now ≡ (record s { phase = ph }, None)
-turn_of-offline_phase p again s ph marks now e =
-    subst (λ (ph : Phase). turn_of p again (record s { phase = ph }) marks now ≡ (record s { phase = ph }, None)) (sym e)
+turn_of-offline_phase : (p : Params) (s : Station) (ph : Phase) (marks : List Mark) (now : ℕ) → ph ≡ Offline
+    → turn_of p (record s { phase = ph }) marks now ≡ (record s { phase = ph }, None)
+turn_of-offline_phase p s ph marks now e =
+    subst (λ (ph : Phase). turn_of p (record s { phase = ph }) marks now ≡ (record s { phase = ph }, None)) (sym e)
     (ap (λ (x : Station). speech p x (speaks_at x) now)
-    (ap (after_timer p (now + 1)) (after_marks-offline p again s marks) ∙ no_timer (record s { phase = Offline }) s.busy (now + 1)))
+    (ap (after_timer p (now + 1)) (after_marks-offline p s marks) ∙ no_timer (record s { phase = Offline }) s.busy (now + 1)))
 
 -- a station that is offline notices nothing and says nothing
-pub turn_of-offline : (p : Params) (again : Bool) (s : Station) (marks : List Mark) (now : ℕ) → s.phase ≡ Offline → turn_of p again s marks now ≡ (s, None)
-turn_of-offline p again s marks now e = turn_of-offline_phase p again s s.phase marks now e
+pub turn_of-offline : (p : Params) (s : Station) (marks : List Mark) (now : ℕ) → s.phase ≡ Offline → turn_of p s marks now ≡ (s, None)
+turn_of-offline p s marks now e = turn_of-offline_phase p s s.phase marks now e
 
 -- ---- speech is not optional
 
-pub turn_of-due : (p : Params) (again : Bool) (s : Station) (marks : List Mark) (now moment : ℕ) → speaks_at (settled p again s marks now) ≡ Some moment → moment ≤ now
-    → turn_of p again s marks now ≡ phase_says p (settled p again s marks now) (settled p again s marks now).phase now
-turn_of-due p again s marks now moment e due =
-    let x = settled p again s marks now in
+pub turn_of-due : (p : Params) (s : Station) (marks : List Mark) (now moment : ℕ) → speaks_at (settled p s marks now) ≡ Some moment → moment ≤ now
+    → turn_of p s marks now ≡ phase_says p (settled p s marks now) (settled p s marks now).phase now
+turn_of-due p s marks now moment e due =
+    let x = settled p s marks now in
     ap (λ (o : Option ℕ). speech p x o now) e ∙ ap (λ (b : Bool). if b then phase_says p x x.phase now else (x, None)) (le-leb moment now due)
 
-pub turn_of-not_due : (p : Params) (again : Bool) (s : Station) (marks : List Mark) (now : ℕ) → IsLater now (speaks_at (settled p again s marks now))
-    → (turn_of p again s marks now).1 ≡ None
-turn_of-not_due p again s marks now later =
-    let x = settled p again s marks now in
+pub turn_of-not_due : (p : Params) (s : Station) (marks : List Mark) (now : ℕ) → IsLater now (speaks_at (settled p s marks now))
+    → (turn_of p s marks now).1 ≡ None
+turn_of-not_due p s marks now later =
+    let x = settled p s marks now in
     ap (λ (turn : Station × Option (List ℕ)). turn.1) (speech-later p x (speaks_at x) now later)

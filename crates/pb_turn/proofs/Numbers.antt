@@ -3,7 +3,6 @@ use Rattle.std.proofs.Common.{◌≡◌, ◌∙◌, ℕ, ◌+◌, ◌<◌, ◌�
 use Rattle.std.specs.Option.{option_map}
 use Rattle.std.specs.Prelude.{is_some, min, max}
 use Rattle.std.proofs.lemmas.Bool.{le-leb, lt-leb, eq-eqb, and_parts}
-use Rattle.pb_telegram.specs.declared.chars.RxChar.{RxChar}
 use Rattle.pb_timers.specs.Timers.{Params}
 use Rattle.pb_ring.specs.Gap.{next_asked, last_asked}
 use Rattle.pb_ring.specs.Las as las
@@ -23,50 +22,15 @@ use Rattle.pb_cycles.specs.declared.services.Asked.TheVariants.{Send, Status, Un
 use Rattle.pb_cycles.specs.Outcomes.{status_reply}
 use Rattle.pb_cycles.specs.declared.messages.Message.TheVariants as message
 use Rattle.pb_turn.specs.Arrivals.{Arrival, Token, Framed, Acknowledgement, NoTelegram, arrival_of}
-use Rattle.pb_turn.specs.Hearing.{not_answered, passive_hears, answer_to, is_status, passive, in_ring, data_told, awaiting_data_hears, phase_timed_out, with_token, own_token, foreign_token, listening_hears, status_answer, idle_hears, token_in_idle, status_told, awaiting_status_hears, checking_hears, asks_status, is_taken_from, lost, after_mark, not_ready, ready_for_ring}
-use Rattle.pb_turn.specs.Laws.{HasAsked, is_asking, is_whole, status_reply_of}
+use Rattle.pb_turn.specs.Hearing.{not_answered, passive_hears, answer_to, is_status, passive, in_ring, data_told, awaiting_data_hears, phase_timed_out, with_token, own_token, foreign_token, listening_hears, status_answer, idle_hears, token_in_idle, status_told, awaiting_status_hears, asks_status, is_taken_from, lost, after_mark, not_ready, ready_for_ring}
+use Rattle.pb_turn.specs.Laws.{HasAsked, is_asking, status_reply_of}
 use Rattle.pb_turn.specs.Marks.{Mark, Begin, End}
-use Rattle.pb_turn.specs.Phases.{Phase, Offline, Listening, Idle, Use, AwaitData, AwaitStatus, Pass, Checking, may_initiate}
+use Rattle.pb_turn.specs.Phases.{Phase, Offline, Listening, Idle, Use, AwaitData, AwaitStatus, Pass, Checking}
 use Rattle.pb_turn.specs.Stations.{Station, next_station, previous_station}
 use Rattle.pb_turn.specs.Turns.{says_token, received_own, saying, token_octets, says_look, says_no_request, high_request, low_request, high_taken, low_taken, says_request, says_low, says_high, says_again, phase_says}
 use Rattle.pb_turn.proofs.Cases.{by_test}
 use Rattle.pb_turn.proofs.Keeping.{waiting_reply}
-use Rattle.pb_turn.proofs.Paths.{at_end, idle-takes}
-
--- ---- Checking
-
-same-hears : (p : Params) (a b : Bool) (s : Station) (tries at : ℕ) (arrival : Arrival) → is_whole arrival ≡ true → checking_hears p a s tries at arrival ≡ checking_hears p b s tries at arrival
-same-hears p a b s tries at (Token da sa) whole = refl
-same-hears p a b s tries at (Framed f) whole = refl
-same-hears p a b s tries at Acknowledgement whole = refl
-same-hears p a b s tries at NoTelegram whole = absurd (let wrong : false ≡ true = whole in cc)
-
-same-checking : (p : Params) (a b : Bool) (s : Station) (ph : Phase) (tries at seen : ℕ) (chars : List RxChar) → ph ≡ Checking tries → is_whole (arrival_of chars) ≡ true
-    → after_mark p a (record s { phase = ph }) (End at seen chars) ≡ after_mark p b (record s { phase = ph }) (End at seen chars)
-same-checking p a b s ph tries at seen chars e whole =
-    subst (λ (ph : Phase). after_mark p a (record s { phase = ph }) (End at seen chars) ≡ after_mark p b (record s { phase = ph }) (End at seen chars)) (sym e)
-    (same-hears p a b (at_end (record s { phase = Checking tries }) at) tries at (arrival_of chars) whole)
-
-pub whole-same : (p : Params) (a b : Bool) (s : Station) (tries at seen : ℕ) (chars : List RxChar) → s.phase ≡ Checking tries → is_whole (arrival_of chars) ≡ true
-    → after_mark p a s (End at seen chars) ≡ after_mark p b s (End at seen chars)
-whole-same p a b s tries at seen chars e whole = same-checking p a b s s.phase tries at seen chars e whole
-
-taken-hears : (p : Params) (again : Bool) (s : Station) (tries at : ℕ) (arrival : Arrival) → is_whole arrival ≡ true
-    → may_initiate (checking_hears p again s tries at arrival).phase ≡ true → arrival ≡ Token s.address (previous_station s)
-taken-hears p again s tries at (Token da sa) whole holds = idle-takes p (lost s) at (Token da sa) refl holds
-taken-hears p again s tries at (Framed f) whole holds = absurd (let wrong : false ≡ true = holds in cc)
-taken-hears p again s tries at Acknowledgement whole holds = absurd (let wrong : false ≡ true = holds in cc)
-taken-hears p again s tries at NoTelegram whole holds = absurd (let wrong : false ≡ true = whole in cc)
-
-taken-checking : (p : Params) (again : Bool) (s : Station) (ph : Phase) (tries at seen : ℕ) (chars : List RxChar) → ph ≡ Checking tries → is_whole (arrival_of chars) ≡ true
-    → may_initiate (after_mark p again (record s { phase = ph }) (End at seen chars)).phase ≡ true → arrival_of chars ≡ Token s.address (previous_station s)
-taken-checking p again s ph tries at seen chars e whole =
-    subst (λ (ph : Phase). may_initiate (after_mark p again (record s { phase = ph }) (End at seen chars)).phase ≡ true → arrival_of chars ≡ Token s.address (previous_station s)) (sym e)
-    (taken-hears p again (at_end (record s { phase = Checking tries }) at) tries at (arrival_of chars) whole)
-
-pub whole-taken : (p : Params) (again : Bool) (s : Station) (tries at seen : ℕ) (chars : List RxChar) → s.phase ≡ Checking tries → is_whole (arrival_of chars) ≡ true
-    → may_initiate (after_mark p again s (End at seen chars)).phase ≡ true → arrival_of chars ≡ Token s.address (previous_station s)
-whole-taken p again s tries at seen chars e whole = taken-checking p again s s.phase tries at seen chars e whole
+use Rattle.pb_turn.proofs.Paths.{at_end}
 
 -- ---- tries
 
@@ -144,15 +108,15 @@ asked-data_hears p s slot at (Framed f) =
 asked-data_hears p s slot at Acknowledgement = asked-data_told p s slot at message.Acknowledgement (outcome_of s.cycles.initiator (Some message.Acknowledgement))
 asked-data_hears p s slot at NoTelegram = asked-not_answered s slot (max at s.own.end + p.tid1)
 
-asked-data_phase : (p : Params) (again : Bool) (s : Station) (ph : Phase) (m : Mark) (retry : Option ℕ) (slot : Bool) → ph ≡ AwaitData true retry slot
-    → HasAsked (after_mark p again (record s { phase = ph }) m).phase
-asked-data_phase p again s ph (Begin at seen) retry slot e = subst (λ (ph : Phase). HasAsked (after_mark p again (record s { phase = ph }) (Begin at seen)).phase) (sym e) refl
-asked-data_phase p again s ph (End at seen chars) retry slot e =
-    subst (λ (ph : Phase). HasAsked (after_mark p again (record s { phase = ph }) (End at seen chars)).phase) (sym e)
+asked-data_phase : (p : Params) (s : Station) (ph : Phase) (m : Mark) (retry : Option ℕ) (slot : Bool) → ph ≡ AwaitData true retry slot
+    → HasAsked (after_mark p (record s { phase = ph }) m).phase
+asked-data_phase p s ph (Begin at seen) retry slot e = subst (λ (ph : Phase). HasAsked (after_mark p (record s { phase = ph }) (Begin at seen)).phase) (sym e) refl
+asked-data_phase p s ph (End at seen chars) retry slot e =
+    subst (λ (ph : Phase). HasAsked (after_mark p (record s { phase = ph }) (End at seen chars)).phase) (sym e)
     (asked-data_hears p (at_end (record s { phase = AwaitData true retry slot }) at) slot at (arrival_of chars))
 
-pub asked-data_mark : (p : Params) (again : Bool) (s : Station) (m : Mark) (retry : Option ℕ) (slot : Bool) → s.phase ≡ AwaitData true retry slot → HasAsked (after_mark p again s m).phase
-asked-data_mark p again s m retry slot e = asked-data_phase p again s s.phase m retry slot e
+pub asked-data_mark : (p : Params) (s : Station) (m : Mark) (retry : Option ℕ) (slot : Bool) → s.phase ≡ AwaitData true retry slot → HasAsked (after_mark p s m).phase
+asked-data_mark p s m retry slot e = asked-data_phase p s s.phase m retry slot e
 
 pub asked-again : (s : Station) (f : Option Fields) (now : ℕ) → HasAsked (says_again s true f now).0.phase
 asked-again s None now = refl
@@ -169,14 +133,14 @@ asked-hears p s of at (Framed f) =
 asked-hears p s of at Acknowledgement = refl
 asked-hears p s of at NoTelegram = refl
 
-asked-phase : (p : Params) (again : Bool) (s : Station) (ph : Phase) (m : Mark) (of : ℕ) (slot : Bool) → ph ≡ AwaitStatus of slot → HasAsked (after_mark p again (record s { phase = ph }) m).phase
-asked-phase p again s ph (Begin at seen) of slot e = subst (λ (ph : Phase). HasAsked (after_mark p again (record s { phase = ph }) (Begin at seen)).phase) (sym e) tt
-asked-phase p again s ph (End at seen chars) of slot e =
-    subst (λ (ph : Phase). HasAsked (after_mark p again (record s { phase = ph }) (End at seen chars)).phase) (sym e)
+asked-phase : (p : Params) (s : Station) (ph : Phase) (m : Mark) (of : ℕ) (slot : Bool) → ph ≡ AwaitStatus of slot → HasAsked (after_mark p (record s { phase = ph }) m).phase
+asked-phase p s ph (Begin at seen) of slot e = subst (λ (ph : Phase). HasAsked (after_mark p (record s { phase = ph }) (Begin at seen)).phase) (sym e) tt
+asked-phase p s ph (End at seen chars) of slot e =
+    subst (λ (ph : Phase). HasAsked (after_mark p (record s { phase = ph }) (End at seen chars)).phase) (sym e)
     (asked-hears p (at_end (record s { phase = AwaitStatus of slot }) at) of at (arrival_of chars))
 
-pub asked-mark : (p : Params) (again : Bool) (s : Station) (m : Mark) (of : ℕ) (slot : Bool) → s.phase ≡ AwaitStatus of slot → HasAsked (after_mark p again s m).phase
-asked-mark p again s m of slot e = asked-phase p again s s.phase m of slot e
+pub asked-mark : (p : Params) (s : Station) (m : Mark) (of : ℕ) (slot : Bool) → s.phase ≡ AwaitStatus of slot → HasAsked (after_mark p s m).phase
+asked-mark p s m of slot e = asked-phase p s s.phase m of slot e
 
 -- ---- replies
 

@@ -112,20 +112,20 @@ told-on p s asked r now not =
 
 -- ---- a begin
 
-pub begin-drops : (p : Params) (again : Bool) (s : Station) (at seen : ℕ) → is_offline s.phase ≡ false → (after_mark p again s (Begin at seen)).reply ≡ None
-begin-drops p again s at seen on = ap (λ (b : Bool). (if b then s else begun s at).reply) on
+pub begin-drops : (p : Params) (s : Station) (at seen : ℕ) → is_offline s.phase ≡ false → (after_mark p s (Begin at seen)).reply ≡ None
+begin-drops p s at seen on = ap (λ (b : Bool). (if b then s else begun s at).reply) on
 
-pub begin-silences : (p : Params) (again : Bool) (s : Station) (at seen : ℕ) → is_offline s.phase ≡ false → speaks_at (after_mark p again s (Begin at seen)) ≡ None
-begin-silences p again s at seen on = ap (λ (b : Bool). speaks_at (if b then s else begun s at)) on ∙ silent-begun s.phase s.own.begin at
+pub begin-silences : (p : Params) (s : Station) (at seen : ℕ) → is_offline s.phase ≡ false → speaks_at (after_mark p s (Begin at seen)) ≡ None
+begin-silences p s at seen on = ap (λ (b : Bool). speaks_at (if b then s else begun s at)) on ∙ silent-begun s.phase s.own.begin at
 
 -- ---- a slot
 
 abbrev waiting : Station → Bool → Station
 waiting s asked = record s { phase = AwaitData asked None true; busy = false }
 
-pub slot-waits : (p : Params) (again : Bool) (s : Station) (asked : Bool) (now : ℕ) → now < s.own.end + p.tsl → turn_of p again (waiting s asked) [] now ≡ (waiting s asked, None)
-slot-waits p again s asked now early =
-    turn_of-nothing_due p again (waiting s asked) now
+pub slot-waits : (p : Params) (s : Station) (asked : Bool) (now : ℕ) → now < s.own.end + p.tsl → turn_of p (waiting s asked) [] now ≡ (waiting s asked, None)
+slot-waits p s asked now early =
+    turn_of-nothing_due p (waiting s asked) now
     (subst (λ (o : Option ℕ). IfSome o (λ due. now < due)) (sym (due_in_waiting p (waiting s asked) asked refl refl)) early)
 
 slot-ended : (p : Params) (s : Station) (asked : Bool) (now : ℕ) → s.own.end + p.tsl ≤ now
@@ -134,9 +134,9 @@ slot-ended p s asked now late =
     ap (λ (b : Bool). if b then not_answered (waiting s asked) asked false (s.own.end + p.tsl) else waiting s asked) (lt-ltb (s.own.end + p.tsl) (now + 1) (omega arith))
 
 -- and is sent again then
-pub slot-again : (p : Params) (again : Bool) (s : Station) (asked : Bool) (now : ℕ) (f : Fields) → s.own.end + p.tsl ≤ now → retry_of s.cycles.initiator.pending ≡ Some f
-    → (turn_of p again (waiting s asked) [] now).1 ≡ Some (frame_octets f)
-slot-again p again s asked now f late left =
+pub slot-again : (p : Params) (s : Station) (asked : Bool) (now : ℕ) (f : Fields) → s.own.end + p.tsl ≤ now → retry_of s.cycles.initiator.pending ≡ Some f
+    → (turn_of p (waiting s asked) [] now).1 ≡ Some (frame_octets f)
+slot-again p s asked now f late left =
     let x = waiting s asked in
     let t = s.own.end + p.tsl in
     let y = record x { phase = AwaitData asked (Some t) false } in
@@ -208,21 +208,21 @@ passive-hears p s at (Framed f) e = e
 passive-hears p s at Acknowledgement e = e
 passive-hears p s at NoTelegram e = e
 
-passive-mark : (p : Params) (again : Bool) (s : Station) (ph : Phase) (m : Mark) → ph ≡ PassiveIdle → IsPassive (after_mark p again (record s { phase = ph }) m)
-passive-mark p again s ph (Begin at seen) e = subst (λ (ph : Phase). IsPassive (after_mark p again (record s { phase = ph }) (Begin at seen))) (sym e) refl
-passive-mark p again s ph (End at seen chars) e =
-    subst (λ (ph : Phase). IsPassive (after_mark p again (record s { phase = ph }) (End at seen chars))) (sym e)
+passive-mark : (p : Params) (s : Station) (ph : Phase) (m : Mark) → ph ≡ PassiveIdle → IsPassive (after_mark p (record s { phase = ph }) m)
+passive-mark p s ph (Begin at seen) e = subst (λ (ph : Phase). IsPassive (after_mark p (record s { phase = ph }) (Begin at seen))) (sym e) refl
+passive-mark p s ph (End at seen chars) e =
+    subst (λ (ph : Phase). IsPassive (after_mark p (record s { phase = ph }) (End at seen chars))) (sym e)
     (passive-hears p (at_end (record s { phase = PassiveIdle }) at) at (arrival_of chars) refl)
 
-passive-marks : (p : Params) (again : Bool) (s : Station) (marks : List Mark) → IsPassive s → IsPassive (after_marks p again s marks)
-passive-marks p again s [] e = e
-passive-marks p again s (m ∷ marks) e =
+passive-marks : (p : Params) (s : Station) (marks : List Mark) → IsPassive s → IsPassive (after_marks p s marks)
+passive-marks p s [] e = e
+passive-marks p s (m ∷ marks) e =
     let x = after_timer p (moment_of m) s in
-    passive-marks p again (after_mark p again x m) marks (passive-mark p again x x.phase m (passive-timer p (moment_of m) s s.phase e))
+    passive-marks p (after_mark p x m) marks (passive-mark p x x.phase m (passive-timer p (moment_of m) s s.phase e))
 
-passive-settled : (p : Params) (again : Bool) (s : Station) (marks : List Mark) (now : ℕ) → IsPassive s → IsPassive (settled p again s marks now)
-passive-settled p again s marks now e =
-    let x = after_marks p again s marks in passive-timer p (now + 1) x x.phase (passive-marks p again s marks e)
+passive-settled : (p : Params) (s : Station) (marks : List Mark) (now : ℕ) → IsPassive s → IsPassive (settled p s marks now)
+passive-settled p s marks now e =
+    let x = after_marks p s marks in passive-timer p (now + 1) x x.phase (passive-marks p s marks e)
 
 passive-says : (p : Params) (s : Station) (ph : Phase) (o : Option ℕ) (now : ℕ) → ph ≡ PassiveIdle → IsPassive (speech p (record s { phase = ph }) o now).0
 passive-says p s ph o now e = subst (λ (ph : Phase). IsPassive (speech p (record s { phase = ph }) o now).0) (sym e) (by_moment o)
@@ -236,23 +236,23 @@ passive-says p s ph o now e = subst (λ (ph : Phase). IsPassive (speech p (recor
     by_moment (Some moment) =
         by_test (λ (turn : Station × Option (List ℕ)). IsPassive turn.0) (nat_le moment now) _ (record s { phase = PassiveIdle }, None) (λ _. by_reply s.reply) (λ _. refl)
 
-pub passive-stays : (p : Params) (again : Bool) (s : Station) (marks : List Mark) (now : ℕ) → s.phase ≡ PassiveIdle → (turn_of p again s marks now).0.phase ≡ PassiveIdle
-passive-stays p again s marks now e =
-    let x = settled p again s marks now in passive-says p x x.phase (speaks_at x) now (passive-settled p again s marks now e)
+pub passive-stays : (p : Params) (s : Station) (marks : List Mark) (now : ℕ) → s.phase ≡ PassiveIdle → (turn_of p s marks now).0.phase ≡ PassiveIdle
+passive-stays p s marks now e =
+    let x = settled p s marks now in passive-says p x x.phase (speaks_at x) now (passive-settled p s marks now e)
 
 no_initiator : (b holds : Bool) → holds ≡ false → (b ≡ true → holds ≡ true) → b ≡ false
 no_initiator true holds e only = absurd (let wrong : true ≡ false = sym (only refl) ∙ e in cc)
 no_initiator false holds e only = refl
 
-pub passive-replies : (p : Params) (again : Bool) (s : Station) (marks : List Mark) (now : ℕ) → HasReply s → HasCycles s → s.phase ≡ PassiveIdle
-    → IfSome (turn_of p again s marks now).1 (λ octets. are_initiator octets ≡ false)
-passive-replies p again s marks now reply cycles e =
-    by_octets (turn_of p again s marks now).1 (holder-turn_of p again s marks now (reply, cycles))
+pub passive-replies : (p : Params) (s : Station) (marks : List Mark) (now : ℕ) → HasReply s → HasCycles s → s.phase ≡ PassiveIdle
+    → IfSome (turn_of p s marks now).1 (λ octets. are_initiator octets ≡ false)
+passive-replies p s marks now reply cycles e =
+    by_octets (turn_of p s marks now).1 (holder-turn_of p s marks now (reply, cycles))
   where
-    by_octets : (o : Option (List ℕ)) → IfSome o (λ octets. are_initiator octets ≡ true → may_initiate (settled p again s marks now).phase ≡ true)
+    by_octets : (o : Option (List ℕ)) → IfSome o (λ octets. are_initiator octets ≡ true → may_initiate (settled p s marks now).phase ≡ true)
         → IfSome o (λ octets. are_initiator octets ≡ false)
     by_octets None only = tt
-    by_octets (Some octets) only = no_initiator (are_initiator octets) _ (ap may_initiate (passive-settled p again s marks now e)) only
+    by_octets (Some octets) only = no_initiator (are_initiator octets) _ (ap may_initiate (passive-settled p s marks now e)) only
 
 -- ---- what is sent first
 

@@ -15,7 +15,7 @@ use Rattle.pb_cycles.specs.declared.messages.Message.{Message}
 use Rattle.pb_cycles.specs.declared.messages.Message.TheVariants as message
 use Rattle.pb_cycles.specs.declared.outcomes.Outcome.{Outcome}
 use Rattle.pb_turn.specs.Arrivals.{Arrival, Token, Framed, Acknowledgement, NoTelegram, arrival_of}
-use Rattle.pb_turn.specs.Hearing.{not_answered, passive_hears, data_told, awaiting_data_hears, phase_timed_out, timed_out, after_timer, tries_limit, phase_begun, listening_hears, taking, is_taken_from, skips_limit, token_in_idle, idle_hears, holder_hears, status_told, awaiting_status_hears, checking_hears, with_token, lost, phase_ended, heard, after_mark}
+use Rattle.pb_turn.specs.Hearing.{not_answered, passive_hears, data_told, awaiting_data_hears, phase_timed_out, timed_out, after_timer, tries_limit, phase_begun, listening_hears, taking, is_taken_from, skips_limit, token_in_idle, idle_hears, holder_hears, status_told, awaiting_status_hears, with_token, lost, phase_ended, heard, after_mark}
 use Rattle.pb_turn.specs.Laws.{HasOpen, HasOpenRequest}
 use Rattle.pb_turn.specs.Marks.{Mark, Begin, End, moment_of}
 use Rattle.pb_turn.specs.Phases.{Phase, Offline, PassiveIdle, Listening, Idle, Claim, Use, AwaitData, AwaitStatus, Pass, Checking, is_offline}
@@ -66,7 +66,7 @@ left-begun pending (Use asked ready) own at has = tt
 left-begun pending (AwaitData asked retry slot) own at has = (has.0, tt)
 left-begun pending (AwaitStatus of slot) own at has = tt
 left-begun pending (Pass tries ready) own at has = tt
-left-begun pending (Checking tries) own at has = tt
+left-begun pending (Checking tries) own at has = by_test (HasOpen pending) (nat_lt at own) (Checking tries) (Idle None) (λ _. tt) (λ _. tt)
 
 left-token_in_idle : (p : Params) (s : Station) (refused : Option ℕ) (at da sa : ℕ) → HasOpenRequest s → HasOpenRequest (token_in_idle p s refused at da sa)
 left-token_in_idle p s refused at da sa has =
@@ -123,39 +123,33 @@ left-passive p s at (Framed f) has = has
 left-passive p s at Acknowledgement has = has
 left-passive p s at NoTelegram has = has
 
-left-checking : (p : Params) (again : Bool) (s : Station) (tries at : ℕ) (a : Arrival) → HasOpenRequest (checking_hears p again s tries at a)
-left-checking p again s tries at (Token da sa) = left-idle_hears p (lost s) None at (Token da sa) tt
-left-checking p again s tries at (Framed f) = tt
-left-checking p again s tries at Acknowledgement = tt
-left-checking p again s tries at NoTelegram = by_test HasOpenRequest again _ (lost s) (λ _. tt) (λ _. tt)
+left-ended : (p : Params) (s : Station) (ph : Phase) (at : ℕ) (a : Arrival) → HasOpenRequest (phase_ended p (record s { phase = ph }) ph at a)
+left-ended p s Offline at a = tt
+left-ended p s PassiveIdle at a = left-passive p (record s { phase = PassiveIdle }) at a tt
+left-ended p s (Listening doubled) at a = left-listening_hears p (record s { phase = Listening doubled }) doubled at a tt
+left-ended p s (Idle refused) at a = left-idle_hears p (record s { phase = Idle refused }) refused at a tt
+left-ended p s (Claim sent ready) at a = left-holder_hears (record s { phase = Claim sent ready }) a tt
+left-ended p s (Use asked ready) at a = left-holder_hears (record s { phase = Use asked ready }) a tt
+left-ended p s (AwaitData asked retry slot) at a = left-awaiting_data p (record s { phase = AwaitData asked retry slot }) asked slot at a
+left-ended p s (AwaitStatus of slot) at a = left-awaiting p (record s { phase = AwaitStatus of slot }) of at a
+left-ended p s (Pass tries ready) at a = left-holder_hears (record s { phase = Pass tries ready }) a tt
+left-ended p s (Checking tries) at a = left-holder_hears (record s { phase = Checking tries }) a tt
 
-left-ended : (p : Params) (again : Bool) (s : Station) (ph : Phase) (at : ℕ) (a : Arrival) → HasOpenRequest (phase_ended p again (record s { phase = ph }) ph at a)
-left-ended p again s Offline at a = tt
-left-ended p again s PassiveIdle at a = left-passive p (record s { phase = PassiveIdle }) at a tt
-left-ended p again s (Listening doubled) at a = left-listening_hears p (record s { phase = Listening doubled }) doubled at a tt
-left-ended p again s (Idle refused) at a = left-idle_hears p (record s { phase = Idle refused }) refused at a tt
-left-ended p again s (Claim sent ready) at a = left-holder_hears (record s { phase = Claim sent ready }) a tt
-left-ended p again s (Use asked ready) at a = left-holder_hears (record s { phase = Use asked ready }) a tt
-left-ended p again s (AwaitData asked retry slot) at a = left-awaiting_data p (record s { phase = AwaitData asked retry slot }) asked slot at a
-left-ended p again s (AwaitStatus of slot) at a = left-awaiting p (record s { phase = AwaitStatus of slot }) of at a
-left-ended p again s (Pass tries ready) at a = left-holder_hears (record s { phase = Pass tries ready }) a tt
-left-ended p again s (Checking tries) at a = left-checking p again (record s { phase = Checking tries }) tries at a
+left-heard : (p : Params) (s : Station) (m : Mark) → HasOpenRequest s → HasOpenRequest (heard p s m)
+left-heard p s (Begin at seen) has = left-begun s.cycles.initiator.pending s.phase s.own.begin at has
+left-heard p s (End at seen chars) has = left-ended p (at_end s at) s.phase at (arrival_of chars)
 
-left-heard : (p : Params) (again : Bool) (s : Station) (m : Mark) → HasOpenRequest s → HasOpenRequest (heard p again s m)
-left-heard p again s (Begin at seen) has = left-begun s.cycles.initiator.pending s.phase s.own.begin at has
-left-heard p again s (End at seen chars) has = left-ended p again (at_end s at) s.phase at (arrival_of chars)
+left-after_mark : (p : Params) (s : Station) (m : Mark) → HasOpenRequest s → HasOpenRequest (after_mark p s m)
+left-after_mark p s m has = by_test HasOpenRequest (is_offline s.phase) s (heard p s m) (λ _. has) (λ _. left-heard p s m has)
 
-left-after_mark : (p : Params) (again : Bool) (s : Station) (m : Mark) → HasOpenRequest s → HasOpenRequest (after_mark p again s m)
-left-after_mark p again s m has = by_test HasOpenRequest (is_offline s.phase) s (heard p again s m) (λ _. has) (λ _. left-heard p again s m has)
-
-left-after_marks : (p : Params) (again : Bool) (s : Station) (marks : List Mark) → HasOpenRequest s → HasOpenRequest (after_marks p again s marks)
-left-after_marks p again s [] has = has
-left-after_marks p again s (m ∷ marks) has =
+left-after_marks : (p : Params) (s : Station) (marks : List Mark) → HasOpenRequest s → HasOpenRequest (after_marks p s marks)
+left-after_marks p s [] has = has
+left-after_marks p s (m ∷ marks) has =
     let x = after_timer p (moment_of m) s in
-    left-after_marks p again (after_mark p again x m) marks (left-after_mark p again x m (left-after_timer p (moment_of m) s has))
+    left-after_marks p (after_mark p x m) marks (left-after_mark p x m (left-after_timer p (moment_of m) s has))
 
-pub left-settled : (p : Params) (again : Bool) (s : Station) (marks : List Mark) (now : ℕ) → HasOpenRequest s → HasOpenRequest (settled p again s marks now)
-left-settled p again s marks now has = left-after_timer p (now + 1) (after_marks p again s marks) (left-after_marks p again s marks has)
+pub left-settled : (p : Params) (s : Station) (marks : List Mark) (now : ℕ) → HasOpenRequest s → HasOpenRequest (settled p s marks now)
+left-settled p s marks now has = left-after_timer p (now + 1) (after_marks p s marks) (left-after_marks p s marks has)
 
 -- ---- speech
 
@@ -216,9 +210,9 @@ left-speech p s (Some moment) now has =
     by_test (λ (turn : Station × Option (List ℕ)). HasOpenRequest turn.0) (nat_le moment now) (phase_says p s s.phase now) (s, None)
     (λ _. left-phase_says p s s.phase now has) (λ _. has)
 
-pub left-turn_of : (p : Params) (again : Bool) (s : Station) (marks : List Mark) (now : ℕ) → HasOpenRequest s → HasOpenRequest (turn_of p again s marks now).0
-left-turn_of p again s marks now has =
-    let x = settled p again s marks now in left-speech p x (speaks_at x) now (left-settled p again s marks now has)
+pub left-turn_of : (p : Params) (s : Station) (marks : List Mark) (now : ℕ) → HasOpenRequest s → HasOpenRequest (turn_of p s marks now).0
+left-turn_of p s marks now has =
+    let x = settled p s marks now in left-speech p x (speaks_at x) now (left-settled p s marks now has)
 
 pub left-started : (p : Params) (s : Station) (master : Bool) (now : ℕ) → HasOpenRequest (started p s master now)
 left-started p s master now = by_test (HasOpen None) master (Listening false) PassiveIdle (λ _. tt) (λ _. tt)

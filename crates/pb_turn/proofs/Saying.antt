@@ -138,13 +138,13 @@ own-speech p s None now = tt
 own-speech p s (Some moment) now =
     by_test (λ (turn : Station × Option (List ℕ)). OwnLasts turn now) (nat_le moment now) (phase_says p s s.phase now) (s, None) (λ _. own-phase_says p s s.phase now) (λ _. tt)
 
-own-turn_of : (p : Params) (again : Bool) (s : Station) (marks : List Mark) (now : ℕ) (octets : List ℕ) → (turn_of p again s marks now).1 ≡ Some octets
-    → (turn_of p again s marks now).0.own.end ≡ now + bits (length octets)
-own-turn_of p again s marks now octets said =
-    let x = settled p again s marks now in
-    subst (λ (o : Option (List ℕ)). IfSome o (λ octets. (turn_of p again s marks now).0.own.end ≡ now + bits (length octets))) said (own-speech p x (speaks_at x) now)
+own-turn_of : (p : Params) (s : Station) (marks : List Mark) (now : ℕ) (octets : List ℕ) → (turn_of p s marks now).1 ≡ Some octets
+    → (turn_of p s marks now).0.own.end ≡ now + bits (length octets)
+own-turn_of p s marks now octets said =
+    let x = settled p s marks now in
+    subst (λ (o : Option (List ℕ)). IfSome o (λ octets. (turn_of p s marks now).0.own.end ≡ now + bits (length octets))) said (own-speech p x (speaks_at x) now)
 
-due_in_checking : (p : Params) (s : Station) (tries : ℕ) → s.busy ≡ false → s.phase ≡ Checking tries → due_of p s [] ≡ Some (s.own.end + p.tsl)
+pub due_in_checking : (p : Params) (s : Station) (tries : ℕ) → s.busy ≡ false → s.phase ≡ Checking tries → due_of p s [] ≡ Some (s.own.end + p.tsl)
 due_in_checking p s tries idle checking =
     by_phase s s.phase checking idle
   where
@@ -171,20 +171,20 @@ due_in_waiting p s asked idle waiting =
         subst (λ (ph : Phase). due_of p (record x { phase = ph }) [] ≡ Some (x.own.end + p.tsl)) (sym e)
         (subst (λ (b : Bool). due_of p (record x { phase = AwaitData asked None true; busy = b }) [] ≡ Some (x.own.end + p.tsl)) (sym idle) refl)
 
-pub due-token_passed : (p : Params) (again : Bool) (s : Station) (marks : List Mark) (now tries : ℕ) (octets : List ℕ)
-    → (turn_of p again s marks now).1 ≡ Some octets → (turn_of p again s marks now).0.phase ≡ Checking tries → (turn_of p again s marks now).0.busy ≡ false
-    → due_of p (turn_of p again s marks now).0 [] ≡ Some (now + bits (length octets) + p.tsl)
-due-token_passed p again s marks now tries octets said checking idle =
-    due_in_checking p (turn_of p again s marks now).0 tries idle checking ∙ ap (λ (end : ℕ). Some (end + p.tsl)) (own-turn_of p again s marks now octets said)
+pub due-token_passed : (p : Params) (s : Station) (marks : List Mark) (now tries : ℕ) (octets : List ℕ)
+    → (turn_of p s marks now).1 ≡ Some octets → (turn_of p s marks now).0.phase ≡ Checking tries → (turn_of p s marks now).0.busy ≡ false
+    → due_of p (turn_of p s marks now).0 [] ≡ Some (now + bits (length octets) + p.tsl)
+due-token_passed p s marks now tries octets said checking idle =
+    due_in_checking p (turn_of p s marks now).0 tries idle checking ∙ ap (λ (end : ℕ). Some (end + p.tsl)) (own-turn_of p s marks now octets said)
 
-pub due-asked : (p : Params) (again : Bool) (s : Station) (marks : List Mark) (now of : ℕ) (octets : List ℕ)
-    → (turn_of p again s marks now).1 ≡ Some octets → (turn_of p again s marks now).0.phase ≡ AwaitStatus of true → (turn_of p again s marks now).0.busy ≡ false
-    → due_of p (turn_of p again s marks now).0 [] ≡ Some (now + bits (length octets) + p.tsl)
-due-asked p again s marks now of octets said asking idle =
-    due_in_asking p (turn_of p again s marks now).0 of idle asking ∙ ap (λ (end : ℕ). Some (end + p.tsl)) (own-turn_of p again s marks now octets said)
+pub due-asked : (p : Params) (s : Station) (marks : List Mark) (now of : ℕ) (octets : List ℕ)
+    → (turn_of p s marks now).1 ≡ Some octets → (turn_of p s marks now).0.phase ≡ AwaitStatus of true → (turn_of p s marks now).0.busy ≡ false
+    → due_of p (turn_of p s marks now).0 [] ≡ Some (now + bits (length octets) + p.tsl)
+due-asked p s marks now of octets said asking idle =
+    due_in_asking p (turn_of p s marks now).0 of idle asking ∙ ap (λ (end : ℕ). Some (end + p.tsl)) (own-turn_of p s marks now octets said)
 
-pub due-requested : (p : Params) (again : Bool) (s : Station) (marks : List Mark) (now : ℕ) (asked : Bool) (octets : List ℕ)
-    → (turn_of p again s marks now).1 ≡ Some octets → (turn_of p again s marks now).0.phase ≡ AwaitData asked None true → (turn_of p again s marks now).0.busy ≡ false
-    → due_of p (turn_of p again s marks now).0 [] ≡ Some (now + bits (length octets) + p.tsl)
-due-requested p again s marks now asked octets said waiting idle =
-    due_in_waiting p (turn_of p again s marks now).0 asked idle waiting ∙ ap (λ (end : ℕ). Some (end + p.tsl)) (own-turn_of p again s marks now octets said)
+pub due-requested : (p : Params) (s : Station) (marks : List Mark) (now : ℕ) (asked : Bool) (octets : List ℕ)
+    → (turn_of p s marks now).1 ≡ Some octets → (turn_of p s marks now).0.phase ≡ AwaitData asked None true → (turn_of p s marks now).0.busy ≡ false
+    → due_of p (turn_of p s marks now).0 [] ≡ Some (now + bits (length octets) + p.tsl)
+due-requested p s marks now asked octets said waiting idle =
+    due_in_waiting p (turn_of p s marks now).0 asked idle waiting ∙ ap (λ (end : ℕ). Some (end + p.tsl)) (own-turn_of p s marks now octets said)

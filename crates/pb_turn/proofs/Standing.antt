@@ -36,7 +36,7 @@ use Rattle.pb_cycles.specs.declared.messages.Message.{Message}
 use Rattle.pb_cycles.specs.declared.outcomes.Outcome.{Outcome}
 use Rattle.pb_cycles.specs.declared.messages.Message.TheVariants as message
 use Rattle.pb_turn.specs.Arrivals.{Arrival, Token, Framed, Acknowledgement, NoTelegram, arrival_of, arrival_unless, fields_of}
-use Rattle.pb_turn.specs.Hearing.{asked_station, outcome_at, cycle_closed, not_answered, answering, passive, in_ring, passive_hears, data_told, awaiting_data_hears, phase_timed_out, timed_out, after_timer, tries_limit, phase_begun, doubled_by, listening_hears, taking, is_taken_from, skips_limit, token_in_idle, idle_hears, holder_hears, tells_ready, status_told, awaiting_status_hears, checking_hears, with_token, lost, phase_ended, heard, after_mark}
+use Rattle.pb_turn.specs.Hearing.{asked_station, outcome_at, cycle_closed, not_answered, answering, passive, in_ring, passive_hears, data_told, awaiting_data_hears, phase_timed_out, timed_out, after_timer, tries_limit, phase_begun, doubled_by, listening_hears, taking, is_taken_from, skips_limit, token_in_idle, idle_hears, holder_hears, tells_ready, status_told, awaiting_status_hears, with_token, lost, phase_ended, heard, after_mark}
 use Rattle.pb_turn.specs.Laws.{IsRequest, HasCycles}
 use Rattle.pb_turn.specs.Marks.{Mark, Begin, End, moment_of}
 use Rattle.pb_turn.specs.Pasts as past
@@ -217,7 +217,7 @@ asks-begun (Use asked ready) own at asks = tt
 asks-begun (AwaitData asked retry slot) own at asks = tt
 asks-begun (AwaitStatus of slot) own at asks = asks
 asks-begun (Pass tries ready) own at asks = tt
-asks-begun (Checking tries) own at asks = tt
+asks-begun (Checking tries) own at asks = by_test AsksStation (nat_lt at own) (Checking tries) (Idle None) (λ _. tt) (λ _. tt)
 
 stands-token_in_idle : (p : Params) (s : Station) (refused : Option ℕ) (at da sa : ℕ) (h : Past) → da < 127 → sa < 127 → StandsForPast p s h
     → StandsForPast p (token_in_idle p s refused at da sa) (past_in_idle s refused at da sa h)
@@ -310,47 +310,39 @@ stands-awaiting_data p s asked slot at Acknowledgement h of has stands =
     stands-data_told p s asked slot at message.Acknowledgement (outcome_of s.cycles.initiator (Some message.Acknowledgement)) h refl has stands
 stands-awaiting_data p s asked slot at NoTelegram h of has stands = stands-not_answered s asked slot (max at s.own.end + p.tid1) h has stands
 
-stands-checking : (p : Params) (again : Bool) (s : Station) (tries at : ℕ) (a : Arrival) (h : Past) → IsOfStations a → StandsForPast p s h
-    → StandsForPast p (checking_hears p again s tries at a) (past_idle_hears s None at a h)
-stands-checking p again s tries at (Token da sa) h of stands = stands-idle_hears p (lost s) None at (Token da sa) h of (in_phase s h (Idle None) tt stands)
-stands-checking p again s tries at (Framed f) h of stands = stands-idle_hears p (lost s) None at (Framed f) h of (in_phase s h (Idle None) tt stands)
-stands-checking p again s tries at Acknowledgement h of stands = in_phase s h (Idle None) tt stands
-stands-checking p again s tries at NoTelegram h of stands =
-    by_test (λ (x : Station). StandsForPast p x h) again _ (lost s) (λ _. in_phase s h _ tt stands) (λ _. in_phase s h (Idle None) tt stands)
+stands-ended : (p : Params) (s : Station) (ph : Phase) (at : ℕ) (a : Arrival) (h : Past) → IsOfStations a → HasCycles s → StandsForPast p (record s { phase = ph }) h
+    → StandsForPast p (phase_ended p (record s { phase = ph }) ph at a) (phase_past_ended (record s { phase = ph }) ph at a h)
+stands-ended p s Offline at a h of has stands = stands
+stands-ended p s PassiveIdle at a h of has stands = stands-passive_hears p (record s { phase = PassiveIdle }) at a h stands
+stands-ended p s (Listening doubled) at a h of has stands = stands-listening_hears p (record s { phase = Listening doubled }) doubled at a h of stands
+stands-ended p s (Idle refused) at a h of has stands = stands-idle_hears p (record s { phase = Idle refused }) refused at a h of stands
+stands-ended p s (Claim sent ready) at a h of has stands = stands-holder_hears (record s { phase = Claim sent ready }) a h of stands
+stands-ended p s (Use asked ready) at a h of has stands = stands-holder_hears (record s { phase = Use asked ready }) a h of stands
+stands-ended p s (AwaitData asked retry slot) at a h of has stands = stands-awaiting_data p (record s { phase = AwaitData asked retry slot }) asked slot at a h of has stands
+stands-ended p s (AwaitStatus asked slot) at a h of has stands = stands-awaiting p (record s { phase = AwaitStatus asked slot }) asked at a h stands.asks of stands
+stands-ended p s (Pass tries ready) at a h of has stands = stands-holder_hears (record s { phase = Pass tries ready }) a h of stands
+stands-ended p s (Checking tries) at a h of has stands = stands-holder_hears (record s { phase = Checking tries }) a h of stands
 
-stands-ended : (p : Params) (again : Bool) (s : Station) (ph : Phase) (at : ℕ) (a : Arrival) (h : Past) → IsOfStations a → HasCycles s → StandsForPast p (record s { phase = ph }) h
-    → StandsForPast p (phase_ended p again (record s { phase = ph }) ph at a) (phase_past_ended (record s { phase = ph }) ph at a h)
-stands-ended p again s Offline at a h of has stands = stands
-stands-ended p again s PassiveIdle at a h of has stands = stands-passive_hears p (record s { phase = PassiveIdle }) at a h stands
-stands-ended p again s (Listening doubled) at a h of has stands = stands-listening_hears p (record s { phase = Listening doubled }) doubled at a h of stands
-stands-ended p again s (Idle refused) at a h of has stands = stands-idle_hears p (record s { phase = Idle refused }) refused at a h of stands
-stands-ended p again s (Claim sent ready) at a h of has stands = stands-holder_hears (record s { phase = Claim sent ready }) a h of stands
-stands-ended p again s (Use asked ready) at a h of has stands = stands-holder_hears (record s { phase = Use asked ready }) a h of stands
-stands-ended p again s (AwaitData asked retry slot) at a h of has stands = stands-awaiting_data p (record s { phase = AwaitData asked retry slot }) asked slot at a h of has stands
-stands-ended p again s (AwaitStatus asked slot) at a h of has stands = stands-awaiting p (record s { phase = AwaitStatus asked slot }) asked at a h stands.asks of stands
-stands-ended p again s (Pass tries ready) at a h of has stands = stands-holder_hears (record s { phase = Pass tries ready }) a h of stands
-stands-ended p again s (Checking tries) at a h of has stands = stands-checking p again (record s { phase = Checking tries }) tries at a h of stands
-
-stands-heard : (p : Params) (again : Bool) (s : Station) (m : Mark) (h : Past) → HasCycles s → StandsForPast p s h → StandsForPast p (heard p again s m) (past_heard s m h)
-stands-heard p again s (Begin at seen) h has stands =
+stands-heard : (p : Params) (s : Station) (m : Mark) (h : Past) → HasCycles s → StandsForPast p s h → StandsForPast p (heard p s m) (past_heard s m h)
+stands-heard p s (Begin at seen) h has stands =
     record { address = stands.address; asks = asks-begun s.phase s.own.begin at stands.asks; las = stands.las; gap = stands.gap; rotation = stands.rotation; initiator = stands.initiator; retries = stands.retries; outcome = stands.outcome; responder = stands.responder }
-stands-heard p again s (End at seen chars) h has stands =
-    stands-ended p again (at_end s at) s.phase at (arrival_of chars) h (stations-arrival chars) has
+stands-heard p s (End at seen chars) h has stands =
+    stands-ended p (at_end s at) s.phase at (arrival_of chars) h (stations-arrival chars) has
     (record { address = stands.address; asks = stands.asks; las = stands.las; gap = stands.gap; rotation = stands.rotation; initiator = stands.initiator; retries = stands.retries; outcome = stands.outcome; responder = stands.responder })
 
-stands-after_mark : (p : Params) (again : Bool) (s : Station) (m : Mark) (h : Past) → HasCycles s → StandsForPast p s h → StandsForPast p (after_mark p again s m) (past_after_mark s m h)
-stands-after_mark p again s m h has stands =
-    by_one_test (StandsForPast p) (is_offline s.phase) s (heard p again s m) h (past_heard s m h) (λ _. stands) (λ _. stands-heard p again s m h has stands)
+stands-after_mark : (p : Params) (s : Station) (m : Mark) (h : Past) → HasCycles s → StandsForPast p s h → StandsForPast p (after_mark p s m) (past_after_mark s m h)
+stands-after_mark p s m h has stands =
+    by_one_test (StandsForPast p) (is_offline s.phase) s (heard p s m) h (past_heard s m h) (λ _. stands) (λ _. stands-heard p s m h has stands)
 
-stands-after_marks : (p : Params) (again : Bool) (s : Station) (marks : List Mark) (h : Past) → Sayable s → StandsForPast p s h
-    → StandsForPast p (after_marks p again s marks) (past_after_marks p again s marks h)
-stands-after_marks p again s [] h has stands = stands
-stands-after_marks p again s (m ∷ marks) h has stands =
+stands-after_marks : (p : Params) (s : Station) (marks : List Mark) (h : Past) → Sayable s → StandsForPast p s h
+    → StandsForPast p (after_marks p s marks) (past_after_marks p s marks h)
+stands-after_marks p s [] h has stands = stands
+stands-after_marks p s (m ∷ marks) h has stands =
     let x = after_timer p (moment_of m) s in
     let k = past_after_timer p (moment_of m) s h in
     let timed = reply-after_timer p (moment_of m) s has in
-    stands-after_marks p again (after_mark p again x m) marks (past_after_mark x m k) (reply-after_mark p again x m timed)
-    (stands-after_mark p again x m k timed.1 (stands-after_timer p (moment_of m) s h has.1 stands))
+    stands-after_marks p (after_mark p x m) marks (past_after_mark x m k) (reply-after_mark p x m timed)
+    (stands-after_mark p x m k timed.1 (stands-after_timer p (moment_of m) s h has.1 stands))
 
 -- ---- speech
 
@@ -485,13 +477,13 @@ stands-speech p s (Some moment) now h highest has stands =
 
 -- ---- a turn, and a start
 
-pub stands-turn_of : (p : Params) (again : Bool) (s : Station) (marks : List Mark) (now : ℕ) (h : Past) → p.hsa < 127 → Sayable s → StandsForPast p s h
-    → StandsForPast p (turn_of p again s marks now).0 (past_after_turn p again s marks now h)
-stands-turn_of p again s marks now h highest has stands =
-    let x = settled p again s marks now in
-    let k = past_after_timer p (now + 1) (after_marks p again s marks) (past_after_marks p again s marks h) in
-    stands-speech p x (speaks_at x) now k highest (reply-settled p again s marks now has).1
-    (stands-after_timer p (now + 1) (after_marks p again s marks) (past_after_marks p again s marks h) (reply-after_marks p again s marks has).1 (stands-after_marks p again s marks h has stands))
+pub stands-turn_of : (p : Params) (s : Station) (marks : List Mark) (now : ℕ) (h : Past) → p.hsa < 127 → Sayable s → StandsForPast p s h
+    → StandsForPast p (turn_of p s marks now).0 (past_after_turn p s marks now h)
+stands-turn_of p s marks now h highest has stands =
+    let x = settled p s marks now in
+    let k = past_after_timer p (now + 1) (after_marks p s marks) (past_after_marks p s marks h) in
+    stands-speech p x (speaks_at x) now k highest (reply-settled p s marks now has).1
+    (stands-after_timer p (now + 1) (after_marks p s marks) (past_after_marks p s marks h) (reply-after_marks p s marks has).1 (stands-after_marks p s marks h has stands))
 
 pub stands-started : (p : Params) (s : Station) (master : Bool) (now : ℕ) → s.address < 127 → StandsForPast p (started p s master now) nothing
 stands-started p s master now own = record {

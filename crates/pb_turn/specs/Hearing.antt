@@ -21,7 +21,7 @@ use Rattle.pb_cycles.specs.declared.services.Asked.TheVariants.{Send, Status, Un
 use Rattle.pb_turn.specs.Arrivals.{Arrival, Token, Framed, Acknowledgement, NoTelegram, arrival_of}
 use Rattle.pb_turn.specs.Marks.{Mark, Begin, End}
 use Rattle.pb_turn.specs.Phases.{Phase, Offline, PassiveIdle, Listening, Idle, Claim, Use, AwaitData, AwaitStatus, Pass, Checking, is_offline}
-use Rattle.pb_turn.specs.Stations.{Station, Reply, Cycles, timer_of, slot_timer, next_station, previous_station}
+use Rattle.pb_turn.specs.Stations.{Station, Reply, Cycles, timer_of, next_station, previous_station}
 
 -- ---- timers
 
@@ -90,7 +90,8 @@ after_timer p limit s = timed_out s (timer_of p s) limit
 
 -- ---- activity begins
 
--- The phase after activity has begun at a moment. A slot is over at the first Begin from the own telegram's beginning on.
+-- The phase after activity has begun at a moment. A slot is over at the first Begin from the own telegram's beginning on:
+-- one that checks takes any activity for a sign that its token was taken.
 abbrev pub phase_begun : Phase → ℕ → ℕ → Phase
 phase_begun Offline own at = Offline
 phase_begun PassiveIdle own at = PassiveIdle
@@ -101,7 +102,7 @@ phase_begun (Use asked ready) own at = Idle None
 phase_begun (AwaitData asked retry slot) own at = AwaitData asked None (slot && nat_lt at own)
 phase_begun (AwaitStatus of slot) own at = AwaitStatus of (slot && nat_lt at own)
 phase_begun (Pass tries ready) own at = Idle None
-phase_begun (Checking tries) own at = Checking tries
+phase_begun (Checking tries) own at = if nat_lt at own then Checking tries else Idle None
 
 -- a reply that is not sent yet is dropped
 abbrev pub begun : Station → ℕ → Station
@@ -210,7 +211,7 @@ idle_hears p s refused at (Framed f) = answering p s at f in_ring
 idle_hears p s refused at Acknowledgement = s
 idle_hears p s refused at NoTelegram = s
 
--- a holder that hears a token gives way, and takes note of it
+-- one that holds the token, or checks what became of it, takes note of a token that it hears, and does no more
 abbrev pub holder_hears : Station → Arrival → Station
 holder_hears s (Token da sa) = with_token s da sa
 holder_hears s (Framed f) = s
@@ -255,35 +256,28 @@ awaiting_data_hears p s asked slot at (Framed f) =
 awaiting_data_hears p s asked slot at Acknowledgement = data_told p s asked slot at message.Acknowledgement (outcome_of s.cycles.initiator (Some message.Acknowledgement))
 awaiting_data_hears p s asked slot at NoTelegram = no_reply p s asked slot at
 
--- Checking hears an end: a whole telegram is heard as in Idle. After anything else the choice says whether the token is passed again.
-abbrev pub checking_hears : Params → Bool → Station → ℕ → ℕ → Arrival → Station
-checking_hears p again s tries at (Token da sa) = idle_hears p (lost s) None at (Token da sa)
-checking_hears p again s tries at (Framed f) = idle_hears p (lost s) None at (Framed f)
-checking_hears p again s tries at Acknowledgement = lost s
-checking_hears p again s tries at NoTelegram = if again then record s { phase = Pass tries (max at (slot_timer p s)) } else lost s
-
 -- the station after activity has ended
-abbrev pub phase_ended : Params → Bool → Station → Phase → ℕ → Arrival → Station
-phase_ended p again s Offline at arrival = s
-phase_ended p again s PassiveIdle at arrival = passive_hears p s at arrival
-phase_ended p again s (Listening doubled) at arrival = listening_hears p s doubled at arrival
-phase_ended p again s (Idle refused) at arrival = idle_hears p s refused at arrival
-phase_ended p again s (Claim sent ready) at arrival = holder_hears s arrival
-phase_ended p again s (Use asked ready) at arrival = holder_hears s arrival
-phase_ended p again s (AwaitData asked retry slot) at arrival = awaiting_data_hears p s asked slot at arrival
-phase_ended p again s (AwaitStatus of slot) at arrival = awaiting_status_hears p s of at arrival
-phase_ended p again s (Pass tries ready) at arrival = holder_hears s arrival
-phase_ended p again s (Checking tries) at arrival = checking_hears p again s tries at arrival
+abbrev pub phase_ended : Params → Station → Phase → ℕ → Arrival → Station
+phase_ended p s Offline at arrival = s
+phase_ended p s PassiveIdle at arrival = passive_hears p s at arrival
+phase_ended p s (Listening doubled) at arrival = listening_hears p s doubled at arrival
+phase_ended p s (Idle refused) at arrival = idle_hears p s refused at arrival
+phase_ended p s (Claim sent ready) at arrival = holder_hears s arrival
+phase_ended p s (Use asked ready) at arrival = holder_hears s arrival
+phase_ended p s (AwaitData asked retry slot) at arrival = awaiting_data_hears p s asked slot at arrival
+phase_ended p s (AwaitStatus of slot) at arrival = awaiting_status_hears p s of at arrival
+phase_ended p s (Pass tries ready) at arrival = holder_hears s arrival
+phase_ended p s (Checking tries) at arrival = holder_hears s arrival
 
-abbrev pub ended : Params → Bool → Station → ℕ → Arrival → Station
-ended p again s at arrival = phase_ended p again (record s { busy = false; quiet = max s.quiet at; reply = None }) s.phase at arrival
+abbrev pub ended : Params → Station → ℕ → Arrival → Station
+ended p s at arrival = phase_ended p (record s { busy = false; quiet = max s.quiet at; reply = None }) s.phase at arrival
 
 -- ---- marks
 
-abbrev pub heard : Params → Bool → Station → Mark → Station
-heard p again s (Begin at seen) = begun s at
-heard p again s (End at seen chars) = ended p again s at (arrival_of chars)
+abbrev pub heard : Params → Station → Mark → Station
+heard p s (Begin at seen) = begun s at
+heard p s (End at seen chars) = ended p s at (arrival_of chars)
 
 -- the station after a mark; one that is offline notices nothing
-abbrev pub after_mark : Params → Bool → Station → Mark → Station
-after_mark p again s m = if is_offline s.phase then s else heard p again s m
+abbrev pub after_mark : Params → Station → Mark → Station
+after_mark p s m = if is_offline s.phase then s else heard p s m

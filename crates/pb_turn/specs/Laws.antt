@@ -8,25 +8,12 @@ use Rattle.pb_cycles.specs.Messages.{has_bit, address_in, frame_octets, reply_oc
 use Rattle.pb_cycles.specs.RequestFields.{RequestFields}
 use Rattle.pb_cycles.specs.Requests.{IsAddressed}
 use Rattle.pb_cycles.specs.declared.initiators.OpenRequest.{OpenRequest}
-use Rattle.pb_turn.specs.Arrivals.{Arrival, Token, Framed, Acknowledgement, NoTelegram}
 use Rattle.pb_turn.specs.Phases.{Phase, Offline, PassiveIdle, Listening, Idle, Claim, Use, AwaitData, AwaitStatus, Pass, Checking}
 use Rattle.pb_turn.specs.Stations.{Station, Cycles, Reply, due_of, speaks_at}
 
 -- a station without unread marks is due later than the clock, or not at all
 abbrev pub IsDueLater : Params → Station → ℕ → Type 0
 IsDueLater p s now = IfSome (due_of p s []) (λ due. now < due)
-
-abbrev pub is_checking : Phase → Bool
-is_checking Offline = false
-is_checking PassiveIdle = false
-is_checking (Listening doubled) = false
-is_checking (Idle refused) = false
-is_checking (Claim sent ready) = false
-is_checking (Use asked ready) = false
-is_checking (AwaitData asked retry slot) = false
-is_checking (AwaitStatus of slot) = false
-is_checking (Pass tries ready) = false
-is_checking (Checking tries) = true
 
 -- a phase in which nobody is asked for the status again before the next receipt
 abbrev pub HasAsked : Phase → Type 0
@@ -53,13 +40,6 @@ is_asking (AwaitData asked retry slot) = false
 is_asking (AwaitStatus of slot) = true
 is_asking (Pass tries ready) = false
 is_asking (Checking tries) = false
-
--- what a whole telegram brings
-abbrev pub is_whole : Arrival → Bool
-is_whole (Token da sa) = true
-is_whole (Framed f) = true
-is_whole Acknowledgement = true
-is_whole NoTelegram = false
 
 -- the reply of a station to a request for its status: its control octet, and whether the station joins the ring with it
 abbrev pub status_reply_of : Params → Station → ℕ → Fields → ℕ → Bool → Reply

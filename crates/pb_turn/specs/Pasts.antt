@@ -157,7 +157,7 @@ phase_past_ended s (Use asked ready) at arrival past = past_hears arrival past
 phase_past_ended s (AwaitData asked retry slot) at arrival past = past_awaiting_data s arrival past
 phase_past_ended s (AwaitStatus of slot) at arrival past = past_awaiting_status s of arrival past
 phase_past_ended s (Pass tries ready) at arrival past = past_hears arrival past
-phase_past_ended s (Checking tries) at arrival past = past_idle_hears s None at arrival past
+phase_past_ended s (Checking tries) at arrival past = past_hears arrival past
 
 abbrev pub past_heard : Station → Mark → Past → Past
 past_heard s (Begin at seen) past = past
@@ -166,11 +166,11 @@ past_heard s (End at seen chars) past = phase_past_ended s s.phase at (arrival_o
 abbrev pub past_after_mark : Station → Mark → Past → Past
 past_after_mark s m past = if is_offline s.phase then past else past_heard s m past
 
-abbrev pub past_after_marks : Params → Bool → Station → List Mark → Past → Past
-past_after_marks p again s [] past = past
-past_after_marks p again s (m ∷ ms) past =
+abbrev pub past_after_marks : Params → Station → List Mark → Past → Past
+past_after_marks p s [] past = past
+past_after_marks p s (m ∷ ms) past =
     let x = after_timer p (moment_of m) s in
-    past_after_marks p again (after_mark p again x m) ms (past_after_mark x m (past_after_timer p (moment_of m) s past))
+    past_after_marks p (after_mark p x m) ms (past_after_mark x m (past_after_timer p (moment_of m) s past))
 
 -- ---- speech
 
@@ -229,10 +229,10 @@ past_speech p s None now past = past
 past_speech p s (Some moment) now past = if nat_le moment now then phase_past_says p s s.phase now past else past
 
 -- what a station has heard, done, asked and received after a turn
-abbrev pub past_after_turn : Params → Bool → Station → List Mark → ℕ → Past → Past
-past_after_turn p again s marks now past =
-    let at_clock = settled p again s marks now in
-    past_speech p at_clock (speaks_at at_clock) now (past_after_timer p (now + 1) (after_marks p again s marks) (past_after_marks p again s marks past))
+abbrev pub past_after_turn : Params → Station → List Mark → ℕ → Past → Past
+past_after_turn p s marks now past =
+    let at_clock = settled p s marks now in
+    past_speech p at_clock (speaks_at at_clock) now (past_after_timer p (now + 1) (after_marks p s marks) (past_after_marks p s marks past))
 
 -- ---- what the tables stand for
 

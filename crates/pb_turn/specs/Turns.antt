@@ -17,13 +17,13 @@ use Rattle.pb_turn.specs.Phases.{Phase, Offline, PassiveIdle, Listening, Idle, C
 use Rattle.pb_turn.specs.Stations.{Station, Reply, speaks_at, next_station}
 
 -- the station after its unread marks, and the timers that end before each; a mark comes first at a tie
-abbrev pub after_marks : Params → Bool → Station → List Mark → Station
-after_marks p again s [] = s
-after_marks p again s (m ∷ ms) = after_marks p again (after_mark p again (after_timer p (moment_of m) s) m) ms
+abbrev pub after_marks : Params → Station → List Mark → Station
+after_marks p s [] = s
+after_marks p s (m ∷ ms) = after_marks p (after_mark p (after_timer p (moment_of m) s) m) ms
 
 -- the station at the clock, before it speaks
-abbrev pub settled : Params → Bool → Station → List Mark → ℕ → Station
-settled p again s marks now = after_timer p (now + 1) (after_marks p again s marks)
+abbrev pub settled : Params → Station → List Mark → ℕ → Station
+settled p s marks now = after_timer p (now + 1) (after_marks p s marks)
 
 -- ---- speech
 
@@ -181,5 +181,5 @@ speech p s None now = (s, None)
 speech p s (Some moment) now = if nat_le moment now then phase_says p s s.phase now else (s, None)
 
 -- the station after its turn, and what it says
-abbrev pub turn_of : Params → Bool → Station → List Mark → ℕ → Station × Option (List ℕ)
-turn_of p again s marks now = let at_clock = settled p again s marks now in speech p at_clock (speaks_at at_clock) now
+abbrev pub turn_of : Params → Station → List Mark → ℕ → Station × Option (List ℕ)
+turn_of p s marks now = let at_clock = settled p s marks now in speech p at_clock (speaks_at at_clock) now

@@ -9,97 +9,88 @@ ghost use Rattle.pb_turn.specs.Stations.{Station, timer_of, speaks_at, due_of, p
 ghost use Rattle.pb_turn.specs.Hearing.{phase_timed_out, after_mark};
 ghost use Rattle.pb_turn.specs.Turns.{after_marks, settled, phase_says, turn_of};
 ghost use Rattle.pb_turn.specs.Pasts.{Past, nothing, past_after_turn, StandsForPast};
-ghost use Rattle.pb_turn.specs.Laws.{IsDueLater, is_checking, Fits, IsRequest, are_initiator, HasReply, HasCycles, HasOpenRequest, IsSilentWhileBusy};
+ghost use Rattle.pb_turn.specs.Laws.{IsDueLater, Fits, IsRequest, are_initiator, HasReply, HasCycles, HasOpenRequest, IsSilentWhileBusy};
 
 /// After a turn the station is due later than the clock, or not at all.
 pub fn a_turn_leaves_the_due_later()
-    ensures { (p : Params) (again : Bool) (s : Station) (marks : List Mark) (now : ℕ) → IsDueLater p (turn_of p again s marks now).0 now }
+    ensures { (p : Params) (s : Station) (marks : List Mark) (now : ℕ) → IsDueLater p (turn_of p s marks now).0 now }
 {}
 
 /// A turn never changes the address of a station.
 pub fn a_turn_keeps_the_address()
-    ensures { (p : Params) (again : Bool) (s : Station) (marks : List Mark) (now : ℕ) → (turn_of p again s marks now).0.address ≡ s.address }
+    ensures { (p : Params) (s : Station) (marks : List Mark) (now : ℕ) → (turn_of p s marks now).0.address ≡ s.address }
 {}
 
 /// A turn with nothing to read and nothing due changes nothing and says nothing.
 pub fn nothing_due_changes_nothing()
-    ensures { (p : Params) (again : Bool) (s : Station) (now : ℕ) → IsDueLater p s now → turn_of p again s [] now ≡ (s, None) }
+    ensures { (p : Params) (s : Station) (now : ℕ) → IsDueLater p s now → turn_of p s [] now ≡ (s, None) }
 {}
 
 /// A station that is offline notices nothing and says nothing.
 pub fn who_is_offline_says_nothing()
-    ensures { (p : Params) (again : Bool) (s : Station) (marks : List Mark) (now : ℕ) → s.phase ≡ Offline → turn_of p again s marks now ≡ (s, None) }
+    ensures { (p : Params) (s : Station) (marks : List Mark) (now : ℕ) → s.phase ≡ Offline → turn_of p s marks now ≡ (s, None) }
 {}
 
 /// While a station is busy its timer waits, however late it is.
 pub fn a_busy_station_waits()
-    ensures { (p : Params) (again : Bool) (s : Station) (now : ℕ) → s.busy ≡ true → speaks_at s ≡ None → turn_of p again s [] now ≡ (s, None) }
+    ensures { (p : Params) (s : Station) (now : ℕ) → s.busy ≡ true → speaks_at s ≡ None → turn_of p s [] now ≡ (s, None) }
 {}
 
 /// A mark is ordered against the timer by its own moment, and comes first at a tie.
 pub fn a_mark_comes_before_a_timer_at_its_moment()
-    ensures mark { (p : Params) (again : Bool) (s : Station) (m : Mark) (marks : List Mark) → IfSome (timer_of p s) (λ t. moment_of m ≤ t)
-        → after_marks p again s (m ∷ marks) ≡ after_marks p again (after_mark p again s m) marks }
-    ensures timer { (p : Params) (again : Bool) (s : Station) (t : ℕ) (m : Mark) (marks : List Mark) → timer_of p s ≡ Some t → t < moment_of m
-        → after_marks p again s (m ∷ marks) ≡ after_marks p again (after_mark p again (phase_timed_out s s.phase t) m) marks }
+    ensures mark { (p : Params) (s : Station) (m : Mark) (marks : List Mark) → IfSome (timer_of p s) (λ t. moment_of m ≤ t)
+        → after_marks p s (m ∷ marks) ≡ after_marks p (after_mark p s m) marks }
+    ensures timer { (p : Params) (s : Station) (t : ℕ) (m : Mark) (marks : List Mark) → timer_of p s ≡ Some t → t < moment_of m
+        → after_marks p s (m ∷ marks) ≡ after_marks p (after_mark p (phase_timed_out s s.phase t) m) marks }
 {}
 
 /// A station that has passed the token, asked for a status, or sent a request that is answered waits for
 /// activity until a slot time after the end of its telegram.
 pub fn a_slot_counts_from_the_end()
-    ensures checking { (p : Params) (again : Bool) (s : Station) (marks : List Mark) (now tries : ℕ) (octets : List ℕ)
-        → (turn_of p again s marks now).1 ≡ Some octets → (turn_of p again s marks now).0.phase ≡ Checking tries → (turn_of p again s marks now).0.busy ≡ false
-        → due_of p (turn_of p again s marks now).0 [] ≡ Some (now + bits (length octets) + p.tsl) }
-    ensures asking { (p : Params) (again : Bool) (s : Station) (marks : List Mark) (now of : ℕ) (octets : List ℕ)
-        → (turn_of p again s marks now).1 ≡ Some octets → (turn_of p again s marks now).0.phase ≡ AwaitStatus of true → (turn_of p again s marks now).0.busy ≡ false
-        → due_of p (turn_of p again s marks now).0 [] ≡ Some (now + bits (length octets) + p.tsl) }
-    ensures requesting { (p : Params) (again : Bool) (s : Station) (marks : List Mark) (now : ℕ) (asked : Bool) (octets : List ℕ)
-        → (turn_of p again s marks now).1 ≡ Some octets → (turn_of p again s marks now).0.phase ≡ AwaitData asked None true → (turn_of p again s marks now).0.busy ≡ false
-        → due_of p (turn_of p again s marks now).0 [] ≡ Some (now + bits (length octets) + p.tsl) }
-{}
-
-/// Only a station in Checking asks whether the token is passed again, and an End takes it out of
-/// Checking: the choice is asked at most once in a turn.
-pub fn the_choice_is_asked_at_most_once()
-    ensures elsewhere { (p : Params) (a b : Bool) (s : Station) (marks : List Mark) → is_checking s.phase ≡ false
-        → after_marks p a s marks ≡ after_marks p b s marks }
-    ensures once { (p : Params) (again : Bool) (s : Station) (at seen : ℕ) (chars : List RxChar)
-        → is_checking (after_mark p again s (End at seen chars)).phase ≡ false }
+    ensures checking { (p : Params) (s : Station) (marks : List Mark) (now tries : ℕ) (octets : List ℕ)
+        → (turn_of p s marks now).1 ≡ Some octets → (turn_of p s marks now).0.phase ≡ Checking tries → (turn_of p s marks now).0.busy ≡ false
+        → due_of p (turn_of p s marks now).0 [] ≡ Some (now + bits (length octets) + p.tsl) }
+    ensures asking { (p : Params) (s : Station) (marks : List Mark) (now of : ℕ) (octets : List ℕ)
+        → (turn_of p s marks now).1 ≡ Some octets → (turn_of p s marks now).0.phase ≡ AwaitStatus of true → (turn_of p s marks now).0.busy ≡ false
+        → due_of p (turn_of p s marks now).0 [] ≡ Some (now + bits (length octets) + p.tsl) }
+    ensures requesting { (p : Params) (s : Station) (marks : List Mark) (now : ℕ) (asked : Bool) (octets : List ℕ)
+        → (turn_of p s marks now).1 ≡ Some octets → (turn_of p s marks now).0.phase ≡ AwaitData asked None true → (turn_of p s marks now).0.busy ≡ false
+        → due_of p (turn_of p s marks now).0 [] ≡ Some (now + bits (length octets) + p.tsl) }
 {}
 
 /// Speech is not optional: a station whose speaking moment has come, once it has read its marks and
 /// timers, says what its phase says, and no other says anything.
 pub fn a_station_that_is_due_speaks()
-    ensures due { (p : Params) (again : Bool) (s : Station) (marks : List Mark) (now moment : ℕ)
-        → speaks_at (settled p again s marks now) ≡ Some moment → moment ≤ now
-        → turn_of p again s marks now ≡ phase_says p (settled p again s marks now) (settled p again s marks now).phase now }
+    ensures due { (p : Params) (s : Station) (marks : List Mark) (now moment : ℕ)
+        → speaks_at (settled p s marks now) ≡ Some moment → moment ≤ now
+        → turn_of p s marks now ≡ phase_says p (settled p s marks now) (settled p s marks now).phase now }
     ensures speaks { (p : Params) (s : Station) (now moment : ℕ) → HasOpenRequest s → speaks_at s ≡ Some moment → IsSome (phase_says p s s.phase now).1 }
-    ensures not_due { (p : Params) (again : Bool) (s : Station) (marks : List Mark) (now : ℕ)
-        → IfSome (speaks_at (settled p again s marks now)) (λ moment. now < moment) → (turn_of p again s marks now).1 ≡ None }
+    ensures not_due { (p : Params) (s : Station) (marks : List Mark) (now : ℕ)
+        → IfSome (speaks_at (settled p s marks now)) (λ moment. now < moment) → (turn_of p s marks now).1 ≡ None }
 {}
 
 /// A station that listens takes no token, whatever it hears.
 pub fn one_that_listens_takes_no_token()
-    ensures { (p : Params) (again : Bool) (s : Station) (m : Mark) (doubled : Bool) → s.phase ≡ Listening doubled
-        → may_initiate (after_mark p again s m).phase ≡ false }
+    ensures { (p : Params) (s : Station) (m : Mark) (doubled : Bool) → s.phase ≡ Listening doubled
+        → may_initiate (after_mark p s m).phase ≡ false }
 {}
 
 /// A station in Idle that has refused nobody takes a token from its previous station alone.
 pub fn a_first_token_is_taken_from_the_previous_station()
-    ensures { (p : Params) (again : Bool) (s : Station) (at seen : ℕ) (chars : List RxChar) → s.phase ≡ Idle None
-        → may_initiate (after_mark p again s (End at seen chars)).phase ≡ true → arrival_of chars ≡ Token s.address (previous_station s) }
+    ensures { (p : Params) (s : Station) (at seen : ℕ) (chars : List RxChar) → s.phase ≡ Idle None
+        → may_initiate (after_mark p s (End at seen chars)).phase ≡ true → arrival_of chars ≡ Token s.address (previous_station s) }
 {}
 
 /// Nobody but a holder says a token or a request: a station that does, may initiate as it speaks.
 pub fn only_a_holder_initiates()
     ensures started { (p : Params) (s : Station) (master : Bool) (now : ℕ) → HasReply (started p s master now) }
-    ensures speech { (p : Params) (again : Bool) (s : Station) (marks : List Mark) (now : ℕ) → HasReply s → HasCycles s
-        → IfSome (turn_of p again s marks now).1 (λ octets. are_initiator octets ≡ true → may_initiate (settled p again s marks now).phase ≡ true) }
-    ensures reply { (p : Params) (again : Bool) (s : Station) (marks : List Mark) (now : ℕ) → HasReply s → HasCycles s → HasReply (turn_of p again s marks now).0 }
+    ensures speech { (p : Params) (s : Station) (marks : List Mark) (now : ℕ) → HasReply s → HasCycles s
+        → IfSome (turn_of p s marks now).1 (λ octets. are_initiator octets ≡ true → may_initiate (settled p s marks now).phase ≡ true) }
+    ensures reply { (p : Params) (s : Station) (marks : List Mark) (now : ℕ) → HasReply s → HasCycles s → HasReply (turn_of p s marks now).0 }
     ensures stopped { (s : Station) → HasReply (stopped s) }
     ensures pushed { (s : Station) (r : RequestFields) → HasReply s → HasReply (pushed s r) }
-    ensures fits { (p : Params) (again : Bool) (s : Station) (marks : List Mark) (now : ℕ) → HasReply s → HasCycles s
-        → IfSome (turn_of p again s marks now).1 (λ octets. (0 < length octets) × (length octets ≤ 255)) }
+    ensures fits { (p : Params) (s : Station) (marks : List Mark) (now : ℕ) → HasReply s → HasCycles s
+        → IfSome (turn_of p s marks now).1 (λ octets. (0 < length octets) × (length octets ≤ 255)) }
 {}
 
 /// What a station keeps of its message cycles can be said, in all that it does: the requests that wait and
@@ -108,7 +99,7 @@ pub fn only_a_holder_initiates()
 pub fn what_a_station_keeps_can_be_said()
     ensures new { (p : Params) (address : ℕ) (reply : List ℕ) → Fits reply → HasCycles (new_station p address reply) }
     ensures started { (p : Params) (s : Station) (master : Bool) (now : ℕ) → HasCycles s → HasCycles (started p s master now) }
-    ensures turn { (p : Params) (again : Bool) (s : Station) (marks : List Mark) (now : ℕ) → HasReply s → HasCycles s → HasCycles (turn_of p again s marks now).0 }
+    ensures turn { (p : Params) (s : Station) (marks : List Mark) (now : ℕ) → HasReply s → HasCycles s → HasCycles (turn_of p s marks now).0 }
     ensures stopped { (s : Station) → HasCycles s → HasCycles (stopped s) }
     ensures pushed { (s : Station) (r : RequestFields) → HasCycles s → IsRequest r → HasCycles (pushed s r) }
 {}
@@ -119,8 +110,8 @@ pub fn what_a_station_keeps_can_be_said()
 /// three anew, joining the ring the GAP and the rotation, and listening anew the list.
 pub fn the_tables_stand_for_what_was_heard_asked_and_received()
     ensures started { (p : Params) (s : Station) (master : Bool) (now : ℕ) → s.address < 127 → StandsForPast p (started p s master now) nothing }
-    ensures turn { (p : Params) (again : Bool) (s : Station) (marks : List Mark) (now : ℕ) (past : Past) → p.hsa < 127 → HasReply s → HasCycles s → StandsForPast p s past
-        → StandsForPast p (turn_of p again s marks now).0 (past_after_turn p again s marks now past) }
+    ensures turn { (p : Params) (s : Station) (marks : List Mark) (now : ℕ) (past : Past) → p.hsa < 127 → HasReply s → HasCycles s → StandsForPast p s past
+        → StandsForPast p (turn_of p s marks now).0 (past_after_turn p s marks now past) }
     ensures stopped { (p : Params) (s : Station) (past : Past) → StandsForPast p s past → StandsForPast p (stopped s) past }
     ensures pushed { (p : Params) (s : Station) (r : RequestFields) (past : Past) → StandsForPast p s past → StandsForPast p (pushed s r) past }
 {}
@@ -129,8 +120,8 @@ pub fn the_tables_stand_for_what_was_heard_asked_and_received()
 /// all that it does.
 pub fn who_waits_for_a_reply_has_an_open_request()
     ensures started { (p : Params) (s : Station) (master : Bool) (now : ℕ) → HasOpenRequest (started p s master now) }
-    ensures turn { (p : Params) (again : Bool) (s : Station) (marks : List Mark) (now : ℕ) → HasOpenRequest s → HasOpenRequest (turn_of p again s marks now).0 }
-    ensures settled { (p : Params) (again : Bool) (s : Station) (marks : List Mark) (now : ℕ) → HasOpenRequest s → HasOpenRequest (settled p again s marks now) }
+    ensures turn { (p : Params) (s : Station) (marks : List Mark) (now : ℕ) → HasOpenRequest s → HasOpenRequest (turn_of p s marks now).0 }
+    ensures settled { (p : Params) (s : Station) (marks : List Mark) (now : ℕ) → HasOpenRequest s → HasOpenRequest (settled p s marks now) }
     ensures stopped { (s : Station) → HasOpenRequest (stopped s) }
     ensures pushed { (s : Station) (r : RequestFields) → HasOpenRequest s → HasOpenRequest (pushed s r) }
 {}
@@ -138,9 +129,9 @@ pub fn who_waits_for_a_reply_has_an_open_request()
 /// A station that knows of activity says nothing: nobody speaks between a Begin that it has read and its End.
 pub fn a_busy_station_says_nothing()
     ensures started { (p : Params) (s : Station) (master : Bool) (now : ℕ) → IsSilentWhileBusy (started p s master now) }
-    ensures turn { (p : Params) (again : Bool) (s : Station) (marks : List Mark) (now : ℕ) → IsSilentWhileBusy s → IsSilentWhileBusy (turn_of p again s marks now).0 }
+    ensures turn { (p : Params) (s : Station) (marks : List Mark) (now : ℕ) → IsSilentWhileBusy s → IsSilentWhileBusy (turn_of p s marks now).0 }
     ensures stopped { (s : Station) → IsSilentWhileBusy (stopped s) }
     ensures pushed { (s : Station) (r : RequestFields) → IsSilentWhileBusy s → IsSilentWhileBusy (pushed s r) }
-    ensures silent { (p : Params) (again : Bool) (s : Station) (marks : List Mark) (now : ℕ) → IsSilentWhileBusy s
-        → (settled p again s marks now).busy ≡ true → turn_of p again s marks now ≡ (settled p again s marks now, None) }
+    ensures silent { (p : Params) (s : Station) (marks : List Mark) (now : ℕ) → IsSilentWhileBusy s
+        → (settled p s marks now).busy ≡ true → turn_of p s marks now ≡ (settled p s marks now, None) }
 {}

@@ -17,19 +17,35 @@ ghost use Rattle.pb_cycles.specs.declared.outcomes.Outcome.{Outcome};
 ghost use Rattle.pb_cycles.specs.declared.outcomes.Outcome.TheVariants.{Acked, NoAnswer};
 ghost use Rattle.pb_turn.specs.Arrivals.{Token, Framed, Acknowledgement, NoTelegram, arrival_of};
 ghost use Rattle.pb_turn.specs.Hearing.{phase_timed_out, listening_hears, idle_hears, awaiting_status_hears, awaiting_data_hears, passive_hears, asks_status, is_taken_from, after_mark};
-ghost use Rattle.pb_turn.specs.Laws.{HasAsked, is_asking, is_whole, status_reply_of, are_initiator, HasReply, HasCycles};
+ghost use Rattle.pb_turn.specs.Laws.{HasAsked, is_asking, status_reply_of, are_initiator, HasReply, HasCycles};
 ghost use Rattle.pb_turn.specs.Marks.{Mark, Begin, End};
 ghost use Rattle.pb_turn.specs.Phases.{Offline, PassiveIdle, Listening, Idle, Use, AwaitData, AwaitStatus, Pass, Checking, may_initiate, is_offline};
 ghost use Rattle.pb_turn.specs.Stations.{Station, timer_of, speaks_at, next_station, previous_station, list_for, pushed};
 ghost use Rattle.pb_turn.specs.Turns.{says_token, says_request, says_again, high_request, low_request, high_taken, low_taken, phase_says, turn_of, token_octets};
 
-/// The token is passed again only where no whole telegram came in the slot: one that is whole leaves no
-/// choice, and the station may initiate after it only where it is a token to it from its previous station.
-pub fn a_whole_telegram_ends_the_check()
-    ensures same { (p : Params) (a b : Bool) (s : Station) (tries at seen : ℕ) (chars : List RxChar) → s.phase ≡ Checking tries → is_whole (arrival_of chars) ≡ true
-        → after_mark p a s (End at seen chars) ≡ after_mark p b s (End at seen chars) }
-    ensures taken { (p : Params) (again : Bool) (s : Station) (tries at seen : ℕ) (chars : List RxChar) → s.phase ≡ Checking tries → is_whole (arrival_of chars) ≡ true
-        → may_initiate (after_mark p again s (End at seen chars)).phase ≡ true → arrival_of chars ≡ Token s.address (previous_station s) }
+/// A station that has passed the token on takes whatever begins from the beginning of its token on for a
+/// sign that it was taken, a telegram or not: it waits in Idle then, whatever else comes, and may initiate
+/// again only with a token to it from its previous station. What began before its token is no such sign.
+pub fn activity_ends_the_check()
+    ensures begun { (p : Params) (s : Station) (tries at seen : ℕ) → s.phase ≡ Checking tries → s.own.begin ≤ at
+        → after_mark p s (Begin at seen) ≡ record s { phase = Idle None; busy = true; reply = None } }
+    ensures in_slot { (p : Params) (s : Station) (tries at seen now : ℕ) (marks : List Mark) → s.phase ≡ Checking tries → s.own.begin ≤ at → at ≤ s.own.end + p.tsl
+        → turn_of p s (Begin at seen ∷ marks) now ≡ turn_of p (record s { phase = Idle None; busy = true; reply = None }) marks now }
+    ensures taken { (p : Params) (s : Station) (tries at seen until delivered : ℕ) (chars : List RxChar) → s.phase ≡ Checking tries → s.own.begin ≤ at
+        → may_initiate (after_mark p (after_mark p s (Begin at seen)) (End until delivered chars)).phase ≡ true → arrival_of chars ≡ Token s.address (previous_station s) }
+    ensures before { (p : Params) (s : Station) (tries at seen : ℕ) → s.phase ≡ Checking tries → at < s.own.begin
+        → after_mark p s (Begin at seen) ≡ record s { busy = true; reply = None } }
+    ensures heard { (p : Params) (s : Station) (m : Mark) (tries : ℕ) → s.phase ≡ Checking tries → may_initiate (after_mark p s m).phase ≡ false }
+{}
+
+/// Where nothing is heard, the token is passed again once its slot has ended and not before.
+pub fn a_token_is_passed_again_after_its_slot()
+    ensures waits { (p : Params) (s : Station) (tries now : ℕ) → now < s.own.end + p.tsl
+        → turn_of p (record s { phase = Checking tries; busy = false }) [] now ≡ (record s { phase = Checking tries; busy = false }, None) }
+    ensures again { (p : Params) (s : Station) (tries now : ℕ) → s.own.end + p.tsl ≤ now → tries < 3
+        → (turn_of p (record s { phase = Checking tries; busy = false }) [] now).1 ≡ Some (token_octets (next_station s) s.address) }
+    ensures given_up { (p : Params) (s : Station) (now : ℕ) → s.own.end + p.tsl ≤ now
+        → (turn_of p (record s { phase = Checking 3; busy = false }) [] now).1 ≡ Some (token_octets (next_station (record s { las = removed s.las (next_station s) })) s.address) }
 {}
 
 /// A token is tried three times at a successor; after the third silent slot the successor leaves the list.
@@ -46,13 +62,13 @@ pub fn a_token_is_tried_three_times()
 pub fn one_station_is_asked_per_receipt()
     ensures asked { (p : Params) (s : Station) (ready now : ℕ) → high_request s now ≡ None → low_request s now ≡ None
         → (phase_says p (record s { phase = Use true ready }) (Use true ready) now).1 ≡ Some (token_octets (next_station s) s.address) }
-    ensures heard { (p : Params) (again : Bool) (s : Station) (m : Mark) (of : ℕ) (slot : Bool) → s.phase ≡ AwaitStatus of slot → HasAsked (after_mark p again s m).phase }
+    ensures heard { (p : Params) (s : Station) (m : Mark) (of : ℕ) (slot : Bool) → s.phase ≡ AwaitStatus of slot → HasAsked (after_mark p s m).phase }
     ensures silence { (s : Station) (of t : ℕ) (slot : Bool) → phase_timed_out s (AwaitStatus of slot) t ≡ record s { phase = Use true t } }
     ensures no_more { (p : Params) (s : Station) (ready now : ℕ) → is_asking (phase_says p (record s { phase = Use true ready }) (Use true ready) now).0.phase ≡ false }
     ensures request { (p : Params) (s : Station) (r : RequestFields) (now : ℕ) → HasAsked (says_request p s true r now).0.phase }
     ensures retry { (s : Station) (f : Option Fields) (now : ℕ) → HasAsked (says_again s true f now).0.phase }
-    ensures request_heard { (p : Params) (again : Bool) (s : Station) (m : Mark) (retry : Option ℕ) (slot : Bool) → s.phase ≡ AwaitData true retry slot
-        → HasAsked (after_mark p again s m).phase }
+    ensures request_heard { (p : Params) (s : Station) (m : Mark) (retry : Option ℕ) (slot : Bool) → s.phase ≡ AwaitData true retry slot
+        → HasAsked (after_mark p s m).phase }
     ensures request_silence { (s : Station) (retry : Option ℕ) (slot : Bool) (t : ℕ) → HasAsked (phase_timed_out s (AwaitData true retry slot) t).phase }
 {}
 
@@ -128,16 +144,16 @@ pub fn what_is_only_told_waits_for_no_answer()
 
 /// A reply that is not sent yet is dropped where activity begins, and nobody else speaks then either.
 pub fn a_reply_is_dropped_where_activity_begins()
-    ensures reply { (p : Params) (again : Bool) (s : Station) (at seen : ℕ) → is_offline s.phase ≡ false → (after_mark p again s (Begin at seen)).reply ≡ None }
-    ensures silent { (p : Params) (again : Bool) (s : Station) (at seen : ℕ) → is_offline s.phase ≡ false → speaks_at (after_mark p again s (Begin at seen)) ≡ None }
+    ensures reply { (p : Params) (s : Station) (at seen : ℕ) → is_offline s.phase ≡ false → (after_mark p s (Begin at seen)).reply ≡ None }
+    ensures silent { (p : Params) (s : Station) (at seen : ℕ) → is_offline s.phase ≡ false → speaks_at (after_mark p s (Begin at seen)) ≡ None }
 {}
 
 /// Where nothing is heard, a request is sent again once its slot has ended and not before, in the same octets.
 pub fn a_request_is_sent_again_after_its_slot()
-    ensures waits { (p : Params) (again : Bool) (s : Station) (asked : Bool) (now : ℕ) → now < s.own.end + p.tsl
-        → turn_of p again (record s { phase = AwaitData asked None true; busy = false }) [] now ≡ (record s { phase = AwaitData asked None true; busy = false }, None) }
-    ensures again { (p : Params) (again : Bool) (s : Station) (asked : Bool) (now : ℕ) (f : Fields) → s.own.end + p.tsl ≤ now → retry_of s.cycles.initiator.pending ≡ Some f
-        → (turn_of p again (record s { phase = AwaitData asked None true; busy = false }) [] now).1 ≡ Some (frame_octets f) }
+    ensures waits { (p : Params) (s : Station) (asked : Bool) (now : ℕ) → now < s.own.end + p.tsl
+        → turn_of p (record s { phase = AwaitData asked None true; busy = false }) [] now ≡ (record s { phase = AwaitData asked None true; busy = false }, None) }
+    ensures again { (p : Params) (s : Station) (asked : Bool) (now : ℕ) (f : Fields) → s.own.end + p.tsl ≤ now → retry_of s.cycles.initiator.pending ≡ Some f
+        → (turn_of p (record s { phase = AwaitData asked None true; busy = false }) [] now).1 ≡ Some (frame_octets f) }
 {}
 
 /// A request without a retry left, to which nothing was heard in its slot, has the outcome "no answer": the
@@ -153,9 +169,9 @@ pub fn without_an_answer_the_next_request_is_a_first_one()
 
 /// A passive station stays one, whatever it hears, and says no token and no request.
 pub fn a_passive_station_only_replies()
-    ensures stays { (p : Params) (again : Bool) (s : Station) (marks : List Mark) (now : ℕ) → s.phase ≡ PassiveIdle → (turn_of p again s marks now).0.phase ≡ PassiveIdle }
-    ensures replies { (p : Params) (again : Bool) (s : Station) (marks : List Mark) (now : ℕ) → HasReply s → HasCycles s → s.phase ≡ PassiveIdle
-        → IfSome (turn_of p again s marks now).1 (λ octets. are_initiator octets ≡ false) }
+    ensures stays { (p : Params) (s : Station) (marks : List Mark) (now : ℕ) → s.phase ≡ PassiveIdle → (turn_of p s marks now).0.phase ≡ PassiveIdle }
+    ensures replies { (p : Params) (s : Station) (marks : List Mark) (now : ℕ) → HasReply s → HasCycles s → s.phase ≡ PassiveIdle
+        → IfSome (turn_of p s marks now).1 (λ octets. are_initiator octets ≡ false) }
 {}
 
 /// Requests of high priority go before those of low priority, and of each priority the one that has waited

@@ -1,6 +1,6 @@
 -- The part of a list behind a place, lent and given back.
 use Rattle.std.proofs.Common.{◌≡◌, ◌∙◌, ap, sym, arith, ℕ, ◌-◌, ◌++◌, List, length, map}
-use Rattle.std.specs.Prelude.{take, drop, Result, Ok, Err, OnOk, OnErr, IfOk}
+use Rattle.std.specs.Prelude.{take, drop, Result, Ok, Err, OnOk, OnErr, IfOk, IfErr}
 use Rattle.std.proofs.lemmas.List.{take_all, drop_all, take-map, drop-map, map-append, append-nil, length-drop}
 use borrow.Rule.Slice.PartMut.{put_mid}
 
@@ -31,6 +31,10 @@ on-err (Err e) f p = f p
 pub if-ok : {X F : Type 0} {P Q : X → Type 0} (r : Result X F) → ((x : X) → P x → Q x) → IfOk r P → IfOk r Q
 if-ok (Ok x) f p = f x p
 if-ok (Err e) f p = tt
+
+pub if-err : {X F : Type 0} {P Q : F → Type 0} (r : Result X F) → ((e : F) → P e → Q e) → IfErr r P → IfErr r Q
+if-err (Ok x) f p = tt
+if-err (Err e) f p = f e p
 
 -- a vector that was lent as a slice has what the slice ends with
 pub written-back : {X : Type 0} (n : ℕ) (xs ys : List X) → length xs ≡ n → length ys ≡ length xs → take n (ys ++ drop (length ys) xs) ≡ ys

@@ -1,8 +1,8 @@
 -- What has ended rides along: a step of the recent entries alone is a step of all.
-use Rattle.std.proofs.Common.{◌≡◌, ◌∙◌, ap, sym, refl, arith, ℕ, ◌+◌, ◌≤◌, ◌==◌, nat_lt, nat_le, ◌++◌, List, [], ◌∷◌, map, Bool, true, false, not, ◌&&◌, ◌||◌, cond, if◌then◌else◌, Option, Some, None, Ok, Err, Result}
+use Rattle.std.proofs.Common.{◌≡◌, ◌∙◌, ap, sym, refl, arith, ℕ, ◌+◌, ◌≤◌, ◌==◌, nat_lt, nat_le, ◌++◌, List, [], ◌∷◌, map, length, Bool, true, false, not, ◌&&◌, ◌||◌, cond, if◌then◌else◌, Option, Some, None, Ok, Err, Result}
 use Rattle.std.specs.Prelude.{take, drop, find, is_some, is_none, unwrap_or, slice_get, slice_set}
 use Rattle.std.specs.List.{list_any}
-use Rattle.std.proofs.lemmas.Bool.{le-ltb}
+use Rattle.std.proofs.lemmas.Bool.{le-ltb, ne_eqb}
 use Rattle.std.proofs.lemmas.List.{take-append-drop, map-append}
 use Rattle.std.proofs.lemmas.List.Folds.{list_any-append}
 use Rattle.pb_refusals.specs.FirstFault.{first_fault}
@@ -10,15 +10,18 @@ use Rattle.pb_timers.specs.Timers.{Params}
 use Rattle.pb_turn.specs.Spans.{Span}
 use Rattle.pb_turn.specs.Marks.{Mark}
 use Rattle.pb_turn.specs.Stations.{started}
-use Rattle.pb_model.specs.Trace.{Record, Entry, Sent, Noise, cut_end, cut_at}
+use Rattle.pb_model.specs.Trace.{Record, Entry, Sent, Noise, cut_end, cut_at, is_noise_at, noisy_until, begins_from, unheard_at}
 use Rattle.pb_model.specs.Medium.{Tap, is_unheard, new_marks, entry_at, reaches}
-use Rattle.pb_model.specs.World.{World, Reply, Fault, NoSuchTap, Running, NothingInAir, ZeroTime, TooFar, ClockFull, InboxFull, clock_limit, unless, unless_fault, next_end_of, is_in_air_by}
-use Rattle.pb_model.specs.Step.{told, first_full, is_past, step_pass, with_hit, change_first, has_place, step_damage, is_there, reaches_now, step_start}
+use Rattle.pb_model.specs.World.{World, Reply, Fault, NoSuchTap, Running, NothingInAir, ZeroTime, TooFar, ClockFull, InboxFull, TraceFull, clock_limit, unless, unless_fault, next_end_of, is_in_air_by}
+use Rattle.pb_model.specs.Step.{told, first_full, is_past, step_pass, with_hit, change_first, has_place, step_damage, is_there, reaches_now, step_start, with_noise, is_noisy, step_noise, step_unheard}
 use Rattle.pb_model.specs.Laws.{AllOver, AllFrom}
 use Rattle.pb_model.proofs.Cases.{by_test}
 use Rattle.pb_model.proofs.Past.{marks_between-skip, next_end_of-skip, trace_at-skip}
 use Rattle.pb_world.specs.Airs.{plain, IsCut}
+use Rattle.pb_world.specs.Losing.{has_nothing_to_lose}
+use Rattle.pb_world.specs.Noising.{has_noise, has_no_room}
 use Rattle.pb_world.specs.Senses.{at_once}
+use Rattle.pb_world.proofs.Entering.{entered-behind}
 
 -- ---- a world with old entries in front of its own, and other parameters
 
@@ -193,3 +196,58 @@ pub cut-whole : (now over tap : ℕ) (es : List Entry) → IsCut now over es →
 cut-whole now over tap es (m, later, some, old, begun) =
     ap (map (cut_at now tap)) (sym (take-append-drop over es)) ∙ map-append (cut_at now tap) (take over es) (drop over es)
     ∙ ap (λ xs. xs ++ map (cut_at now tap) (drop over es)) (over-uncut m now tap (take over es) old later)
+
+-- ---- Noise and Unheard
+
+-- no noise that is over is in the air
+over-silent : (m now : ℕ) (es : List Entry) → AllOver m es → m ≤ now → list_any (is_noise_at now) es ≡ false
+over-silent m now [] over later = refl
+over-silent m now (Noise span ∷ es) over later =
+    ap (λ (b : Bool). b || list_any (is_noise_at now) es) (le-ltb now span.end (omega (arith, over.1, later))) ∙ over-silent m now es over.2 later
+over-silent m now (Sent r ∷ es) over later = over-silent m now es over.2 later
+
+-- nothing that is over begins now
+over-begun : (m now speaker : ℕ) (es : List Entry) → AllOver m es → m ≤ now → list_any (begins_from now speaker) es ≡ false
+over-begun m now speaker [] over later = refl
+over-begun m now speaker (Noise span ∷ es) over later = over-begun m now speaker es over.2 later
+over-begun m now speaker (Sent r ∷ es) over later =
+    ap (λ (b : Bool). (r.tap == speaker && b) || list_any (begins_from now speaker) es) (ne_eqb r.begin now (λ same. omega (arith, same, over.0, over.1, later)))
+    ∙ ap (λ (b : Bool). b || list_any (begins_from now speaker) es) (and-false (r.tap == speaker)) ∙ over-begun m now speaker es over.2 later
+
+noise-behind : (m now end : ℕ) (noisy : Bool) (old recent : List Entry) → AllOver m old → m ≤ now → with_noise now end noisy (old ++ recent) ≡ old ++ with_noise now end noisy recent
+noise-behind m now end true old recent over later = changed-behind (is_noise_at now) (noisy_until end) old recent (over-silent m now old over later)
+noise-behind m now end false old recent over later = entered-behind m (Noise (record { begin = now; end = end })) old recent over later
+
+pub noisy-behind : (w : World) (over : ℕ) → IsCut w.now over w.trace → is_noisy w ≡ has_noise w.now (drop over w.trace)
+noisy-behind w over (m, later, some, old, begun) =
+    ap (list_any (is_noise_at w.now)) (sym (take-append-drop over w.trace))
+    ∙ any-behind (is_noise_at w.now) (take over w.trace) (drop over w.trace) (over-silent m w.now (take over w.trace) old later)
+
+pub noise-whole : (w : World) (over bits : ℕ) → IsCut w.now over w.trace
+    → step_noise w bits (is_noisy w) ≡ unless ((bits == 0, ZeroTime) ∷ (has_no_room (has_noise w.now (drop over w.trace)) (length w.trace), TraceFull) ∷ []) (
+      record w { trace = take over w.trace ++ with_noise w.now (w.now + bits) (has_noise w.now (drop over w.trace)) (drop over w.trace) },
+      record { now = w.now; spoke = None },
+    )
+noise-whole w over bits (m, later, some, old, begun) =
+    let noisy = has_noise w.now (drop over w.trace) in
+    let ending : List Entry → Result (World × Reply) Fault
+    = λ es. unless ((bits == 0, ZeroTime) ∷ (has_no_room noisy (length w.trace), TraceFull) ∷ []) (record w { trace = es }, record { now = w.now; spoke = None }) in
+    ap (step_noise w bits) (noisy-behind w over (m, later, some, old, begun))
+    ∙ ap (λ es. ending (with_noise w.now (w.now + bits) noisy es)) (sym (take-append-drop over w.trace))
+    ∙ ap ending (noise-behind m w.now (w.now + bits) noisy (take over w.trace) (drop over w.trace) old later)
+
+pub unheard-whole : (w : World) (over tap speaker : ℕ) (at from : Option Tap) → IsCut w.now over w.trace
+    → step_unheard w tap speaker at from ≡ unless ((is_none at || is_none from, NoSuchTap) ∷ (has_nothing_to_lose tap speaker w.now (drop over w.trace), NothingInAir) ∷ []) (
+      record w { trace = take over w.trace ++ change_first (begins_from w.now speaker) (unheard_at tap) (drop over w.trace) },
+      record { now = w.now; spoke = None },
+    )
+unheard-whole w over tap speaker at from (m, later, some, old, begun) =
+    let begins = begins_from w.now speaker in
+    let past = take over w.trace in
+    let recent = drop over w.trace in
+    let none = over-begun m w.now speaker past old later in
+    let ending : Bool → List Entry → Result (World × Reply) Fault
+    = λ b es. unless ((is_none at || is_none from, NoSuchTap) ∷ (tap == speaker || not b, NothingInAir) ∷ []) (record w { trace = es }, record { now = w.now; spoke = None }) in
+    ap (λ es. ending (list_any begins es) (change_first begins (unheard_at tap) es)) (sym (take-append-drop over w.trace))
+    ∙ ap (λ b. ending b (change_first begins (unheard_at tap) (past ++ recent))) (any-behind begins past recent none)
+    ∙ ap (ending (list_any begins recent)) (changed-behind begins (unheard_at tap) past recent none)

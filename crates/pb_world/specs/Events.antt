@@ -12,6 +12,8 @@ event_of (event.Damage tap speaker place) = model.Damage tap speaker place
 event_of (event.Start tap) = model.Start tap
 event_of (event.Stop tap) = model.Stop tap
 event_of (event.Queue tap request) = model.Queue tap request
+event_of (event.Noise bits) = model.Noise bits
+event_of (event.Unheard tap speaker) = model.Unheard tap speaker
 
 abbrev pub reply_of : Reply → model.Reply
 reply_of r = record { now = r.now; spoke = option_map (λ octets. octets.items) r.spoke }

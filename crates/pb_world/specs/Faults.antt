@@ -1,6 +1,7 @@
 -- The faults of a world, as numbers and as the model says them.
-use Rattle.std.specs.Prelude.{◌≡◌, ℕ, Bool, true, false, Result, Ok, Err, is_some}
+use Rattle.std.specs.Prelude.{◌≡◌, ℕ, Bool, true, false, Result, Ok, Err, is_some, not}
 use Rattle.pb_model.specs.World as model
+use Rattle.pb_model.specs.Step.{is_noisy}
 use Rattle.pb_world.specs.declared.faults.NewFault.{NewFault}
 use Rattle.pb_world.specs.declared.faults.NewFault.TheVariants as new
 use Rattle.pb_world.specs.declared.faults.WorldFault.{WorldFault}
@@ -42,19 +43,21 @@ world_fault model.QueueFull = fault.QueueFull
 world_fault (model.InboxFull tap) = fault.InboxFull tap
 world_fault model.TraceFull = fault.TraceFull
 
--- whether an event takes memory, with the reply that it would have: what a turn says, and damage, are kept
-abbrev pub takes_memory : model.Event → model.Reply → Bool
-takes_memory (model.Turn tap) reply = is_some reply.spoke
-takes_memory (model.Pass bits) reply = false
-takes_memory (model.Damage tap speaker place) reply = true
-takes_memory (model.Start tap) reply = false
-takes_memory (model.Stop tap) reply = false
-takes_memory (model.Queue tap request) reply = false
+-- whether an event takes memory, with the reply that it would have: what a turn says, damage, and new noise are kept
+abbrev pub takes_memory : model.World → model.Event → model.Reply → Bool
+takes_memory w (model.Turn tap) reply = is_some reply.spoke
+takes_memory w (model.Pass bits) reply = false
+takes_memory w (model.Damage tap speaker place) reply = true
+takes_memory w (model.Start tap) reply = false
+takes_memory w (model.Stop tap) reply = false
+takes_memory w (model.Queue tap request) reply = false
+takes_memory w (model.Noise bits) reply = not (is_noisy w)
+takes_memory w (model.Unheard tap speaker) reply = false
 
 -- why an event is refused, by what its step is: by its own fault; where it has none, for want of the memory that it takes
-abbrev pub Refuses : model.Event → Result (model.World × model.Reply) model.Fault → WorldFault → Type 0
-Refuses event (Err f) reason = reason ≡ world_fault f
-Refuses event (Ok next) reason = (takes_memory event next.1 ≡ true) × (reason ≡ fault.NoMemory)
+abbrev pub Refuses : model.World → model.Event → Result (model.World × model.Reply) model.Fault → WorldFault → Type 0
+Refuses w event (Err f) reason = reason ≡ world_fault f
+Refuses w event (Ok next) reason = (takes_memory w event next.1 ≡ true) × (reason ≡ fault.NoMemory)
 
 -- why there is no new world
 abbrev pub RefusesNew : {X : Type 0} → Result X model.NewFault → NewFault → Type 0

@@ -6,7 +6,10 @@ pub mod Airs
 pub mod Events
 pub mod Faults
 pub mod Worlds
+pub mod Tracing
 pub mod Turning
+pub mod Noising
+pub mod Losing
 pub mod Damaging
 pub mod Starting
 pub mod Stopping

@@ -1,5 +1,5 @@
 -- The turn of a tap.
-use Rattle.std.specs.Prelude.{◌≡◌, ℕ, ◌<◌, ◌≤◌, Bool, true, false, List, slice_get, Option, Some, None, is_some, nat_le, ◌&&◌}
+use Rattle.std.specs.Prelude.{◌≡◌, ℕ, Bool, true, false, List, slice_get, Option, Some, None, is_some, nat_le, ◌&&◌}
 use Rattle.std.specs.Option.{option_map}
 use Rattle.arrayvec.specs.ArrayVec.{ArrayVec}
 use Rattle.pb_model.specs.Trace.{Entry, Sent, with_entry}
@@ -17,7 +17,7 @@ octets_of said = option_map (λ octets. octets.items) said
 
 -- a turn of a tap's station, which reads all its marks; nothing else of the station changes
 abbrev pub Turns : Tap → ℕ → Turn → Type 0
-Turns t now turn = (again : Bool) × (turn_of t.station.params again t.station.station t.marks now ≡ (turn.after.station, octets_of turn.speak))
+Turns t now turn = (turn_of t.station.params t.station.station t.marks now ≡ (turn.after.station, octets_of turn.speak))
     × (turn.after ≡ record t.station { station = turn.after.station })
 
 -- the turn of the running tap at a position
@@ -29,12 +29,6 @@ abbrev pub RefusesTurn : List Tap → ℕ → WorldFault → Type 0
 RefusesTurn taps tap fault.NoSuchTap = slice_get taps tap ≡ None
 RefusesTurn taps tap fault.NotRunning = (t : Tap) × (slice_get taps tap ≡ Some t) × (t.running ≡ false)
 RefusesTurn taps tap other = ⊥
-
--- a trace of some length that takes no entry more: it is full, or memory was refused
-abbrev pub RefusesEntry : ℕ → WorldFault → Type 0
-RefusesEntry entries fault.TraceFull = 100000 ≤ entries
-RefusesEntry entries fault.NoMemory = entries < 100000
-RefusesEntry entries other = ⊥
 
 -- the entries with what a tap said, if anything
 abbrev pub with_said : ℕ → Option (List ℕ) → ℕ → List model.Tap → List Entry → List Entry

@@ -6,6 +6,8 @@ use crate::damaging::damage_recent;
 use crate::entries::{Entry, Hit};
 use crate::events::{Event, Reply};
 use crate::faults::WorldFault;
+use crate::losing::lose_recent;
+use crate::noising::make_noise;
 use crate::queueing::queue;
 use crate::recents::recent;
 use crate::starting::start;
@@ -53,6 +55,8 @@ impl Bus {
             Event::Start(tap) => self.start(tap),
             Event::Stop(tap) => self.stop(tap),
             Event::Queue { tap, request } => self.queue(tap, request),
+            Event::Noise(bits) => self.noise(bits),
+            Event::Unheard { tap, speaker } => self.unheard(tap, speaker),
         }
     }
 
@@ -126,6 +130,27 @@ impl Bus {
         ensures kept { IsKept self.new }
     {
         queue(&mut self.taps, tap, request)?;
+        Ok(silence(self.now))
+    }
+
+    fn noise(&mut self, bits: u32) -> Result<Reply, WorldFault>
+        requires { IsKept self.old }
+        ensures follows { Follows (world_of self.old) (events.Noise bits) result (world_of self.new) }
+        ensures kept { IsKept self.new }
+    {
+        make_noise(&mut self.trace, self.over, self.now, bits)?;
+        Ok(silence(self.now))
+    }
+
+    fn unheard(&mut self, tap: usize, speaker: usize) -> Result<Reply, WorldFault>
+        requires { IsKept self.old }
+        ensures follows { Follows (world_of self.old) (events.Unheard tap speaker) result (world_of self.new) }
+        ensures kept { IsKept self.new }
+    {
+        if tap >= self.taps.len() || speaker >= self.taps.len() {
+            return Err(WorldFault::NoSuchTap);
+        }
+        lose_recent(&mut self.trace, self.over, tap, speaker, self.now)?;
         Ok(silence(self.now))
     }
 

@@ -25,12 +25,21 @@ pub enum Event {
     Start(usize),
     /// The station at a tap stops: a telegram that it sends ends with the character that is on its way.
     Stop(usize),
+    /// Noise reaches every tap for some time, in bit times; noise that is in the air lasts so long at least.
+    Noise(u32),
     /// A request waits at the station of a tap.
     Queue {
         /// The tap.
         tap: usize,
         /// The request.
         request: Request,
+    },
+    /// The telegram that a speaker has begun at the clock never comes to a tap.
+    Unheard {
+        /// The tap that doesn't hear it.
+        tap: usize,
+        /// The tap that sends it.
+        speaker: usize,
     },
 }
 
@@ -53,9 +62,14 @@ impl Event {
             },
             Event::Start(tap) => Event::Start(*tap),
             Event::Stop(tap) => Event::Stop(*tap),
+            Event::Noise(bits) => Event::Noise(*bits),
             Event::Queue { tap, request } => Event::Queue {
                 tap: *tap,
                 request: request.copy(),
+            },
+            Event::Unheard { tap, speaker } => Event::Unheard {
+                tap: *tap,
+                speaker: *speaker,
             },
         }
     }

@@ -1,10 +1,8 @@
 //! Stations on one medium: the world, its events, and the trace of the bus.
 //!
 //! [`World::new`] takes the bus parameters and the taps; [`World::apply`] does an event (a station's turn,
-//! passing time, damage, a start) and answers what came of it. The trace, the clock, and each station with
+//! passing time, damage, noise, a start, a stop, a request) and answers what came of it. The trace, the clock, and each station with
 //! the moment of its next turn are read from it. All times are in bit times.
-//!
-//! Interim: a station that waits for a sign that its token was taken may pass it again after damage.
 #![tactic(auto)]
 
 mod buses;
@@ -14,8 +12,10 @@ mod entries;
 mod events;
 mod faults;
 mod inboxes;
+mod losing;
 mod making;
 mod moments;
+mod noising;
 mod passes;
 mod queueing;
 mod recents;
@@ -24,6 +24,7 @@ mod spans;
 mod starting;
 mod stopping;
 mod taps;
+mod tracing;
 mod turning;
 mod worlds;
 

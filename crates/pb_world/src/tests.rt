@@ -3,6 +3,7 @@ mod cycles;
 mod hearing;
 mod making;
 mod memory;
+mod noises;
 mod passing;
 mod queueing;
 mod reading;
@@ -166,7 +167,10 @@ fn has_news(world: &World, steps: &[Step]) -> bool {
 }
 
 fn begins_at(entry: &Entry, moment: u64) -> bool {
-    matches!(entry, Entry::Sent(record) if record.begin == moment)
+    match entry {
+        Entry::Sent(record) => record.begin == moment,
+        Entry::Noise { begin, .. } => *begin == moment,
+    }
 }
 
 /// When a tap has to take its turn, in bit times.

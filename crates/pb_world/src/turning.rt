@@ -8,19 +8,16 @@ ghost use Rattle.pb_world.specs.Entries.{entry_of, heard_of, record_of};
 ghost use Rattle.pb_model.specs.Laws.{AllInOrder, InOrder};
 ghost use Rattle.pb_world.specs.declared.taps.Tap as declared;
 ghost use Rattle.pb_world.specs.Taps.{tap_of};
-ghost use Rattle.pb_world.specs.Turning.{Turns, TurnsAt, RefusesTurn, RefusesEntry, RefusesSaid, octets_of, with_said, is_full};
+ghost use Rattle.pb_world.specs.Turning.{Turns, TurnsAt, RefusesTurn, RefusesSaid, octets_of, with_said, is_full};
 
 use crate::entries::{Entry, Heard, Record};
 use crate::faults::WorldFault;
-use crate::recents::recent;
 use crate::taps::Tap;
+use crate::tracing::put;
 use arrayvec::ArrayVec;
 use pb_station::{Station, Turn};
 use pb_timers::{Moment, bits};
 use std::alloc::Global;
-
-/// How many entries a trace may have.
-const TRACE_LIMIT: usize = 100_000;
 
 /// The turn of a tap's station, with the marks that it has not read.
 fn turn(tap: &Tap, now: Moment) -> Turn
@@ -136,33 +133,4 @@ pub(crate) struct Speaker {
     pub(crate) tap: usize,
     pub(crate) taps: usize,
     pub(crate) clock: Moment,
-}
-
-/// Puts an entry into the trace, among those that are not over.
-fn put(trace: &mut Vec<Entry>, over: usize, entry: Entry) -> Result<(), WorldFault>
-    requires { over ≤ length trace.old.items }
-    ensures ok { OnOk result (map entry_of trace.new.items ≡ take over (map entry_of trace.old.items) ++ with_entry (entry_of entry) (drop over (map entry_of trace.old.items))) }
-    ensures room { OnOk result (length trace.old.items < 100000) }
-    ensures err { OnErr result (trace.new.items ≡ trace.old.items) }
-    ensures fault { IfErr result (RefusesEntry (length trace.old.items)) }
-{
-    if trace.len() >= TRACE_LIMIT {
-        return Err(WorldFault::TraceFull);
-    }
-    let place = over + place_among(recent(trace, over), &entry);
-    trace.insert(place, entry)?;
-    Ok(())
-}
-
-/// Before how many of some entries an entry does not go: it stands right behind them.
-fn place_among(others: &[Entry], entry: &Entry) -> usize
-    ensures bound { result ≤ length others.now }
-    ensures place { with_entry (entry_of entry.now) (map entry_of others.now) ≡ insert (map entry_of others.now) result (entry_of entry.now) }
-{
-    for (place, other) in others.iter().enumerate() {
-        if entry.goes_before(other) {
-            return place;
-        }
-    }
-    others.len()
 }

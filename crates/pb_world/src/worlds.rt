@@ -84,6 +84,11 @@ impl World {
     ///   Faults: `NoSuchTap`; `NotRunning`.
     /// - `Queue`: a request waits at a master that runs, behind the others of its priority. Faults: `NoSuchTap`;
     ///   `NotRunning` for a tap that is stopped, or passive; `QueueFull` where 16 of its priority wait.
+    /// - `Noise`: something that is no telegram reaches every tap from the clock on, for some bit times; noise
+    ///   that is in the air ends then, if it would end before. Faults: `ZeroTime`; where no noise is in the air,
+    ///   `TraceFull` where the trace has 100,000 entries, and `NoMemory`.
+    /// - `Unheard`: the telegram that the speaker has begun at the clock never comes to a tap. Faults:
+    ///   `NoSuchTap`; `NothingInAir` where the speaker has begun none, or is the tap itself.
     pub fn apply(&mut self, alloc: Global, event: Event) -> Result<Reply, WorldFault>
         ensures { Follows self.old (event_of event) result self.new }
     {

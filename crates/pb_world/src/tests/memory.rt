@@ -28,6 +28,7 @@ fn refused_memory_in_a_world(rt: HostRuntime) -> Result<(), Fail> {
         Event::Turn(0),
         damage,
         Event::Stop(0),
+        Event::Noise(50),
     ] {
         let before = (world.now(), world.trace().len(), world.due(0));
         if let Err(fault) = world.apply(alloc, event) {

@@ -40,21 +40,21 @@ const TAKER_DAMAGED: &str = "1676 1709 tap 0 dc0201 -ww
 1746 1779 tap 1 dc0302 d-w
 ";
 
-/// The first of three masters in a ring hears only damage of the token that the second passes on. It is
-/// about to pass its own token again, and the third has the token.
+/// The first of three masters in a ring hears only damage of the token that the second passes on. That is sign
+/// enough that its own was taken: the third alone has the token.
 #[test]
-fn two_stations_hold_the_token(rt: HostRuntime) -> Result<(), Fail> {
+fn damage_makes_no_second_holder(rt: HostRuntime) -> Result<(), Fail> {
     let alloc = rt.alloc();
     let mut world = started(alloc, &[1, 2, 3])?;
     let steps = [(1747, damage(0, 1, None))];
     play(alloc, &mut world, &steps, 1779)?;
     assert!(rt; trace_text(alloc, &world)?.as_str().ends_with(TAKER_DAMAGED));
-    assert_eq!(rt; phase_name(&world, 0), Some("Pass"));
+    assert_eq!(rt; phase_name(&world, 0), Some("Idle"));
     assert_eq!(rt; phase_name(&world, 1), Some("Checking"));
     assert_eq!(rt; phase_name(&world, 2), Some("Use"));
-    assert_eq!(rt; due(&world, 0), Some(1809));
+    assert_eq!(rt; due(&world, 0), Some(2579));
     assert_eq!(rt; due(&world, 2), Some(1816));
-    for (tap, initiates) in [(0, true), (1, false), (2, true)] {
+    for (tap, initiates) in [(0, false), (1, false), (2, true)] {
         let may = world.station(tap).is_some_and(|s| s.phase().may_initiate());
         assert_eq!(rt; may, initiates, "tap {tap}");
     }

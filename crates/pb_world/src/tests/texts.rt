@@ -2,12 +2,13 @@ use crate::{Entry, Heard, Record, World};
 use std::alloc::{AllocError, Global};
 
 /// The trace, a line for each telegram: when it begins and ends, its tap, its octets in hex, and how each
-/// tap heard it.
+/// tap heard it; and one for each noise.
 pub(super) fn trace_text(alloc: Global, world: &World) -> Result<String, AllocError> {
     let mut text = String::new(alloc);
     for entry in world.trace() {
-        if let Entry::Sent(record) = entry {
-            write_line(&mut text, record)?;
+        match entry {
+            Entry::Sent(record) => write_line(&mut text, record)?,
+            Entry::Noise { begin, end } => writeln!(text, "{begin} {end} ~ noise")?,
         }
     }
     Ok(text)

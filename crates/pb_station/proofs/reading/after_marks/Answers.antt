@@ -1,12 +1,12 @@
 use Rattle.std.proofs.Common.{refl, ◌∙◌, map, arith, ◌≤◌, length}
 use Rattle.pb_station.specs.Cores.{station_of}
 use Rattle.pb_station.specs.MarkViews.{mark_of}
-use Rattle.pb_station.proofs.Choices.{read-more, read-all}
+use Rattle.pb_station.proofs.MarkByMark.{read-more, read-all}
 use Rattle.pb_station.proofs.Places.{left-at}
 use Rattle.pb_station.proofs.reading.after_marks.Goals as goal
 
 pub loop-mark-init : goal.loop-mark-init
-loop-mark-init c = λ again. (again, refl)
+loop-mark-init c = refl
 
 pub loop-mark-preserved : goal.loop-mark-preserved
 loop-mark-preserved c =

@@ -5,7 +5,7 @@ pub returns-clause-started : goal.returns-clause-started
 returns-clause-started c = stands-started
 
 pub returns-clause-turn : goal.returns-clause-turn
-returns-clause-turn c p again s marks now past highest reply cycles stands = stands-turn_of p again s marks now past highest (reply, cycles) stands
+returns-clause-turn c p s marks now past highest reply cycles stands = stands-turn_of p s marks now past highest (reply, cycles) stands
 
 pub returns-clause-stopped : goal.returns-clause-stopped
 returns-clause-stopped c = stands-stopped

@@ -9,7 +9,7 @@ pub returns-clause-started : goal.returns-clause-started
 returns-clause-started c = cycles-started
 
 pub returns-clause-turn : goal.returns-clause-turn
-returns-clause-turn c p again s marks now reply cycles = (reply-turn_of p again s marks now (reply, cycles)).1
+returns-clause-turn c p s marks now reply cycles = (reply-turn_of p s marks now (reply, cycles)).1
 
 pub returns-clause-stopped : goal.returns-clause-stopped
 returns-clause-stopped c s has = has

@@ -1,4 +1,4 @@
-use Rattle.std.proofs.Common.{◌≡◌, ◌∙◌, ap, sym, subst, true, false, Bool, ◌||◌, ◌++◌, ◌<◌, length, map, arith, Ok}
+use Rattle.std.proofs.Common.{◌≡◌, ◌∙◌, ap, sym, subst, true, ◌++◌, ◌<◌, length, map, arith, Ok}
 use Rattle.std.specs.Prelude.{slice_get, is_none, take, drop}
 use Rattle.std.proofs.lemmas.List.{length-map}
 use Rattle.pb_model.specs.Step.{change_first, with_hit}
@@ -11,11 +11,8 @@ use Rattle.pb_world.specs.Events.{reply_of}
 use Rattle.pb_world.specs.Senses.{at_once}
 use Rattle.pb_world.specs.Taps.{tap_of}
 use Rattle.pb_world.proofs.Behind.{written-back}
-use Rattle.pb_world.proofs.Stepping.{is-there, in-err, cut-with, from-changed, sound-after, damage-done, damage-refused}
+use Rattle.pb_world.proofs.Stepping.{both-there, is-there, in-err, cut-with, from-changed, begin-with_hit, sound-after, damage-done, damage-refused}
 use Rattle.pb_world.proofs.buses.Bus.damage.Goals as goal
-
-both-there : (a b : Bool) → a ≡ false → b ≡ false → (a || b) ≡ false
-both-there a b x y = ap (λ (p : Bool). p || b) x ∙ y
 
 pub returns-in_err-damage_recent-clause-follows : goal.returns-in_err-damage_recent-clause-follows
 returns-in_err-damage_recent-clause-follows c =
@@ -30,12 +27,10 @@ returns-in_err-damage_recent-clause-follows c =
     let there = both-there (is_none at) (is_none from) (is-there w.taps hit.tap one) (is-there w.taps c.args.speaker two) in
     let items = c.deref_mut.ensures.value in
     let refused = subst (λ xs. RefusesHit (can_hit c.args.speaker bus.now (hit_of hit) (drop bus.over (map entry_of xs))) c.in_err-damage_recent.field-0.0) items c.in_err-damage_recent.ensures.fault in
-    let back = written-back bus.trace.len bus.trace.items c.damage_recent.new.trace (ap length (sym items) ∙ c.deref_mut.ensures.len) (c.damage_recent.ensures.length ∙ ap length items) in (
-      true,
-      in-err _ _ c.from_residual.result c.in_err-damage_recent.field-0.0 c.from_residual.ensures.0 c.from_residual.ensures.1 (
-        ap (λ es. record w { trace = es }) (ap (map entry_of) back ∙ c.in_err-damage_recent.ensures.err ∙ ap (map entry_of) items),
-        damage-refused w bus.over hit.tap c.args.speaker hit.place at from _ c.requires.sound.no_delay c.requires.cut there refused,
-      ),
+    let back = written-back bus.trace.len bus.trace.items c.damage_recent.new.trace (ap length (sym items) ∙ c.deref_mut.ensures.len) (c.damage_recent.ensures.length ∙ ap length items) in
+    in-err _ _ c.from_residual.result c.in_err-damage_recent.field-0.0 c.from_residual.ensures.0 c.from_residual.ensures.1 (
+      ap (λ es. record w { trace = es }) (ap (map entry_of) back ∙ c.in_err-damage_recent.ensures.err ∙ ap (map entry_of) items),
+      damage-refused w bus.over hit.tap c.args.speaker hit.place at from _ c.requires.sound.no_delay c.requires.cut there refused,
     )
 
 pub returns-clause-follows : goal.returns-clause-follows
@@ -53,12 +48,10 @@ returns-clause-follows c =
     let can = subst (λ xs. can_hit c.args.speaker bus.now (hit_of hit) (drop bus.over (map entry_of xs)) ≡ true) items c.in_ok-damage_recent.ensures.found in
     let hits = subst (λ xs. map entry_of c.damage_recent.new.trace ≡ take bus.over (map entry_of xs) ++ change_first (is_in_air_by at_once bus.now c.args.speaker) (with_hit (hit_of hit)) (drop bus.over (map entry_of xs)))
     items c.in_ok-damage_recent.ensures.ok in
-    let back = written-back bus.trace.len bus.trace.items c.damage_recent.new.trace (ap length (sym items) ∙ c.deref_mut.ensures.len) (c.damage_recent.ensures.length ∙ ap length items) in (
-      true,
-      damage-done w bus.over hit.tap c.args.speaker hit.place at from c.requires.sound.no_delay c.requires.cut there can
-          ∙ ap (λ r. Ok (record w { trace = take bus.over w.trace ++ change_first (is_in_air_by at_once bus.now c.args.speaker) (with_hit (hit_of hit)) (drop bus.over w.trace) }, r)) (sym c.silence.ensures)
-          ∙ ap (λ es. Ok (record w { trace = es }, reply_of c.silence.result)) (sym hits ∙ ap (map entry_of) (sym back)),
-    )
+    let back = written-back bus.trace.len bus.trace.items c.damage_recent.new.trace (ap length (sym items) ∙ c.deref_mut.ensures.len) (c.damage_recent.ensures.length ∙ ap length items) in
+    damage-done w bus.over hit.tap c.args.speaker hit.place at from c.requires.sound.no_delay c.requires.cut there can
+    ∙ ap (λ r. Ok (record w { trace = take bus.over w.trace ++ change_first (is_in_air_by at_once bus.now c.args.speaker) (with_hit (hit_of hit)) (drop bus.over w.trace) }, r)) (sym c.silence.ensures)
+    ∙ ap (λ es. Ok (record w { trace = es }, reply_of c.silence.result)) (sym hits ∙ ap (map entry_of) (sym back))
 
 pub returns-clause-kept : goal.returns-clause-kept
 returns-clause-kept c =
@@ -71,10 +64,10 @@ returns-clause-kept c =
     let hits = subst (λ xs. map entry_of c.damage_recent.new.trace ≡ take bus.over (map entry_of xs) ++ change_first test (with_hit (hit_of hit)) (drop bus.over (map entry_of xs)))
     items c.in_ok-damage_recent.ensures.ok in
     record {
-      sound = sound-after true w (Damage hit.tap c.args.speaker hit.place) _ _ (returns-clause-follows c).1 tt c.requires.sound;
+      sound = sound-after w (Damage hit.tap c.args.speaker hit.place) _ _ (returns-clause-follows c) tt c.requires.sound;
       clock = c.requires.clock;
       room = c.requires.room;
       seats = c.requires.seats;
       cut = subst (IsCut w.now bus.over) (sym hits ∙ ap (map entry_of) (sym back))
-          (cut-with w.now bus.over w.trace (change_first test (with_hit (hit_of hit)) (drop bus.over w.trace)) (λ m at from. from-changed m test (hit_of hit) (drop bus.over w.trace) from) c.requires.cut);
+          (cut-with w.now bus.over w.trace (change_first test (with_hit (hit_of hit)) (drop bus.over w.trace)) (λ m at from. from-changed m test (with_hit (hit_of hit)) (drop bus.over w.trace) (begin-with_hit (hit_of hit)) from) c.requires.cut);
     }

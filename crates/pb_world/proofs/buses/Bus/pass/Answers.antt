@@ -1,4 +1,4 @@
-use Rattle.std.proofs.Common.{◌∙◌, ap, sym, subst, true, length, map, Ok, arith, ◌++◌}
+use Rattle.std.proofs.Common.{◌∙◌, ap, sym, subst, length, map, Ok, arith, ◌++◌}
 use Rattle.std.specs.Prelude.{take, drop}
 use Rattle.pb_model.specs.Laws.{AllBegun, IsSound}
 use Rattle.pb_model.specs.Step.{step_pass}
@@ -32,15 +32,13 @@ returns-in_err-self-clause-follows c =
     let taps-back = written-back bus.taps.len bus.taps.items c.pass_recent.new.taps (ap length (sym items) ∙ c.deref_mut-2.ensures.len) (as-many seat_of c.pass_recent.new.taps c.deref_mut-2.result.now c.pass_recent.ensures.seats ∙ ap length items) in
     let same = air-recent bus.params bus.now bus.over bus.trace.items (drop bus.over c.deref_mut.result.now) bus.taps.items c.deref_mut-2.result.now
     (ap (drop bus.over) entries) items in
-    let reason = c.in_err-self.field-0.0 in (
-      true,
-      in-err _ _ c.from_residual.result reason c.from_residual.ensures.0 c.from_residual.ensures.1 (
-        ap (λ es. record w { trace = es; taps = map tap_of (take bus.taps.len (c.pass_recent.new.taps ++ drop (length c.pass_recent.new.taps) bus.taps.items)) })
-            (ap (map entry_of) trace-back ∙ c.in_err-self.ensures.err.0 ∙ ap (map entry_of) entries)
-            ∙ ap (λ ts. record w { taps = map tap_of ts }) (taps-back ∙ c.in_err-self.ensures.err.1 ∙ items),
-        pass-refused w bus.over c.args.bits reason c.requires.sound.no_delay c.requires.cut
-            (subst (λ (x : World). IsFault (step_pass x c.args.bits) reason) same c.in_err-self.ensures.fault),
-      ),
+    let reason = c.in_err-self.field-0.0 in
+    in-err _ _ c.from_residual.result reason c.from_residual.ensures.0 c.from_residual.ensures.1 (
+      ap (λ es. record w { trace = es; taps = map tap_of (take bus.taps.len (c.pass_recent.new.taps ++ drop (length c.pass_recent.new.taps) bus.taps.items)) })
+          (ap (map entry_of) trace-back ∙ c.in_err-self.ensures.err.0 ∙ ap (map entry_of) entries)
+          ∙ ap (λ ts. record w { taps = map tap_of ts }) (taps-back ∙ c.in_err-self.ensures.err.1 ∙ items),
+      pass-refused w bus.over c.args.bits reason c.requires.sound.no_delay c.requires.cut
+          (subst (λ (x : World). IsFault (step_pass x c.args.bits) reason) same c.in_err-self.ensures.fault),
     )
 
 pub returns-clause-follows : goal.returns-clause-follows
@@ -58,13 +56,11 @@ returns-clause-follows c =
     let taps = map tap_of c.pass_recent.new.taps in
     let passes = subst (λ (x : World). PassesTo x c.args.bits (take bus.over w.trace) to after taps) same
     (subst (λ xs. PassesTo (air bus.now (drop bus.over c.deref_mut.result.now) c.deref_mut-2.result.now) c.args.bits (take bus.over (map entry_of xs)) to after taps) entries
-    c.in_ok-self.ensures.ok) in (
-      true,
-      pass-done w bus.over c.args.bits to after taps c.requires.sound.no_delay c.requires.cut passes
-          ∙ ap (λ r. Ok (record w { now = to; trace = after; taps = taps }, r)) (sym c.silence.ensures)
-          ∙ ap (λ xs. Ok (record w { now = to; trace = map entry_of xs; taps = taps }, reply_of c.silence.result)) (sym trace-back)
-          ∙ ap (λ ts. Ok (record w { now = to; trace = map entry_of (take bus.trace.len (c.pass_recent.new.trace ++ drop (length c.pass_recent.new.trace) bus.trace.items)); taps = map tap_of ts }, reply_of c.silence.result)) (sym taps-back),
-    )
+    c.in_ok-self.ensures.ok) in
+    pass-done w bus.over c.args.bits to after taps c.requires.sound.no_delay c.requires.cut passes
+    ∙ ap (λ r. Ok (record w { now = to; trace = after; taps = taps }, r)) (sym c.silence.ensures)
+    ∙ ap (λ xs. Ok (record w { now = to; trace = map entry_of xs; taps = taps }, reply_of c.silence.result)) (sym trace-back)
+    ∙ ap (λ ts. Ok (record w { now = to; trace = map entry_of (take bus.trace.len (c.pass_recent.new.trace ++ drop (length c.pass_recent.new.trace) bus.trace.items)); taps = map tap_of ts }, reply_of c.silence.result)) (sym taps-back)
 
 pub returns-clause-kept : goal.returns-clause-kept
 returns-clause-kept c =
@@ -82,7 +78,7 @@ returns-clause-kept c =
     let passes = subst (λ (x : World). PassesTo x c.args.bits (take bus.over w.trace) to after taps) same
     (subst (λ xs. PassesTo (air bus.now (drop bus.over c.deref_mut.result.now) c.deref_mut-2.result.now) c.args.bits (take bus.over (map entry_of xs)) to after taps) entries
     c.in_ok-self.ensures.ok) in
-    let sound = sound-after true w (Pass c.args.bits) _ _ (returns-clause-follows c).1 tt c.requires.sound in
+    let sound = sound-after w (Pass c.args.bits) _ _ (returns-clause-follows c) tt c.requires.sound in
     let cut = subst (λ xs. IsCut w.now bus.over (map entry_of xs)) (sym trace-back) (cut-passed w bus.over c.args.bits to after taps c.requires.cut passes) in
     let seen = c.deref.ensures.value in
     record {

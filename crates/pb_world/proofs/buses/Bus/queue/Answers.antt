@@ -1,4 +1,4 @@
-use Rattle.std.proofs.Common.{◌≡◌, ◌∙◌, ap, sym, subst, refl, true, ℕ, List, length, map, Ok, arith, None}
+use Rattle.std.proofs.Common.{◌≡◌, ◌∙◌, ap, sym, subst, refl, ℕ, List, length, map, Ok, arith, None}
 use Rattle.std.specs.Prelude.{slice_get}
 use Rattle.std.specs.Option.{option_map}
 use Rattle.std.proofs.lemmas.List.{length-set, map-set}
@@ -21,7 +21,7 @@ use Rattle.pb_world.proofs.Stepping.{in-err, sound-after, queue-done, queue-miss
 use Rattle.pb_world.proofs.buses.Bus.queue.Goals as goal
 
 refused : (b : Bus) (i : ℕ) (r : RequestFields) (reason : WorldFault) → RefusesQueue b.taps.items i r reason
-    → Refuses (Queue i r) (step_queue (world_of b) i r (slice_get (world_of b).taps i)) reason
+    → Refuses (world_of b) (Queue i r) (step_queue (world_of b) i r (slice_get (world_of b).taps i)) reason
 refused b i r fault.NoSuchTap missing = queue-missing (world_of b) i r (slice_get-map tap_of b.taps.items i ∙ ap (option_map tap_of) missing)
 refused b i r fault.NotRunning (t, at, idle) = queue-idle (world_of b) i r (tap_of t) (slice_get-map tap_of b.taps.items i ∙ ap (option_map tap_of) at) idle
 refused b i r fault.QueueFull (t, at, takes, full) = queue-full (world_of b) i r (tap_of t) (slice_get-map tap_of b.taps.items i ∙ ap (option_map tap_of) at) takes full
@@ -49,12 +49,10 @@ returns-in_err-queue-clause-follows c =
     let kept = c.in_err-queue.ensures.err in
     let back = written-back bus.taps.len bus.taps.items c.queue.new.taps (ap length (sym items) ∙ c.deref_mut.ensures.len) (ap length (kept ∙ items)) in
     let reason = c.in_err-queue.field-0.0 in
-    let why = subst (λ ts. RefusesQueue ts c.args.tap c.args.request reason) items c.in_err-queue.ensures.fault in (
-      true,
-      in-err _ _ c.from_residual.result reason c.from_residual.ensures.0 c.from_residual.ensures.1 (
-        ap (λ ts. record w { taps = map tap_of ts }) (back ∙ kept ∙ items),
-        refused bus c.args.tap c.args.request reason why,
-      ),
+    let why = subst (λ ts. RefusesQueue ts c.args.tap c.args.request reason) items c.in_err-queue.ensures.fault in
+    in-err _ _ c.from_residual.result reason c.from_residual.ensures.0 c.from_residual.ensures.1 (
+      ap (λ ts. record w { taps = map tap_of ts }) (back ∙ kept ∙ items),
+      refused bus c.args.tap c.args.request reason why,
     )
 
 pub returns-clause-follows : goal.returns-clause-follows
@@ -64,12 +62,10 @@ returns-clause-follows c =
     let items = c.deref_mut.ensures.value in
     let next = c.queue.new.taps in
     let takes = subst (λ ts. IsQueued ts c.args.tap c.args.request next) items c.in_ok-queue.ensures.ok in
-    let back = written-back bus.taps.len bus.taps.items next (ap length (sym items) ∙ c.deref_mut.ensures.len) (size bus c.args.tap c.args.request next takes) in (
-      true,
-      done bus c.args.tap c.args.request next takes
-          ∙ ap (λ r. Ok (record w { taps = map tap_of next }, r)) (sym c.silence.ensures)
-          ∙ ap (λ ts. Ok (record w { taps = map tap_of ts }, reply_of c.silence.result)) (sym back),
-    )
+    let back = written-back bus.taps.len bus.taps.items next (ap length (sym items) ∙ c.deref_mut.ensures.len) (size bus c.args.tap c.args.request next takes) in
+    done bus c.args.tap c.args.request next takes
+    ∙ ap (λ r. Ok (record w { taps = map tap_of next }, r)) (sym c.silence.ensures)
+    ∙ ap (λ ts. Ok (record w { taps = map tap_of ts }, reply_of c.silence.result)) (sym back)
 
 pub returns-clause-kept : goal.returns-clause-kept
 returns-clause-kept c =
@@ -79,7 +75,7 @@ returns-clause-kept c =
     let takes = subst (λ ts. IsQueued ts c.args.tap c.args.request next) items c.in_ok-queue.ensures.ok in
     let back = written-back bus.taps.len bus.taps.items next (ap length (sym items) ∙ c.deref_mut.ensures.len) (size bus c.args.tap c.args.request next takes) in
     record {
-      sound = sound-after true (world_of bus) (Queue c.args.tap c.args.request) _ _ (returns-clause-follows c).1 c.queue.ensures.request c.requires.sound;
+      sound = sound-after (world_of bus) (Queue c.args.tap c.args.request) _ _ (returns-clause-follows c) c.queue.ensures.request c.requires.sound;
       clock = c.requires.clock;
       room = omega (arith, ap length back, size bus c.args.tap c.args.request next takes, c.requires.room);
       seats = subst (λ ts. AreSeated bus.params 0 (map seat_of ts)) (sym back) (seated bus c.args.tap c.args.request next c.requires takes);

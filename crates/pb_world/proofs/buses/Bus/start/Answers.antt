@@ -26,7 +26,7 @@ use Rattle.pb_world.proofs.Widening.{started_amid}
 use Rattle.pb_world.proofs.buses.Bus.start.Goals as goal
 
 refused : (b : Bus) (i : ℕ) (reason : WorldFault) → IsKept b → RefusesStart b.now (drop b.over (map entry_of b.trace.items)) b.taps.items i reason
-    → Refuses (Start i) (step_start (world_of b) i (slice_get (world_of b).taps i)) reason
+    → Refuses (world_of b) (Start i) (step_start (world_of b) i (slice_get (world_of b).taps i)) reason
 refused b i fault.NoSuchTap kept missing = start-missing (world_of b) i (slice_get-map tap_of b.taps.items i ∙ ap (option_map tap_of) missing)
 refused b i fault.Running kept (t, at, up) =
     start-running (world_of b) b.over i (tap_of t) kept.sound.no_delay kept.cut (slice_get-map tap_of b.taps.items i ∙ ap (option_map tap_of) at) up
@@ -64,12 +64,10 @@ returns-in_err-start-clause-follows c =
     let entries = ap (map entry_of) (c.recent.ensures ∙ ap (drop bus.over) c.deref.ensures.value) ∙ sym (drop-map entry_of bus.over bus.trace.items) in
     let reason = c.in_err-start.field-0.0 in
     let why = subst (λ (es : List trace.Entry). RefusesStart bus.now es bus.taps.items c.args.tap reason) entries
-    (subst (λ ts. RefusesStart bus.now (map entry_of c.recent.result.now) ts c.args.tap reason) items c.in_err-start.ensures.fault) in (
-      true,
-      in-err _ _ c.from_residual.result reason c.from_residual.ensures.0 c.from_residual.ensures.1 (
-        ap (λ ts. record w { taps = map tap_of ts }) (back ∙ kept ∙ items),
-        refused bus c.args.tap reason c.requires why,
-      ),
+    (subst (λ ts. RefusesStart bus.now (map entry_of c.recent.result.now) ts c.args.tap reason) items c.in_err-start.ensures.fault) in
+    in-err _ _ c.from_residual.result reason c.from_residual.ensures.0 c.from_residual.ensures.1 (
+      ap (λ ts. record w { taps = map tap_of ts }) (back ∙ kept ∙ items),
+      refused bus c.args.tap reason c.requires why,
     )
 
 pub returns-clause-follows : goal.returns-clause-follows
@@ -81,12 +79,10 @@ returns-clause-follows c =
     let next = c.start.new.taps in
     let starts = subst (λ (es : List trace.Entry). IsStarted bus.now es bus.taps.items c.args.tap next) entries
     (subst (λ ts. IsStarted bus.now (map entry_of c.recent.result.now) ts c.args.tap next) items c.in_ok-start.ensures.ok) in
-    let back = written-back bus.taps.len bus.taps.items next (ap length (sym items) ∙ c.deref_mut.ensures.len) (size bus c.args.tap next starts) in (
-      true,
-      done bus c.args.tap next c.requires starts
-          ∙ ap (λ r. Ok (record w { taps = map tap_of next }, r)) (sym c.silence.ensures)
-          ∙ ap (λ ts. Ok (record w { taps = map tap_of ts }, reply_of c.silence.result)) (sym back),
-    )
+    let back = written-back bus.taps.len bus.taps.items next (ap length (sym items) ∙ c.deref_mut.ensures.len) (size bus c.args.tap next starts) in
+    done bus c.args.tap next c.requires starts
+    ∙ ap (λ r. Ok (record w { taps = map tap_of next }, r)) (sym c.silence.ensures)
+    ∙ ap (λ ts. Ok (record w { taps = map tap_of ts }, reply_of c.silence.result)) (sym back)
 
 pub returns-clause-kept : goal.returns-clause-kept
 returns-clause-kept c =
@@ -98,7 +94,7 @@ returns-clause-kept c =
     (subst (λ ts. IsStarted bus.now (map entry_of c.recent.result.now) ts c.args.tap next) items c.in_ok-start.ensures.ok) in
     let back = written-back bus.taps.len bus.taps.items next (ap length (sym items) ∙ c.deref_mut.ensures.len) (size bus c.args.tap next starts) in
     record {
-      sound = sound-after true (world_of bus) (Start c.args.tap) _ _ (returns-clause-follows c).1 tt c.requires.sound;
+      sound = sound-after (world_of bus) (Start c.args.tap) _ _ (returns-clause-follows c) tt c.requires.sound;
       clock = c.requires.clock;
       room = omega (arith, ap length back, size bus c.args.tap next starts, c.requires.room);
       seats = subst (λ ts. AreSeated bus.params 0 (map seat_of ts)) (sym back) (seated bus c.args.tap next c.requires starts);

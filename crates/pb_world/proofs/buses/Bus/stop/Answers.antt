@@ -1,4 +1,4 @@
-use Rattle.std.proofs.Common.{◌≡◌, ◌∙◌, ap, sym, subst, refl, true, ℕ, List, length, map, Ok, arith, None, ◌++◌}
+use Rattle.std.proofs.Common.{◌≡◌, ◌∙◌, ap, sym, subst, refl, ℕ, List, length, map, Ok, arith, None, ◌++◌}
 use Rattle.std.specs.Prelude.{drop, take, slice_get}
 use Rattle.std.specs.Option.{option_map}
 use Rattle.std.proofs.lemmas.List.{length-set, map-set}
@@ -23,7 +23,7 @@ use Rattle.pb_world.proofs.Seats.{same-seats}
 use Rattle.pb_world.proofs.Stepping.{in-err, sound-after, stop-done, stop-missing, stop-stopped, cut-with, from-cut}
 use Rattle.pb_world.proofs.buses.Bus.stop.Goals as goal
 
-refused : (b : Bus) (i : ℕ) (reason : WorldFault) → RefusesStop b.taps.items i reason → Refuses (Stop i) (step_stop (world_of b) i (slice_get (world_of b).taps i)) reason
+refused : (b : Bus) (i : ℕ) (reason : WorldFault) → RefusesStop b.taps.items i reason → Refuses (world_of b) (Stop i) (step_stop (world_of b) i (slice_get (world_of b).taps i)) reason
 refused b i fault.NoSuchTap missing = stop-missing (world_of b) i (slice_get-map tap_of b.taps.items i ∙ ap (option_map tap_of) missing)
 refused b i fault.NotRunning (t, at, down) = stop-stopped (world_of b) i (tap_of t) (slice_get-map tap_of b.taps.items i ∙ ap (option_map tap_of) at) down
 refused b i other wrong = absurd wrong
@@ -55,14 +55,12 @@ returns-in_err-stop_recent-clause-follows c =
     let kept = c.in_err-stop_recent.ensures.err in
     let trace-back = written-back bus.trace.len bus.trace.items c.stop_recent.new.trace (ap length (sym entries) ∙ c.deref_mut.ensures.len) (c.stop_recent.ensures.length ∙ ap length entries) in
     let taps-back = written-back bus.taps.len bus.taps.items c.stop_recent.new.taps (ap length (sym items) ∙ c.deref_mut-2.ensures.len) (ap length (kept.1 ∙ items)) in
-    let reason = c.in_err-stop_recent.field-0.0 in (
-      true,
-      in-err _ _ c.from_residual.result reason c.from_residual.ensures.0 c.from_residual.ensures.1 (
-        ap (λ es. record w { trace = es; taps = map tap_of (take bus.taps.len (c.stop_recent.new.taps ++ drop (length c.stop_recent.new.taps) bus.taps.items)) })
-            (ap (map entry_of) trace-back ∙ kept.0 ∙ ap (map entry_of) entries)
-            ∙ ap (λ ts. record w { taps = map tap_of ts }) (taps-back ∙ kept.1 ∙ items),
-        refused bus c.args.tap reason (subst (λ ts. RefusesStop ts c.args.tap reason) items c.in_err-stop_recent.ensures.fault),
-      ),
+    let reason = c.in_err-stop_recent.field-0.0 in
+    in-err _ _ c.from_residual.result reason c.from_residual.ensures.0 c.from_residual.ensures.1 (
+      ap (λ es. record w { trace = es; taps = map tap_of (take bus.taps.len (c.stop_recent.new.taps ++ drop (length c.stop_recent.new.taps) bus.taps.items)) })
+          (ap (map entry_of) trace-back ∙ kept.0 ∙ ap (map entry_of) entries)
+          ∙ ap (λ ts. record w { taps = map tap_of ts }) (taps-back ∙ kept.1 ∙ items),
+      refused bus c.args.tap reason (subst (λ ts. RefusesStop ts c.args.tap reason) items c.in_err-stop_recent.ensures.fault),
     )
 
 pub returns-clause-follows : goal.returns-clause-follows
@@ -75,13 +73,11 @@ returns-clause-follows c =
     let stops = subst (λ ts. IsStopped ts c.args.tap next) items c.in_ok-stop_recent.ensures.ok in
     let trace-back = written-back bus.trace.len bus.trace.items c.stop_recent.new.trace (ap length (sym entries) ∙ c.deref_mut.ensures.len) (c.stop_recent.ensures.length ∙ ap length entries) in
     let taps-back = written-back bus.taps.len bus.taps.items next (ap length (sym items) ∙ c.deref_mut-2.ensures.len) (size bus c.args.tap next stops) in
-    let cut = c.in_ok-stop_recent.ensures.cut ∙ ap (λ xs. take bus.over (map entry_of xs) ++ map (cut_at bus.now c.args.tap) (drop bus.over (map entry_of xs))) entries in (
-      true,
-      done bus c.args.tap next c.requires stops
-          ∙ ap (λ r. Ok (record w { trace = cut_trace bus c.args.tap; taps = map tap_of next }, r)) (sym c.silence.ensures)
-          ∙ ap (λ es. Ok (record w { trace = es; taps = map tap_of next }, reply_of c.silence.result)) (sym cut ∙ ap (map entry_of) (sym trace-back))
-          ∙ ap (λ ts. Ok (record w { trace = map entry_of (take bus.trace.len (c.stop_recent.new.trace ++ drop (length c.stop_recent.new.trace) bus.trace.items)); taps = map tap_of ts }, reply_of c.silence.result)) (sym taps-back),
-    )
+    let cut = c.in_ok-stop_recent.ensures.cut ∙ ap (λ xs. take bus.over (map entry_of xs) ++ map (cut_at bus.now c.args.tap) (drop bus.over (map entry_of xs))) entries in
+    done bus c.args.tap next c.requires stops
+    ∙ ap (λ r. Ok (record w { trace = cut_trace bus c.args.tap; taps = map tap_of next }, r)) (sym c.silence.ensures)
+    ∙ ap (λ es. Ok (record w { trace = es; taps = map tap_of next }, reply_of c.silence.result)) (sym cut ∙ ap (map entry_of) (sym trace-back))
+    ∙ ap (λ ts. Ok (record w { trace = map entry_of (take bus.trace.len (c.stop_recent.new.trace ++ drop (length c.stop_recent.new.trace) bus.trace.items)); taps = map tap_of ts }, reply_of c.silence.result)) (sym taps-back)
 
 pub returns-clause-kept : goal.returns-clause-kept
 returns-clause-kept c =
@@ -95,7 +91,7 @@ returns-clause-kept c =
     let taps-back = written-back bus.taps.len bus.taps.items next (ap length (sym items) ∙ c.deref_mut-2.ensures.len) (size bus c.args.tap next stops) in
     let cut = c.in_ok-stop_recent.ensures.cut ∙ ap (λ xs. take bus.over (map entry_of xs) ++ map (cut_at bus.now c.args.tap) (drop bus.over (map entry_of xs))) entries in
     record {
-      sound = sound-after true w (Stop c.args.tap) _ _ (returns-clause-follows c).1 tt c.requires.sound;
+      sound = sound-after w (Stop c.args.tap) _ _ (returns-clause-follows c) tt c.requires.sound;
       clock = c.requires.clock;
       room = omega (arith, ap length taps-back, size bus c.args.tap next stops, c.requires.room);
       seats = subst (λ ts. AreSeated bus.params 0 (map seat_of ts)) (sym taps-back) (seated bus c.args.tap next c.requires stops);

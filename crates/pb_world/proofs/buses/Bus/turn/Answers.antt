@@ -36,14 +36,12 @@ returns-in_err-say-clause-follows c =
     let there = slice_get-map tap_of bus.taps.items i ∙ ap (option_map tap_of) at in
     let seat = seat-of-tap bus.params bus.taps.items i t c.requires.seats at in
     let said = octets_of turn.speak in
-    let turns = sym turned.3.1 ∙ ap (λ p. turn_of p turned.3.0 t.station.station t.marks bus.now) (ap (λ y. y.params) seat) in
-    let reason = c.in_err-say.field-0.0 in (
-      turned.3.0,
-      in-err _ _ c.from_residual-in_err-say.result reason c.from_residual-in_err-say.ensures.0 c.from_residual-in_err-say.ensures.1 (
-        ap (λ es. record w { trace = map entry_of es }) c.in_err-say.ensures.err,
-        turn-refused turned.3.0 w i (tap_of t) turn.after.station said reason there turned.2 turns
-            (subst (λ n. RefusesSaid said n reason) (sym (length-map bus.trace.items entry_of)) c.in_err-say.ensures.fault),
-      ),
+    let turns = sym turned.3.0 ∙ ap (λ p. turn_of p t.station.station t.marks bus.now) (ap (λ y. y.params) seat) in
+    let reason = c.in_err-say.field-0.0 in
+    in-err _ _ c.from_residual-in_err-say.result reason c.from_residual-in_err-say.ensures.0 c.from_residual-in_err-say.ensures.1 (
+      ap (λ es. record w { trace = map entry_of es }) c.in_err-say.ensures.err,
+      turn-refused w i (tap_of t) turn.after.station said reason there turned.2 turns
+          (subst (λ n. RefusesSaid said n reason) (sym (length-map bus.trace.items entry_of)) c.in_err-say.ensures.fault),
     )
 
 pub returns-clause-follows : goal.returns-clause-follows
@@ -68,12 +66,10 @@ returns-clause-follows c =
     let back = written-back bus.taps.len bus.taps.items c.keep_turn.new.taps (ap length (sym items) ∙ c.deref_mut.ensures.len) (ap length set ∙ length-set bus.taps.items i x) in
     let kept = ap (map tap_of) (back ∙ set) ∙ map-set tap_of bus.taps.items i x ∙ ap (slice_set w.taps i) (turned-tap t bus.now turn turned.3) in
     let room = ap (is_full said) (length-map bus.trace.items entry_of) ∙ c.in_ok-say.ensures.room in
-    let turns = sym turned.3.1 ∙ ap (λ p. turn_of p turned.3.0 t.station.station t.marks bus.now) (ap (λ y. y.params) seat) in (
-      turned.3.0,
-      turn-done turned.3.0 w bus.over i (tap_of t) turn.after.station said there turned.2 turns c.requires.cut room
-          ∙ ap (λ es. Ok (record w { trace = es; taps = slice_set w.taps i next }, record { now = bus.now; spoke = said })) (sym entries)
-          ∙ ap (λ ts. Ok (record w { trace = map entry_of c.say.new.trace.items; taps = ts }, record { now = bus.now; spoke = said })) (sym kept),
-    )
+    let turns = sym turned.3.0 ∙ ap (λ p. turn_of p t.station.station t.marks bus.now) (ap (λ y. y.params) seat) in
+    turn-done w bus.over i (tap_of t) turn.after.station said there turned.2 turns c.requires.cut room
+    ∙ ap (λ es. Ok (record w { trace = es; taps = slice_set w.taps i next }, record { now = bus.now; spoke = said })) (sym entries)
+    ∙ ap (λ ts. Ok (record w { trace = map entry_of c.say.new.trace.items; taps = ts }, record { now = bus.now; spoke = said })) (sym kept)
 
 pub returns-clause-kept : goal.returns-clause-kept
 returns-clause-kept c =
@@ -93,7 +89,7 @@ returns-clause-kept c =
     let set = c.keep_turn.ensures t (ap (λ xs. slice_get xs i) items ∙ at) ∙ ap (λ xs. slice_set xs i x) items in
     let back = written-back bus.taps.len bus.taps.items c.keep_turn.new.taps (ap length (sym items) ∙ c.deref_mut.ensures.len) (ap length set ∙ length-set bus.taps.items i x) in
     record {
-      sound = sound-after (returns-clause-follows c).0 w (Turn i) _ _ (returns-clause-follows c).1 tt c.requires.sound;
+      sound = sound-after w (Turn i) _ _ (returns-clause-follows c) tt c.requires.sound;
       clock = c.requires.clock;
       room = omega (arith, ap length back, ap length set, length-set bus.taps.items i x, c.requires.room);
       seats = subst (AreSeated bus.params 0) (sym (ap (map seat_of) (back ∙ set) ∙ same-seats bus.taps.items i t x at (turned-seat t bus.now turn turned.3))) c.requires.seats;

@@ -1,0 +1,12 @@
+//! What holds of whole runs of stations on one bus.
+//!
+//! `specs/` says what a run is judged by: which telegrams only a holder sends, which of them are legal after
+//! the one before, whom the trace names, and the premises on the events. This crate has no code that runs: its
+//! functions do nothing, and their contracts are laws.
+#![tactic(auto)]
+
+mod examples;
+mod turns;
+
+pub use examples::{a_lost_telegram_breaks_a_premise, scenarios_that_keep_the_premises};
+pub use turns::turns_of_one_instant_commute;
