@@ -1,5 +1,5 @@
 -- The token theorem: what it says of one world, and of all lists of events.
-use Rattle.std.specs.Prelude.{◌≡◌, ℕ, ◌+◌, ◌≤◌, ◌<◌, Bool, true, ◌&&◌, List, [], ◌∷◌, map, slice_get, Option, Some, None, Result, Ok, Err}
+use Rattle.std.specs.Prelude.{◌≡◌, ℕ, ◌+◌, ◌≤◌, ◌<◌, Bool, true, ◌&&◌, List, [], ◌∷◌, map, slice_get, Some, None, Ok}
 use Rattle.pb_timers.specs.Timers.{Params, tto}
 use Rattle.pb_timers.specs.ParamRules.{IsValid}
 use Rattle.pb_turn.specs.Phases.{may_initiate, is_offline}

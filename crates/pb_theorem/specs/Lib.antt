@@ -6,3 +6,5 @@ pub mod Naming
 pub mod Premises
 pub mod Headline
 pub mod Scenarios
+pub mod Runs
+pub mod Traces

@@ -1,5 +1,5 @@
 -- The station that the trace of the bus names.
-use Rattle.std.specs.Prelude.{ℕ, ◌+◌, Bool, if◌then◌else◌, ◌==◌, nat_lt, ◌&&◌, List, [], ◌∷◌, slice_get, Option, Some, None}
+use Rattle.std.specs.Prelude.{ℕ, ◌+◌, if◌then◌else◌, ◌==◌, nat_lt, ◌&&◌, List, [], ◌∷◌, slice_get, Option, Some, None}
 use Rattle.pb_timers.specs.Timers.{Params}
 use Rattle.pb_model.specs.Trace.{Heard, Record, Entry}
 use Rattle.pb_model.specs.Medium.{TapSpec}

@@ -3,7 +3,6 @@ use Rattle.std.specs.Prelude.{ℕ, ◌+◌, ◌-◌, Bool, true, false, if◌the
 use Rattle.std.specs.List.{list_any}
 use Rattle.pb_timers.specs.Timers.{Params, tto}
 use Rattle.pb_turn.specs.Stations.{due_of}
-use Rattle.pb_model.specs.Trace.{Entry}
 use Rattle.pb_model.specs.Medium.{Tap}
 use Rattle.pb_model.specs.World.{World, Event, Turn, Pass, Damage, Start, Stop, Queue, Noise, Unheard, Reply, Fault}
 use Rattle.pb_model.specs.Step.{step}

@@ -1,6 +1,7 @@
 -- What the worked scenarios' traces and premises are judged to be.
-use Rattle.std.specs.Prelude.{ℕ, Bool, List, [], ◌∷◌, map, Option, Some, None, Result, Ok, Err}
-use Rattle.pb_model.specs.Medium.{TapSpec}
+use Rattle.std.specs.Prelude.{ℕ, ◌+◌, Bool, true, false, not, ◌==◌, ◌&&◌, ◌||◌, List, [], ◌∷◌, Option, Some, None, Result, Ok, Err}
+use Rattle.pb_timers.specs.Timers.{Params}
+use Rattle.pb_model.specs.Medium.{TapSpec, Tap}
 use Rattle.pb_model.specs.World.{World, NewFault, Event, new_world}
 use Rattle.pb_model.specs.Step.{world_after, step, replay}
 use Rattle.pb_model.specs.Scenarios.{example_bus}
@@ -9,22 +10,62 @@ use Rattle.pb_theorem.specs.Legality.{first_illegal}
 use Rattle.pb_theorem.specs.Naming.{named}
 use Rattle.pb_theorem.specs.Premises.{Broken, first_broken}
 
--- the first broken premise of a run, and the position of its first illegal initiator record
+-- ---- whom the trace names
+
+abbrev pub is_at : ℕ → Option ℕ → Bool
+is_at tap None = false
+is_at tap (Some named) = named == tap
+
+-- each of some taps that may initiate is the one that is named, the first of them at a position
+abbrev pub only_may_initiate : Option ℕ → ℕ → List Tap → Bool
+only_may_initiate named tap [] = true
+only_may_initiate named tap (t ∷ ts) = (not (tap_may_initiate t) || is_at tap named) && only_may_initiate named (tap + 1) ts
+
+abbrev pub holder_is_named : World → Bool
+holder_is_named w = only_may_initiate (named w.params (specs_of w) w.trace w.now) 0 w.taps
+
+-- before the first of some events, and after each of them
+abbrev pub named_throughout : World → List Event → Bool
+named_throughout w [] = holder_is_named w
+named_throughout w (e ∷ es) = holder_is_named w && named_throughout (world_after w (step w e)) es
+
+-- ---- what a run is judged to be
+
+-- the first broken premise of a run, the position of its first illegal initiator record, and whether the trace names each holder throughout
 pub record Verdict : Type 0 where
   pub premise : Option Broken
   pub illegal : Option ℕ
+  pub told : Bool
 
 abbrev pub judged : World → List Event → Verdict
 judged w events =
     let last = replay w events in
-    record { premise = first_broken w events; illegal = first_illegal last.params (specs_of last) last.trace }
+    record { premise = first_broken w events; illegal = first_illegal last.params (specs_of last) last.trace; told = named_throughout w events }
 
 abbrev pub verdict_from : Result World NewFault → List Event → Option Verdict
 verdict_from (Ok w) events = Some (judged w events)
 verdict_from (Err fault) events = None
 
+abbrev pub verdict_on : Params → List TapSpec → List Event → Option Verdict
+verdict_on p specs events = verdict_from (new_world p specs) events
+
 abbrev pub verdict_of : List TapSpec → List Event → Option Verdict
-verdict_of specs events = verdict_from (new_world example_bus specs) events
+verdict_of specs events = verdict_on example_bus specs events
 
 abbrev pub kept : Option Verdict
-kept = Some (record { premise = None; illegal = None })
+kept = Some (record { premise = None; illegal = None; told = true })
+
+-- a premise breaks, at a moment
+abbrev pub breaks : (number clock : ℕ) → Option ℕ → Bool → Option Verdict
+breaks number clock illegal told = Some (record { premise = Some (record { number = number; clock = clock }); illegal = illegal; told = told })
+
+-- ---- other buses and stations
+
+abbrev pub bus_with_lag : Params
+bus_with_lag = record example_bus { lag = 39 }
+
+abbrev pub bus_with_delay : Params
+bus_with_delay = record example_bus { ttd = 15 }
+
+abbrev pub passive : ℕ → TapSpec
+passive address = record { address = address; master = false; reply = [] }

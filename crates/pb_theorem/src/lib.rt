@@ -8,5 +8,8 @@
 mod examples;
 mod turns;
 
-pub use examples::{a_lost_telegram_breaks_a_premise, scenarios_that_keep_the_premises};
+pub use examples::{
+    a_stopped_tap_has_no_part, scenarios_that_break_a_premise, scenarios_that_keep_the_premises,
+    traces_are_judged, traces_name_a_station,
+};
 pub use turns::turns_of_one_instant_commute;
