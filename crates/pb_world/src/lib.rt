@@ -1,8 +1,9 @@
 //! Stations on one medium: the world, its events, and the trace of the bus.
 //!
 //! [`World::new`] takes the bus parameters and the taps; [`World::apply`] does an event (a station's turn,
-//! passing time, damage, noise, a start, a stop, a request) and answers what came of it. The trace, the clock, and each station with
-//! the moment of its next turn are read from it. All times are in bit times.
+//! passing time, damage, noise, a lost telegram, a start, a stop, a request) and answers what came of it. The
+//! trace, the clock, and each station with the moment of its next turn are read from it. All times are in
+//! bit times.
 #![tactic(auto)]
 
 mod buses;
