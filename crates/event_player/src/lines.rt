@@ -2,12 +2,15 @@
 
 use crate::lists::EventList;
 use pb_cycles::{Request, Service};
-use pb_timers::Moment;
-use pb_world::{Entry, Event, Heard, NewFault, Record, Reply, World, WorldFault};
+use pb_timers::{BusParams, Moment};
+use pb_world::{
+    Audit, Entry, Event, Heard, NewFault, Record, Reply, TapSpec, World, WorldFault, audit,
+};
 use std::alloc::{AllocError, Global};
 
-/// The lines that an event list gives: each event with its reply or its fault, the trace, and each
-/// tap's phase and the moment of its next turn. A bus that is refused gives one line, its fault.
+/// The lines that an event list gives: each event with its reply or its fault, the trace, each tap's
+/// phase and the moment of its next turn, and what an audit of the accepted events finds. A bus that is
+/// refused gives one line, its fault.
 ///
 /// A refused event changes nothing, and the next one follows.
 pub fn play(alloc: Global, list: &EventList) -> Result<String, AllocError> {
@@ -18,33 +21,38 @@ pub fn play(alloc: Global, list: &EventList) -> Result<String, AllocError> {
             Err(NewFault::NoMemory) => return Err(AllocError),
             Err(fault) => writeln!(text, "world fault {} {fault}", fault.number())?,
             Ok(mut world) => {
-                push_events(&mut text, alloc, &mut world, &list.events)?;
+                let accepted = push_events(&mut text, alloc, &mut world, &list.events)?;
                 push_trace(&mut text, alloc, world.trace())?;
                 push_taps(&mut text, &world, list.taps.len())?;
+                push_audit(&mut text, alloc, params, &list.taps, &accepted)?;
             }
         },
     }
     Ok(text)
 }
 
-/// Plays the events, and appends a line for each.
+/// Plays the events, appends a line for each, and answers those that were accepted.
 fn push_events(
     text: &mut String,
     alloc: Global,
     world: &mut World,
     events: &[Event],
-) -> Result<(), AllocError> {
+) -> Result<Vec<Event>, AllocError> {
+    let mut accepted = Vec::new(alloc);
     for (place, event) in events.iter().enumerate() {
         write!(text, "{place} ")?;
         push_event(text, alloc, event)?;
         text.push_str(": ")?;
         match world.apply(alloc, event.copy()) {
-            Ok(reply) => push_reply(text, alloc, &reply)?,
+            Ok(reply) => {
+                push_reply(text, alloc, &reply)?;
+                accepted.push(event.copy())?;
+            }
             Err(WorldFault::NoMemory) => return Err(AllocError),
             Err(fault) => writeln!(text, "fault {} {fault}", fault.number())?,
         }
     }
-    Ok(())
+    Ok(accepted)
 }
 
 /// Appends an event's name and numbers.
@@ -154,5 +162,27 @@ fn push_due(text: &mut String, due: Option<Moment>) -> Result<(), AllocError> {
     match due {
         Some(moment) => writeln!(text, "{}", moment.get()),
         None => writeln!(text, "none"),
+    }
+}
+
+/// Appends what an audit of events finds that a bus has accepted.
+fn push_audit(
+    text: &mut String,
+    alloc: Global,
+    params: BusParams,
+    taps: &[TapSpec],
+    accepted: &[Event],
+) -> Result<(), AllocError> {
+    // Accepted once, they are accepted again: all that an audit of them can want is memory.
+    let Ok(Audit { premise, illegal }) = audit(alloc, params, taps, accepted) else {
+        return Err(AllocError);
+    };
+    match premise {
+        Some((number, clock)) => writeln!(text, "premise P{number} broken at {}", clock.get())?,
+        None => writeln!(text, "premises kept")?,
+    }
+    match illegal {
+        Some(position) => writeln!(text, "record {position} illegal"),
+        None => writeln!(text, "trace legal"),
     }
 }

@@ -15,7 +15,7 @@ reader_failures counted = counted.failures
 
 -- a writer with nothing counted yet
 abbrev pub counted_writer : {W : Type 0} → W → CountedWriter W
-counted_writer writer = record { writer = writer; interruptions = 0; failures = 0 }
+counted_writer writer = record { writer = writer; interruptions = 0; in_a_row = 0; failures = 0 }
 
 abbrev pub interruptions_of : {W : Type 0} → CountedWriter W → ℕ
 interruptions_of counted = counted.interruptions

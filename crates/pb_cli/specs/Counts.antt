@@ -36,3 +36,9 @@ abbrev pub write_interruptions : ℕ → Result ℕ WriteFault → ℕ
 write_interruptions before (Ok count) = before
 write_interruptions before (Err write.Interrupted) = one_more before
 write_interruptions before (Err write.Failed) = before
+
+-- how many writes were interrupted one behind the other, after this one
+abbrev pub writes_in_a_row : ℕ → Result ℕ WriteFault → ℕ
+writes_in_a_row before (Ok count) = 0
+writes_in_a_row before (Err write.Interrupted) = one_more before
+writes_in_a_row before (Err write.Failed) = 0

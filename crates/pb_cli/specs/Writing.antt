@@ -11,7 +11,8 @@ AppendsFront old new text = (count : ℕ) × (count ≤ length text) × Appends 
 abbrev pub retries_in_a_row : ℕ
 retries_in_a_row = 1000
 
--- the writer failed, or was interrupted once more than a write is tried again
-abbrev pub IsWriteCause : ℕ → ℕ → ℕ → ℕ → Type 0
-IsWriteCause failures_before failures_now interruptions_before interruptions_now =
-    GrowsBy 1 failures_before failures_now ⊎ GrowsBy (retries_in_a_row + 1) interruptions_before interruptions_now
+-- the writer failed, or was interrupted in a row once more than a write is tried again
+abbrev pub IsWriteCause : ℕ → ℕ → ℕ → ℕ → ℕ → Type 0
+IsWriteCause failures_before failures_now interruptions_before interruptions_now in_a_row =
+    GrowsBy 1 failures_before failures_now
+    ⊎ (GrowsBy (retries_in_a_row + 1) interruptions_before interruptions_now × (retries_in_a_row + 1 ≤ in_a_row))

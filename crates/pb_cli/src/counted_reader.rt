@@ -1,7 +1,8 @@
 ghost use Rattle.std.specs.Prelude.{◌≡◌};
 
+use crate::answers::read_answer;
 use crate::streams::{ReadFault, Source};
-use std::io::{ErrorKind, Read};
+use std::io::Read;
 
 /// A [`Source`] over any reader of std, which counts its calls, interruptions and failures.
 #[derive(Drop)]
@@ -53,16 +54,14 @@ impl<R: Read> Source for CountedReader<R> {
 
     fn read(&mut self, buffer: &mut [u8]) -> Result<usize, ReadFault> {
         self.calls = self.calls.saturating_add(1);
-        match self.reader.read(buffer) {
-            Ok(count) => Ok(count),
-            Err(error) if error.kind() == ErrorKind::Interrupted => {
+        let answer = read_answer(self.reader.read(buffer));
+        match answer {
+            Ok(_) => {}
+            Err(ReadFault::Interrupted) => {
                 self.interruptions = self.interruptions.saturating_add(1);
-                Err(ReadFault::Interrupted)
             }
-            Err(_) => {
-                self.failures = self.failures.saturating_add(1);
-                Err(ReadFault::Failed)
-            }
+            Err(ReadFault::Failed) => self.failures = self.failures.saturating_add(1),
         }
+        answer
     }
 }

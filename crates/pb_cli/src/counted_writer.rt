@@ -1,13 +1,16 @@
 ghost use Rattle.std.specs.Prelude.{◌≡◌};
 
+use crate::answers::write_answer;
 use crate::streams::{Sink, WriteFault};
-use std::io::{ErrorKind, Write};
+use std::io::Write;
 
 /// A [`Sink`] over any writer of std, which counts its interruptions and failures.
 #[derive(Drop)]
 pub struct CountedWriter<W> {
     writer: W,
     interruptions: u64,
+    /// How many of them one behind the other, up to the last call.
+    in_a_row: u64,
     failures: u64,
 }
 
@@ -21,6 +24,7 @@ impl<W> CountedWriter<W> {
         CountedWriter {
             writer,
             interruptions: 0,
+            in_a_row: 0,
             failures: 0,
         }
     }
@@ -52,19 +56,23 @@ impl<W: Write> Sink for CountedWriter<W> {
 
     ghost interruptions = { λ counted. counted.interruptions };
 
+    ghost in_a_row = { λ counted. counted.in_a_row };
+
     ghost failures = { λ counted. counted.failures };
 
     fn write(&mut self, bytes: &[u8]) -> Result<usize, WriteFault> {
-        match self.writer.write(bytes) {
-            Ok(count) if count > 0 || bytes.is_empty() => Ok(count),
-            Err(error) if error.kind() == ErrorKind::Interrupted => {
+        let answer = write_answer(self.writer.write(bytes), bytes.is_empty());
+        match answer {
+            Ok(_) => self.in_a_row = 0,
+            Err(WriteFault::Interrupted) => {
                 self.interruptions = self.interruptions.saturating_add(1);
-                Err(WriteFault::Interrupted)
+                self.in_a_row = self.in_a_row.saturating_add(1);
             }
-            _ => {
+            Err(WriteFault::Failed) => {
                 self.failures = self.failures.saturating_add(1);
-                Err(WriteFault::Failed)
+                self.in_a_row = 0;
             }
         }
+        answer
     }
 }

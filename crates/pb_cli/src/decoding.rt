@@ -41,7 +41,8 @@ pub fn decode_lines<R: Source, W: Sink>(
     ensures too_long { IsErrOf result CliFault.TooLong
         → IfSome (R.remaining reader.old) (λ input. byte_limit < length input) }
     ensures write { IsErrOf result CliFault.Write
-        → IsWriteCause (W.failures writer.old) (W.failures writer.new) (W.interruptions writer.old) (W.interruptions writer.new) }
+        → IsWriteCause (W.failures writer.old) (W.failures writer.new)
+        (W.interruptions writer.old) (W.interruptions writer.new) (W.in_a_row writer.new) }
 
     // A failure of the reader or of the writer is told.
     ensures reader_failed { result ≢ Err CliFault.Read → R.failures reader.new ≡ R.failures reader.old }

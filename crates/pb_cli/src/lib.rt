@@ -7,6 +7,7 @@
 //! of std.
 #![tactic(auto)]
 
+mod answers;
 mod asking;
 mod characters;
 mod counted_reader;

@@ -1,6 +1,6 @@
 ghost use Rattle.std.specs.Prelude.{◌≡◌, ◌≤◌, ◌<◌, ℕ, List, Option, length, IfOk};
 ghost use Rattle.std.specs.Io.KnownBytes.{ReadConsumes, WriteAppends};
-ghost use Rattle.pb_cli.specs.Counts.{one_more, read_failures, read_interruptions, write_failures, write_interruptions};
+ghost use Rattle.pb_cli.specs.Counts.{one_more, read_failures, read_interruptions, write_failures, write_interruptions, writes_in_a_row};
 
 /// Why a read gave no bytes.
 #[derive(Clone, Copy, Debug, PartialEq, Eq)]
@@ -51,6 +51,8 @@ pub trait Sink {
     ghost contents: { Self → Option (List ℕ) };
     // How many write calls were interrupted.
     ghost interruptions: { Self → ℕ };
+    // How many of them one behind the other, up to the last call.
+    ghost in_a_row: { Self → ℕ };
     // How many write calls failed.
     ghost failures: { Self → ℕ };
 
@@ -60,5 +62,6 @@ pub trait Sink {
         ensures some { IfOk result (λ count. 0 < length bytes.now → 0 < count) }
         ensures bytes { WriteAppends (contents self.old) (contents self.new) result bytes.now }
         ensures interruptions { interruptions self.new ≡ write_interruptions (interruptions self.old) result }
+        ensures in_a_row { in_a_row self.new ≡ writes_in_a_row (in_a_row self.old) result }
         ensures failures { failures self.new ≡ write_failures (failures self.old) result };
 }

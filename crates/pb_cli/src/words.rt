@@ -1,3 +1,6 @@
+ghost use Rattle.std.specs.Prelude.{◌≡◌};
+ghost use Rattle.pb_cli.specs.declared.words.AskFault.TheVariants.{NoMemory};
+
 use std::alloc::AllocError;
 use thiserror::Error;
 
@@ -20,6 +23,8 @@ pub enum AskFault {
 }
 
 impl From<AllocError> for AskFault {
+    ghost from_gives = { λ _ fault. fault ≡ NoMemory };
+
     fn from(_refused: AllocError) -> AskFault {
         AskFault::NoMemory
     }

@@ -18,7 +18,7 @@ pub fn write_out<W: Sink>(writer: &mut W, text: &[u8]) -> Result<(), CliFault>
     ensures front { OnErr result (AppendsFront (W.contents writer.old) (W.contents writer.new) text.now) }
     ensures write { IfErr result (λ fault. fault ≡ CliFault.Write) }
     ensures cause { OnErr result (IsWriteCause (W.failures writer.old) (W.failures writer.new)
-        (W.interruptions writer.old) (W.interruptions writer.new)) }
+        (W.interruptions writer.old) (W.interruptions writer.new) (W.in_a_row writer.new)) }
     ensures unfailed { OnOk result (W.failures writer.new ≡ W.failures writer.old) }
 {
     let mut written = 0;
@@ -37,7 +37,7 @@ fn write_some<W: Sink>(writer: &mut W, bytes: &[u8]) -> Result<usize, CliFault>
     ensures nothing { OnErr result (Keeps (W.contents writer.old) (W.contents writer.new)) }
     ensures write { IfErr result (λ fault. fault ≡ CliFault.Write) }
     ensures cause { OnErr result (IsWriteCause (W.failures writer.old) (W.failures writer.new)
-        (W.interruptions writer.old) (W.interruptions writer.new)) }
+        (W.interruptions writer.old) (W.interruptions writer.new) (W.in_a_row writer.new)) }
     ensures unfailed { OnOk result (W.failures writer.new ≡ W.failures writer.old) }
     ensures later { GrowsBy 0 (W.interruptions writer.old) (W.interruptions writer.new) }
 {

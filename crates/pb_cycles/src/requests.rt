@@ -42,6 +42,11 @@ impl Model for Request {
 }
 
 impl Default for Request {
+    ghost use Rattle.std.specs.Prelude.{false, []};
+    ghost use Rattle.pb_cycles.specs.declared.services.Service.TheVariants.{Sda};
+
+    ghost is_default = { λ r. r ≡ record { da = 0; service = Sda; high = false; unit = [] } };
+
     /// A request that a place of a queue holds before it is used: SDA to 0 without data.
     fn default() -> Request {
         Request {

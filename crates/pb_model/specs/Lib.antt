@@ -1,5 +1,6 @@
 pub mod Laws
 pub mod Medium
+pub mod Refusals
 pub mod Scenarios
 pub mod Step
 pub mod Trace

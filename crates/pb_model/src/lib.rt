@@ -7,6 +7,7 @@
 
 mod examples;
 mod medium_laws;
+mod refusals;
 mod world_laws;
 
 pub use examples::{
@@ -18,6 +19,11 @@ pub use medium_laws::{
     a_tap_does_not_hear_itself, only_a_pass_opens_a_burst, stretches_that_overlap_are_one_burst,
     stretches_that_touch_stay_apart, telegrams_of_one_instant_are_not_heard,
     what_has_ended_matters_no_more, whole_telegrams_fill_their_bursts_alone,
+};
+pub use refusals::{
+    a_full_trace_takes_no_more, a_tap_hears_from_its_start_to_its_stop,
+    a_world_has_taps_with_addresses, an_event_needs_a_tap_that_may_do_it,
+    only_what_is_in_the_air_is_damaged, time_passes_within_its_bounds,
 };
 pub use world_laws::{
     a_refused_event_changes_nothing, marks_stand_in_order_of_time, the_clock_never_falls,

@@ -1,10 +1,3 @@
-pub mod Answering
-pub mod Closing
-pub mod Looking
-pub mod Receipts
 pub mod MarkByMark
 pub mod Places
-pub mod Arriving
-pub mod Incomplete
-pub mod Taking
-pub mod TimeOuts
+pub mod Receipts

@@ -19,11 +19,11 @@ use Rattle.pb_turn.specs.Arrivals.{Arrival, Token, Framed, Acknowledgement, NoTe
 use Rattle.pb_turn.specs.Hearing.{not_answered, data_told, awaiting_data_hears, passive_hears, phase_timed_out, timed_out, after_timer, tries_limit, taking, is_taken_from, skips_limit, own_token, foreign_token, idle_hears, listening_hears, holder_hears, status_told, awaiting_status_hears, with_token, lost, phase_ended, heard, after_mark}
 use Rattle.pb_turn.specs.Marks.{Mark, Begin, End, moment_of}
 use Rattle.pb_turn.specs.Phases.{Phase, Offline, PassiveIdle, Listening, Idle, Claim, Use, AwaitData, AwaitStatus, Pass, Checking, is_offline}
-use Rattle.pb_turn.specs.Stations.{Station, Reply, timer_of, speaks_at, next_station, previous_station}
-use Rattle.pb_turn.specs.Turns.{after_marks, settled, token_octets, saying, received_own, says_token, looks_at_gap, says_look, says_no_request, says_request, says_low, says_high, says_in_use, high_request, low_request, high_taken, low_taken, says_again, joining, replying, says_reply, says_ready, phase_says, speech, turn_of}
+use Rattle.pb_turn.specs.Stations.{Station, Reply, timer_of, next_station, previous_station}
+use Rattle.pb_turn.specs.Turns.{after_marks, settled, token_octets, saying, received_own, says_token, looks_at_gap, says_look, says_no_request, says_request, says_low, says_high, says_in_use, high_request, low_request, high_taken, low_taken, says_again, joining, replying, says_reply, says_ready, phase_says, speech}
 use Rattle.pb_turn.proofs.Cases.{by_test}
 use Rattle.pb_turn.proofs.Paths.{phase-doubled}
-use Rattle.pb_station.specs.Cores.{has_received, HasReceived}
+use Rattle.pb_core.specs.Cores.{has_received, HasReceived}
 
 -- ---- timers
 
@@ -145,7 +145,7 @@ by-marks p s (m ∷ ms) h =
     by-marks p (after_mark p (after_timer p (moment_of m) s) m) ms
     (by-mark p (after_timer p (moment_of m) s) m (by-timer p (moment_of m) s h))
 
-pub received-settled : (p : Params) (s : Station) (marks : List Mark) (now : ℕ) → HasReceived s → HasReceived (settled p s marks now)
+received-settled : (p : Params) (s : Station) (marks : List Mark) (now : ℕ) → HasReceived s → HasReceived (settled p s marks now)
 received-settled p s marks now h = by-timer p (now + 1) (after_marks p s marks) (by-marks p s marks h)
 
 -- ---- speech
@@ -211,11 +211,6 @@ pub received-speech : (p : Params) (s : Station) (o : Option ℕ) (now : ℕ) �
 received-speech p s None now h = h
 received-speech p s (Some moment) now h =
     by_test (λ (x : Station × Option (List ℕ)). HasReceived x.0) (nat_le moment now) (phase_says p s s.phase now) (s, None) (λ _. by-says p s s.phase now h) (λ _. h)
-
-pub received-turn : (p : Params) (s : Station) (marks : List Mark) (now : ℕ) → HasReceived s → HasReceived (turn_of p s marks now).0
-received-turn p s marks now h =
-    let x = settled p s marks now in
-    received-speech p x (speaks_at x) now (received-settled p s marks now h)
 
 -- the station at the clock, from the parts that are computed
 pub received-at_clock : (p : Params) (s first read timed : Station) (marks : List Mark) (now limit : ℕ) → HasReceived s → first ≡ s → read ≡ after_marks p first marks

@@ -1,9 +1,3 @@
-pub mod Arrivals
-pub mod Clocks
-pub mod Cores
-pub mod Cycles
 pub mod Decisions
 pub mod MarkViews
-pub mod Replies
-pub mod Speeches
 pub mod Stations

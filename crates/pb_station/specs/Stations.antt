@@ -2,7 +2,7 @@
 use Rattle.std.specs.Prelude.{ℕ, Bool, List}
 use Rattle.pb_timers.specs.Timers.{Params}
 use Rattle.pb_turn.specs.Stations as turn
-use Rattle.pb_station.specs.Cores.{station_of}
+use Rattle.pb_core.specs.Cores.{station_of}
 use Rattle.pb_station.specs.declared.stations.Station.TheInside.{Inside}
 
 pub record StationView : Type 0 where

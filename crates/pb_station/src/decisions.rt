@@ -1,7 +1,7 @@
 ghost use Rattle.std.specs.Prelude.{◌≡◌, ◌≤◌, map, IfOk, MatchResult};
 ghost use Rattle.pb_station.specs.Decisions.{IsDecision};
 ghost use Rattle.pb_turn.specs.Stations as turn;
-ghost use Rattle.pb_station.specs.Clocks.{last_turn};
+ghost use Rattle.pb_core.specs.Clocks.{last_turn};
 ghost use Rattle.pb_station.specs.MarkViews.{mark_of, AreOver};
 
 use crate::marks::Mark;

@@ -5,22 +5,10 @@
 //! as a [`Decision`], and changes nothing.
 #![tactic(auto)]
 
-mod addresses;
-mod arrivals;
-mod beginnings;
-mod cores;
-mod cycles;
 mod decisions;
-mod hearing;
-mod lists;
 mod marks;
-mod moments;
-mod past;
 mod reading;
-mod replies;
-mod speeches;
 mod stations;
-mod timers;
 mod turns;
 
 pub use decisions::{Decision, Glance, decide, due};

@@ -6,16 +6,13 @@ ghost use Rattle.pb_turn.specs.Marks.{moment_of};
 ghost use Rattle.pb_turn.specs.Phases.{is_offline};
 ghost use Rattle.pb_turn.specs.Turns.{after_marks};
 ghost use Rattle.pb_tokenfsm.specs.Phases.{phase_of};
-ghost use Rattle.pb_station.specs.Clocks.{last_turn};
-ghost use Rattle.pb_station.specs.Cores.{station_of};
+ghost use Rattle.pb_core.specs.Clocks.{last_turn};
+ghost use Rattle.pb_core.specs.Cores.{station_of};
 ghost use Rattle.pb_station.specs.MarkViews.{mark_of, AreOver};
 
-use crate::arrivals::whole_telegram;
-use crate::beginnings::begun;
-use crate::cores::Core;
-use crate::hearing::ended;
 use crate::marks::Mark;
-use crate::timers::after_timer;
+use pb_core::{Core, whole_telegram};
+use pb_phases::{after_timer, begun, ended};
 use pb_timers::{BusParams, Moment};
 use pb_tokenfsm::Phase;
 

@@ -1,16 +1,13 @@
 ghost use Rattle.std.specs.Prelude.{◌≡◌, ◌≤◌, length};
 ghost use Rattle.pb_turn.specs.Stations as turn;
-ghost use Rattle.pb_station.specs.Clocks.{last_turn};
-ghost use Rattle.pb_station.specs.Cores.{station_of};
+ghost use Rattle.pb_core.specs.Clocks.{last_turn};
+ghost use Rattle.pb_core.specs.Cores.{station_of};
 ghost use Rattle.pb_tokenfsm.specs.Phases.{phase_of};
 
-use crate::addresses::Address;
-use crate::cores::{Core, Kept};
-use crate::cycles::{Cycles, copy_outcome, push};
 use crate::marks::Mark;
-use crate::past::Past;
 use crate::turns::{due_of, turn};
 use arrayvec::ArrayVec;
+use pb_core::{Address, Core, Cycles, Kept, Past, copy_outcome, push};
 use pb_cycles::{Outcome, Queue, Request};
 use pb_ring::{Gap, Las};
 use pb_rotation::Rotation;
@@ -36,7 +33,7 @@ pub struct Station {
 }
 
 impl Model for Station {
-    ghost use Rattle.pb_station.specs.Cores.{station_of, HasReceived};
+    ghost use Rattle.pb_core.specs.Cores.{station_of, HasReceived};
     ghost use Rattle.pb_station.specs.Stations.{StationView, station_view};
 
     ghost Value = { StationView };
@@ -126,7 +123,7 @@ impl Station {
     ghost use Rattle.pb_turn.specs.Stations as turn;
     ghost use Rattle.pb_tokenfsm.specs.Phases.{phase_of};
     ghost use Rattle.std.specs.Option.{option_map};
-    ghost use Rattle.pb_station.specs.Clocks.{last_turn};
+    ghost use Rattle.pb_core.specs.Clocks.{last_turn};
     ghost use Rattle.pb_station.specs.Decisions.{turned};
     ghost use Rattle.pb_station.specs.MarkViews.{mark_of, AreOver};
 

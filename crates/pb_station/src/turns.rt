@@ -3,16 +3,15 @@
 ghost use Rattle.std.specs.Prelude.{◌≡◌, ◌≤◌, map};
 ghost use Rattle.pb_turn.specs.Stations.{earlier, first_seen, due_of};
 ghost use Rattle.pb_turn.specs.Turns.{turn_of};
-ghost use Rattle.pb_station.specs.Clocks.{last_turn};
-ghost use Rattle.pb_station.specs.Cores.{station_of, HasReceived};
+ghost use Rattle.pb_core.specs.Clocks.{last_turn};
+ghost use Rattle.pb_core.specs.Cores.{station_of, HasReceived};
 ghost use Rattle.pb_station.specs.MarkViews.{mark_of, AreOver};
-ghost use Rattle.pb_station.specs.Speeches.{spoken_of};
+ghost use Rattle.pb_phases.specs.Speeches.{spoken_of};
 
-use crate::cores::Core;
 use crate::marks::Mark;
 use crate::reading::after_marks;
-use crate::speeches::{Spoken, speaks_at, speech};
-use crate::timers::{after_timer, timer};
+use pb_core::Core;
+use pb_phases::{Spoken, after_timer, speaks_at, speech, timer};
 use pb_timers::{BusParams, Moment};
 
 /// The station after its turn, and what it says.

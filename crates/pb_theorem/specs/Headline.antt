@@ -44,7 +44,7 @@ abbrev pub NoneLate : World → List Event → Type 0
 NoneLate w [] = Unit {0}
 NoneLate w (e ∷ es) = (loses e ≡ true → ⊥) × (comes_late w e ≡ true → ⊥) × ((next : World) (reply : Reply) → step w e ≡ Ok (next, reply) → NoneLate next es)
 
--- The silence bound: a running master that isn't offline is never left without activity for longer than its time-out and the lag.
+-- The silence bound: a running master that isn't offline is never left without activity for longer than its time-out and the lag. For a bus without delay: with one, activity counts when it is sent, and the bound is a delay longer.
 abbrev pub SilenceBound : Type 0
 SilenceBound = (p : Params) (specs : List TapSpec) (events : List Event) (new w : World) (i m : ℕ) (t : Tap) → IsValid p → AllFit specs → AreEvents events
     → new_world p specs ≡ Ok new → LeadsTo new events w → NoneLate new events

@@ -18,7 +18,7 @@ address_in (Some spec) = spec.address
 abbrev pub address_at : List TapSpec → ℕ → ℕ
 address_at specs tap = address_in (slice_get specs tap)
 
--- a claim: a token of the speaker to itself, before which it has heard nothing for its time-out
+-- a claim: a token of the speaker to itself, before which there was no activity at it for its time-out, its own telegrams among it
 abbrev pub is_claim : Params → List TapSpec → List Entry → Record → Bool
 is_claim p specs trace r =
     let address = address_at specs r.tap in

@@ -4,7 +4,10 @@ pub mod Initiators
 pub mod Legality
 pub mod Naming
 pub mod Premises
+pub mod Quiet
+pub mod Watching
 pub mod Headline
 pub mod Scenarios
 pub mod Runs
 pub mod Traces
+pub mod Judging

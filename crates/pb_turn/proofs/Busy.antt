@@ -23,80 +23,87 @@ use Rattle.pb_turn.specs.Turns.{after_marks, settled, saying, received_own, says
 use Rattle.pb_turn.proofs.Cases.{by_test}
 use Rattle.pb_turn.proofs.Paths.{at_end}
 
--- ---- an end leaves the station as busy as it was when the phase hears it
-
 abbrev Busy : Bool → Station → Type 0
 Busy b s = s.busy ≡ b
 
-busy-token_in_idle : (p : Params) (s : Station) (refused : Option ℕ) (at da sa : ℕ) → Busy s.busy (token_in_idle p s refused at da sa)
-busy-token_in_idle p s refused at da sa =
+-- ---- an end leaves the station as busy as it was when the phase hears it, and as long quiet
+
+-- whether a station is busy, and since when it is quiet
+abbrev state_of : Station → Bool × ℕ
+state_of s = (s.busy, s.quiet)
+
+abbrev Same : Station → Station → Type 0
+Same s x = state_of x ≡ state_of s
+
+same-token_in_idle : (p : Params) (s : Station) (refused : Option ℕ) (at da sa : ℕ) → Same s (token_in_idle p s refused at da sa)
+same-token_in_idle p s refused at da sa =
     let x = with_token s da sa in
-    by_test (Busy s.busy) (da == s.address) _ _
-    (λ _. by_test (Busy s.busy) (is_taken_from refused (previous_station s) sa) (taking p x at) _ (λ _. refl) (λ _. refl))
-    (λ _. by_test (Busy s.busy) (nat_le skips_limit (skips_of (place_of x.las.stage))) _ x (λ _. refl) (λ _. refl))
+    by_test (Same s) (da == s.address) _ _
+    (λ _. by_test (Same s) (is_taken_from refused (previous_station s) sa) (taking p x at) _ (λ _. refl) (λ _. refl))
+    (λ _. by_test (Same s) (nat_le skips_limit (skips_of (place_of x.las.stage))) _ x (λ _. refl) (λ _. refl))
 
-busy-idle_hears : (p : Params) (s : Station) (refused : Option ℕ) (at : ℕ) (a : Arrival) → Busy s.busy (idle_hears p s refused at a)
-busy-idle_hears p s refused at (Token da sa) = busy-token_in_idle p s refused at da sa
-busy-idle_hears p s refused at (Framed f) = refl
-busy-idle_hears p s refused at Acknowledgement = refl
-busy-idle_hears p s refused at NoTelegram = refl
+same-idle_hears : (p : Params) (s : Station) (refused : Option ℕ) (at : ℕ) (a : Arrival) → Same s (idle_hears p s refused at a)
+same-idle_hears p s refused at (Token da sa) = same-token_in_idle p s refused at da sa
+same-idle_hears p s refused at (Framed f) = refl
+same-idle_hears p s refused at Acknowledgement = refl
+same-idle_hears p s refused at NoTelegram = refl
 
-busy-listening_hears : (p : Params) (s : Station) (doubled : Bool) (at : ℕ) (a : Arrival) → Busy s.busy (listening_hears p s doubled at a)
-busy-listening_hears p s doubled at (Token da sa) = refl
-busy-listening_hears p s doubled at (Framed f) = refl
-busy-listening_hears p s doubled at Acknowledgement = refl
-busy-listening_hears p s doubled at NoTelegram = refl
+same-listening_hears : (p : Params) (s : Station) (doubled : Bool) (at : ℕ) (a : Arrival) → Same s (listening_hears p s doubled at a)
+same-listening_hears p s doubled at (Token da sa) = refl
+same-listening_hears p s doubled at (Framed f) = refl
+same-listening_hears p s doubled at Acknowledgement = refl
+same-listening_hears p s doubled at NoTelegram = refl
 
-busy-holder_hears : (s : Station) (a : Arrival) → Busy s.busy (holder_hears s a)
-busy-holder_hears s (Token da sa) = refl
-busy-holder_hears s (Framed f) = refl
-busy-holder_hears s Acknowledgement = refl
-busy-holder_hears s NoTelegram = refl
+same-holder_hears : (s : Station) (a : Arrival) → Same s (holder_hears s a)
+same-holder_hears s (Token da sa) = refl
+same-holder_hears s (Framed f) = refl
+same-holder_hears s Acknowledgement = refl
+same-holder_hears s NoTelegram = refl
 
-busy-status_told : (p : Params) (s : Station) (of at : ℕ) (fc : Option ℕ) → Busy s.busy (status_told p s of at fc)
-busy-status_told p s of at None = refl
-busy-status_told p s of at (Some fc) = refl
+same-status_told : (p : Params) (s : Station) (of at : ℕ) (fc : Option ℕ) → Same s (status_told p s of at fc)
+same-status_told p s of at None = refl
+same-status_told p s of at (Some fc) = refl
 
-busy-awaiting : (p : Params) (s : Station) (of at : ℕ) (a : Arrival) → Busy s.busy (awaiting_status_hears p s of at a)
-busy-awaiting p s of at (Token da sa) = refl
-busy-awaiting p s of at (Framed f) =
-    by_test (Busy s.busy) (has_bit f.fc 6) (lost s) _ (λ _. refl) (λ _. busy-status_told p s of at (status_reply s.address of (message.Framed f)))
-busy-awaiting p s of at Acknowledgement = refl
-busy-awaiting p s of at NoTelegram = refl
+same-awaiting : (p : Params) (s : Station) (of at : ℕ) (a : Arrival) → Same s (awaiting_status_hears p s of at a)
+same-awaiting p s of at (Token da sa) = refl
+same-awaiting p s of at (Framed f) =
+    by_test (Same s) (has_bit f.fc 6) (lost s) _ (λ _. refl) (λ _. same-status_told p s of at (status_reply s.address of (message.Framed f)))
+same-awaiting p s of at Acknowledgement = refl
+same-awaiting p s of at NoTelegram = refl
 
-busy-not_answered : (s : Station) (asked slot : Bool) (ready : ℕ) → Busy s.busy (not_answered s asked slot ready)
-busy-not_answered s asked slot ready = by_test (Busy s.busy) (is_some (retry_of s.cycles.initiator.pending)) _ _ (λ _. refl) (λ _. refl)
+same-not_answered : (s : Station) (asked slot : Bool) (ready : ℕ) → Same s (not_answered s asked slot ready)
+same-not_answered s asked slot ready = by_test (Same s) (is_some (retry_of s.cycles.initiator.pending)) _ _ (λ _. refl) (λ _. refl)
 
-busy-data_told : (p : Params) (s : Station) (asked slot : Bool) (at : ℕ) (m : Message) (outcome : Option Outcome) → Busy s.busy (data_told p s asked slot at m outcome)
-busy-data_told p s asked slot at m (Some outcome) = refl
-busy-data_told p s asked slot at m None = busy-not_answered s asked slot (max at s.own.end + p.tid1)
+same-data_told : (p : Params) (s : Station) (asked slot : Bool) (at : ℕ) (m : Message) (outcome : Option Outcome) → Same s (data_told p s asked slot at m outcome)
+same-data_told p s asked slot at m (Some outcome) = refl
+same-data_told p s asked slot at m None = same-not_answered s asked slot (max at s.own.end + p.tid1)
 
-busy-awaiting_data : (p : Params) (s : Station) (asked slot : Bool) (at : ℕ) (a : Arrival) → Busy s.busy (awaiting_data_hears p s asked slot at a)
-busy-awaiting_data p s asked slot at (Token da sa) = refl
-busy-awaiting_data p s asked slot at (Framed f) =
-    by_test (Busy s.busy) (has_bit f.fc 6) (lost s) _ (λ _. refl)
-    (λ _. busy-data_told p s asked slot at (message.Framed f) (outcome_of s.cycles.initiator (Some (message.Framed f))))
-busy-awaiting_data p s asked slot at Acknowledgement =
-    busy-data_told p s asked slot at message.Acknowledgement (outcome_of s.cycles.initiator (Some message.Acknowledgement))
-busy-awaiting_data p s asked slot at NoTelegram = busy-not_answered s asked slot (max at s.own.end + p.tid1)
+same-awaiting_data : (p : Params) (s : Station) (asked slot : Bool) (at : ℕ) (a : Arrival) → Same s (awaiting_data_hears p s asked slot at a)
+same-awaiting_data p s asked slot at (Token da sa) = refl
+same-awaiting_data p s asked slot at (Framed f) =
+    by_test (Same s) (has_bit f.fc 6) (lost s) _ (λ _. refl)
+    (λ _. same-data_told p s asked slot at (message.Framed f) (outcome_of s.cycles.initiator (Some (message.Framed f))))
+same-awaiting_data p s asked slot at Acknowledgement =
+    same-data_told p s asked slot at message.Acknowledgement (outcome_of s.cycles.initiator (Some message.Acknowledgement))
+same-awaiting_data p s asked slot at NoTelegram = same-not_answered s asked slot (max at s.own.end + p.tid1)
 
-busy-passive : (p : Params) (s : Station) (at : ℕ) (a : Arrival) → Busy s.busy (passive_hears p s at a)
-busy-passive p s at (Token da sa) = refl
-busy-passive p s at (Framed f) = refl
-busy-passive p s at Acknowledgement = refl
-busy-passive p s at NoTelegram = refl
+same-passive : (p : Params) (s : Station) (at : ℕ) (a : Arrival) → Same s (passive_hears p s at a)
+same-passive p s at (Token da sa) = refl
+same-passive p s at (Framed f) = refl
+same-passive p s at Acknowledgement = refl
+same-passive p s at NoTelegram = refl
 
-busy-ended : (p : Params) (s : Station) (ph : Phase) (at : ℕ) (a : Arrival) → Busy s.busy (phase_ended p s ph at a)
-busy-ended p s Offline at a = refl
-busy-ended p s PassiveIdle at a = busy-passive p s at a
-busy-ended p s (Listening doubled) at a = busy-listening_hears p s doubled at a
-busy-ended p s (Idle refused) at a = busy-idle_hears p s refused at a
-busy-ended p s (Claim sent ready) at a = busy-holder_hears s a
-busy-ended p s (Use asked ready) at a = busy-holder_hears s a
-busy-ended p s (AwaitData asked retry slot) at a = busy-awaiting_data p s asked slot at a
-busy-ended p s (AwaitStatus of slot) at a = busy-awaiting p s of at a
-busy-ended p s (Pass tries ready) at a = busy-holder_hears s a
-busy-ended p s (Checking tries) at a = busy-holder_hears s a
+pub same-ended : (p : Params) (s : Station) (ph : Phase) (at : ℕ) (a : Arrival) → Same s (phase_ended p s ph at a)
+same-ended p s Offline at a = refl
+same-ended p s PassiveIdle at a = same-passive p s at a
+same-ended p s (Listening doubled) at a = same-listening_hears p s doubled at a
+same-ended p s (Idle refused) at a = same-idle_hears p s refused at a
+same-ended p s (Claim sent ready) at a = same-holder_hears s a
+same-ended p s (Use asked ready) at a = same-holder_hears s a
+same-ended p s (AwaitData asked retry slot) at a = same-awaiting_data p s asked slot at a
+same-ended p s (AwaitStatus of slot) at a = same-awaiting p s of at a
+same-ended p s (Pass tries ready) at a = same-holder_hears s a
+same-ended p s (Checking tries) at a = same-holder_hears s a
 
 -- ---- marks and timers
 
@@ -115,7 +122,7 @@ silent-begun (Checking tries) own at = by_test (λ ph. phase_speaks None ph ≡ 
 silent-heard : (p : Params) (s : Station) (m : Mark) → IsSilentWhileBusy (heard p s m)
 silent-heard p s (Begin at seen) busy = silent-begun s.phase s.own.begin at
 silent-heard p s (End at seen chars) busy =
-    absurd (let wrong : false ≡ true = sym (busy-ended p (at_end s at) s.phase at (arrival_of chars)) ∙ busy in cc)
+    absurd (let wrong : false ≡ true = sym (ap (λ (q : Bool × ℕ). q.0) (same-ended p (at_end s at) s.phase at (arrival_of chars))) ∙ busy in cc)
 
 silent-after_mark : (p : Params) (s : Station) (m : Mark) → IsSilentWhileBusy s → IsSilentWhileBusy (after_mark p s m)
 silent-after_mark p s m silent =
@@ -132,7 +139,7 @@ busy-phase_timed_out s (Listening doubled) t = refl
 busy-phase_timed_out s (Idle refused) t = refl
 busy-phase_timed_out s (Claim sent ready) t = refl
 busy-phase_timed_out s (Use asked ready) t = refl
-busy-phase_timed_out s (AwaitData asked retry slot) t = busy-not_answered s asked false t
+busy-phase_timed_out s (AwaitData asked retry slot) t = ap (λ (q : Bool × ℕ). q.0) (same-not_answered s asked false t)
 busy-phase_timed_out s (AwaitStatus of slot) t = refl
 busy-phase_timed_out s (Pass tries ready) t = refl
 busy-phase_timed_out s (Checking tries) t = by_test (Busy s.busy) _ _ _ (λ _. refl) (λ _. refl)

@@ -1,5 +1,5 @@
 -- Tests, choices by them, and the earlier of two moments.
-use Rattle.std.proofs.Common.{◌≡◌, ℕ, ◌<◌, Bool, true, false, cond, refl, arith, Option, Some, None}
+use Rattle.std.proofs.Common.{◌≡◌, ℕ, ◌<◌, ◌&&◌, ◌||◌, Bool, true, false, cond, refl, arith, Option, Some, None}
 use Rattle.std.specs.Prelude.{IfSome}
 use Rattle.pb_turn.specs.Stations.{earlier}
 
@@ -7,6 +7,14 @@ use Rattle.pb_turn.specs.Stations.{earlier}
 pub by_test : {A : Type 0} (P : A → Type 0) (b : Bool) (x y : A) → (b ≡ true → P x) → (b ≡ false → P y) → P (cond b x y)
 by_test {A} P true x y f g = f refl
 by_test {A} P false x y f g = g refl
+
+pub and-false : (a b : Bool) → b ≡ false → (a && b) ≡ false
+and-false true b e = e
+and-false false b e = refl
+
+pub or-true : (a b : Bool) → b ≡ true → (a || b) ≡ true
+or-true true b e = refl
+or-true false b e = e
 
 -- where each of two moments is later than the clock, so is the earlier
 pub earlier-later : (now : ℕ) (a b : Option ℕ) → IfSome a (λ t. now < t) → IfSome b (λ t. now < t) → IfSome (earlier a b) (λ t. now < t)

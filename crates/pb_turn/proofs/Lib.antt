@@ -6,10 +6,12 @@ pub mod Checks
 pub mod Initiating
 pub mod Keeping
 pub mod Moments
+pub mod Noting
 pub mod Paths
 pub mod Numbers
 pub mod Octets
 pub mod Requesting
 pub mod Retrying
+pub mod Rounds
 pub mod Saying
 pub mod Standing

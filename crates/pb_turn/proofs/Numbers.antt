@@ -1,5 +1,5 @@
 -- Rules of the turn, number by number.
-use Rattle.std.proofs.Common.{◌≡◌, ◌∙◌, ℕ, ◌+◌, ◌<◌, ◌≤◌, ◌==◌, ◌&&◌, ◌||◌, ◌%◌, List, [], Bool, true, false, if◌then◌else◌, refl, ap, sym, subst, Option, Some, None}
+use Rattle.std.proofs.Common.{◌≡◌, ◌∙◌, ℕ, ◌+◌, ◌<◌, ◌≤◌, ◌==◌, ◌%◌, List, [], Bool, true, false, if◌then◌else◌, refl, ap, sym, subst, Option, Some, None}
 use Rattle.std.specs.Option.{option_map}
 use Rattle.std.specs.Prelude.{is_some, min, max}
 use Rattle.std.proofs.lemmas.Bool.{le-leb, lt-leb, eq-eqb, and_parts}
@@ -28,7 +28,7 @@ use Rattle.pb_turn.specs.Marks.{Mark, Begin, End}
 use Rattle.pb_turn.specs.Phases.{Phase, Offline, Listening, Idle, Use, AwaitData, AwaitStatus, Pass, Checking}
 use Rattle.pb_turn.specs.Stations.{Station, next_station, previous_station}
 use Rattle.pb_turn.specs.Turns.{says_token, received_own, saying, token_octets, says_look, says_no_request, high_request, low_request, high_taken, low_taken, says_request, says_low, says_high, says_again, phase_says}
-use Rattle.pb_turn.proofs.Cases.{by_test}
+use Rattle.pb_turn.proofs.Cases.{by_test, and-false, or-true}
 use Rattle.pb_turn.proofs.Keeping.{waiting_reply}
 use Rattle.pb_turn.proofs.Paths.{at_end}
 
@@ -44,10 +44,6 @@ tried-again s tries t few =
     ap (λ (b : Bool). if b then record s { phase = Pass 0 t; las = las.removed s.las (next_station s) } else record s { phase = Pass tries t }) (lt-leb 3 tries few)
 
 -- ---- one question per receipt
-
-and-false : (a b : Bool) → b ≡ false → (a && b) ≡ false
-and-false true b e = e
-and-false false b e = refl
 
 -- without a request that may be sent the token goes on
 asked-no_request : (p : Params) (s : Station) (now : ℕ) → says_no_request p s true now ≡ says_token p s 0 now
@@ -193,10 +189,6 @@ request-heard-data p s asked slot at f asks =
 
 own : (n : ℕ) → (n == n) ≡ true
 own n = eq-eqb n n refl
-
-or-true : (a b : Bool) → b ≡ true → (a || b) ≡ true
-or-true true b e = refl
-or-true false b e = e
 
 own-heard : (p : Params) (s : Station) (refused : Option ℕ) (at sa : ℕ)
     → token_in_idle p s refused at s.address sa ≡ own_token p (with_token s s.address sa) (is_taken_from refused (previous_station s) sa) sa at

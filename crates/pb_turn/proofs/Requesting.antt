@@ -32,7 +32,7 @@ use Rattle.pb_turn.specs.Phases.{Phase, PassiveIdle, Use, AwaitData, is_offline,
 use Rattle.pb_turn.specs.Stations.{Station, Cycles, Reply, speaks_at, next_station, list_for, pushed}
 use Rattle.pb_turn.specs.Turns.{after_marks, settled, saying, says_token, says_look, longest_waiting, high_request, low_request, high_taken, low_taken, says_request, says_low, says_high, says_again, says_reply, phase_says, speech, turn_of}
 use Rattle.pb_turn.proofs.Busy.{silent-begun}
-use Rattle.pb_turn.proofs.Cases.{by_test}
+use Rattle.pb_turn.proofs.Cases.{by_test, or-true}
 use Rattle.pb_turn.proofs.Initiating.{holder-turn_of}
 use Rattle.pb_turn.proofs.Keeping.{waiting_reply}
 use Rattle.pb_turn.proofs.Moments.{turn_of-nothing_due}
@@ -80,10 +80,6 @@ held-low p s asked ready now none empty =
     let x = record s { phase = Use asked ready } in
     ap (λ (o : Option RequestFields). says_high p x asked o now) (no_high_waits x now empty)
     ∙ passes-on p x asked now none
-
-or-true : (a b : Bool) → b ≡ true → (a || b) ≡ true
-or-true true b e = refl
-or-true false b e = e
 
 -- one high request of a receipt needs no holding time
 pub high-first : (p : Params) (s : Station) (asked : Bool) (ready now : ℕ) (r : RequestFields) (rs : List RequestFields) → is_unused s.rotation.last ≡ true

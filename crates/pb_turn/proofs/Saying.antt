@@ -1,6 +1,6 @@
 -- What a station says when it speaks.
 use Rattle.std.proofs.Common.{◌≡◌, ◌∙◌, ℕ, ◌+◌, ◌==◌, List, [], length, Bool, true, false, refl, ap, sym, subst, Option, Some, None}
-use Rattle.std.specs.Prelude.{IfSome, IsSome, nat_le}
+use Rattle.std.specs.Prelude.{IfSome, IsSome, max, nat_le}
 use Rattle.pb_timers.specs.Timers.{Params, bits}
 use Rattle.pb_ring.specs.Gap.{next_asked, last_asked, round_after}
 use Rattle.pb_cycles.specs.Fields.{Fields}
@@ -71,78 +71,96 @@ phase_says-some p s now moment left e = subst (λ (o : Option ℕ). IfSome o (λ
 
 -- ---- the own telegram
 
--- where a station says octets, its own telegram lasts as long as they do
-abbrev OwnLasts : Station × Option (List ℕ) → ℕ → Type 0
-OwnLasts turn now = IfSome turn.1 (λ octets. turn.0.own.end ≡ now + bits (length octets))
+-- the own last telegram, and since when it is quiet
+abbrev sound_of : Station → ℕ × ℕ × ℕ
+sound_of s = (s.own.begin, s.own.end, s.quiet)
 
-own-says_token : (p : Params) (s : Station) (tries now : ℕ) → OwnLasts (says_token p s tries now) now
+abbrev sounded : Station → (now end : ℕ) → ℕ × ℕ × ℕ
+sounded s now end = (now, end, max s.quiet end)
+
+-- where a station says octets, its own telegram lasts as long as they do, and it is quiet after it at the earliest
+abbrev OwnLasts : Station → Station × Option (List ℕ) → ℕ → Type 0
+OwnLasts s turn now = IfSome turn.1 (λ octets. sound_of turn.0 ≡ sounded s now (now + bits (length octets)))
+
+own-says_token : (p : Params) (s : Station) (tries now : ℕ) → OwnLasts s (says_token p s tries now) now
 own-says_token p s tries now =
     let x = saying s now (token_octets (next_station s) s.address) in
-    by_test (λ (y : Station). y.own.end ≡ now + 33) (next_station s == s.address) (received_own p x) _ (λ _. refl) (λ _. refl)
+    by_test (λ (y : Station). sound_of y ≡ sounded s now (now + 33)) (next_station s == s.address) (received_own p x) _ (λ _. refl) (λ _. refl)
 
-own-says_look : (p : Params) (s : Station) (next : Option ℕ) (now : ℕ) → OwnLasts (says_look p s next now) now
+own-says_look : (p : Params) (s : Station) (next : Option ℕ) (now : ℕ) → OwnLasts s (says_look p s next now) now
 own-says_look p s None now = own-says_token p (record s { gap = round_after None now }) 0 now
 own-says_look p s (Some a) now = refl
 
-own-says_no_request : (p : Params) (s : Station) (asked : Bool) (now : ℕ) → OwnLasts (says_no_request p s asked now) now
+own-says_no_request : (p : Params) (s : Station) (asked : Bool) (now : ℕ) → OwnLasts s (says_no_request p s asked now) now
 own-says_no_request p s asked now =
-    by_test (λ (turn : Station × Option (List ℕ)). OwnLasts turn now) (looks_at_gap p s asked now) _ _
+    by_test (λ (turn : Station × Option (List ℕ)). OwnLasts s turn now) (looks_at_gap p s asked now) _ _
     (λ _. own-says_look p s (next_asked s.address (next_station s) p.hsa (last_asked s.gap)) now) (λ _. own-says_token p s 0 now)
 
-own-says_request : (p : Params) (s : Station) (asked : Bool) (r : RequestFields) (now : ℕ) → OwnLasts (says_request p s asked r now) now
+own-says_request : (p : Params) (s : Station) (asked : Bool) (r : RequestFields) (now : ℕ) → OwnLasts s (says_request p s asked r now) now
 own-says_request p s asked r now =
-    by_test (λ (y : Station). y.own.end ≡ now + bits (length (frame_octets (first_sending s.cycles.initiator s.address r)))) (is_answered r.service) _ _ (λ _. refl) (λ _. refl)
+    by_test (λ (y : Station). sound_of y ≡ sounded s now (now + bits (length (frame_octets (first_sending s.cycles.initiator s.address r))))) (is_answered r.service) _ _ (λ _. refl) (λ _. refl)
 
-own-says_low : (p : Params) (s : Station) (asked : Bool) (r : Option RequestFields) (now : ℕ) → OwnLasts (says_low p s asked r now) now
+own-says_low : (p : Params) (s : Station) (asked : Bool) (r : Option RequestFields) (now : ℕ) → OwnLasts s (says_low p s asked r now) now
 own-says_low p s asked None now = own-says_no_request p s asked now
 own-says_low p s asked (Some r) now = own-says_request p (low_taken s) asked r now
 
-own-says_high : (p : Params) (s : Station) (asked : Bool) (r : Option RequestFields) (now : ℕ) → OwnLasts (says_high p s asked r now) now
+own-says_high : (p : Params) (s : Station) (asked : Bool) (r : Option RequestFields) (now : ℕ) → OwnLasts s (says_high p s asked r now) now
 own-says_high p s asked None now = own-says_low p s asked (low_request s now) now
 own-says_high p s asked (Some r) now = own-says_request p (high_taken s) asked r now
 
-own-says_again : (s : Station) (asked : Bool) (f : Option Fields) (now : ℕ) → OwnLasts (says_again s asked f now) now
+own-says_again : (s : Station) (asked : Bool) (f : Option Fields) (now : ℕ) → OwnLasts s (says_again s asked f now) now
 own-says_again s asked None now = tt
 own-says_again s asked (Some f) now = refl
 
-own-phase_says : (p : Params) (s : Station) (ph : Phase) (now : ℕ) → OwnLasts (phase_says p (record s { phase = ph }) ph now) now
+own-phase_says : (p : Params) (s : Station) (ph : Phase) (now : ℕ) → OwnLasts s (phase_says p (record s { phase = ph }) ph now) now
 own-phase_says p s Offline now = tt
 own-phase_says p s PassiveIdle now = by_reply s.reply
   where
-    by_reply : (o : Option Reply) → OwnLasts (says_reply (record s { phase = PassiveIdle }) o now) now
+    by_reply : (o : Option Reply) → OwnLasts s (says_reply (record s { phase = PassiveIdle }) o now) now
     by_reply None = tt
     by_reply (Some r) = refl
 own-phase_says p s (Listening doubled) now = by_reply s.reply
   where
-    by_reply : (o : Option Reply) → OwnLasts (says_ready (record s { phase = Listening doubled }) o now) now
+    by_reply : (o : Option Reply) → OwnLasts s (says_ready (record s { phase = Listening doubled }) o now) now
     by_reply None = tt
     by_reply (Some r) =
         let x = replying (record s { phase = Listening doubled }) now r in
-        by_test (λ (y : Station). y.own.end ≡ now + bits (length r.octets)) r.joins (joining x) x (λ _. refl) (λ _. refl)
+        by_test (λ (y : Station). sound_of y ≡ sounded s now (now + bits (length r.octets))) r.joins (joining x) x (λ _. refl) (λ _. refl)
 own-phase_says p s (Idle refused) now = by_reply s.reply
   where
-    by_reply : (o : Option Reply) → OwnLasts (says_reply (record s { phase = Idle refused }) o now) now
+    by_reply : (o : Option Reply) → OwnLasts s (says_reply (record s { phase = Idle refused }) o now) now
     by_reply None = tt
     by_reply (Some r) = refl
 own-phase_says p s (Claim sent ready) now =
     let x = saying s now (token_octets s.address s.address) in
-    by_test (λ (y : Station). y.own.end ≡ now + 33) (sent == 0) _ (received_own p x) (λ _. refl) (λ _. refl)
+    by_test (λ (y : Station). sound_of y ≡ sounded s now (now + 33)) (sent == 0) _ (received_own p x) (λ _. refl) (λ _. refl)
 own-phase_says p s (Use asked ready) now = let x = record s { phase = Use asked ready } in own-says_high p x asked (high_request x now) now
 own-phase_says p s (AwaitData asked retry slot) now = own-says_again (record s { phase = AwaitData asked retry slot }) asked (retry_of s.cycles.initiator.pending) now
 own-phase_says p s (AwaitStatus of slot) now = tt
 own-phase_says p s (Pass tries ready) now = own-says_token p (record s { phase = Pass tries ready }) tries now
 own-phase_says p s (Checking tries) now = tt
 
-own-speech : (p : Params) (s : Station) (o : Option ℕ) (now : ℕ) → OwnLasts (speech p s o now) now
+own-speech : (p : Params) (s : Station) (o : Option ℕ) (now : ℕ) → OwnLasts s (speech p s o now) now
 own-speech p s None now = tt
 own-speech p s (Some moment) now =
-    by_test (λ (turn : Station × Option (List ℕ)). OwnLasts turn now) (nat_le moment now) (phase_says p s s.phase now) (s, None) (λ _. own-phase_says p s s.phase now) (λ _. tt)
+    by_test (λ (turn : Station × Option (List ℕ)). OwnLasts s turn now) (nat_le moment now) (phase_says p s s.phase now) (s, None) (λ _. own-phase_says p s s.phase now) (λ _. tt)
 
 own-turn_of : (p : Params) (s : Station) (marks : List Mark) (now : ℕ) (octets : List ℕ) → (turn_of p s marks now).1 ≡ Some octets
-    → (turn_of p s marks now).0.own.end ≡ now + bits (length octets)
+    → sound_of (turn_of p s marks now).0 ≡ sounded (settled p s marks now) now (now + bits (length octets))
 own-turn_of p s marks now octets said =
     let x = settled p s marks now in
-    subst (λ (o : Option (List ℕ)). IfSome o (λ octets. (turn_of p s marks now).0.own.end ≡ now + bits (length octets))) said (own-speech p x (speaks_at x) now)
+    subst (λ (o : Option (List ℕ)). IfSome o (λ octets. sound_of (turn_of p s marks now).0 ≡ sounded x now (now + bits (length octets)))) said (own-speech p x (speaks_at x) now)
+
+pub own-begins : (p : Params) (s : Station) (marks : List Mark) (now : ℕ) (octets : List ℕ) → (turn_of p s marks now).1 ≡ Some octets → (turn_of p s marks now).0.own.begin ≡ now
+own-begins p s marks now octets said = ap (λ (q : ℕ × ℕ × ℕ). q.0) (own-turn_of p s marks now octets said)
+
+pub own-ends : (p : Params) (s : Station) (marks : List Mark) (now : ℕ) (octets : List ℕ) → (turn_of p s marks now).1 ≡ Some octets
+    → (turn_of p s marks now).0.own.end ≡ now + bits (length octets)
+own-ends p s marks now octets said = ap (λ (q : ℕ × ℕ × ℕ). q.1) (own-turn_of p s marks now octets said)
+
+pub own-quiets : (p : Params) (s : Station) (marks : List Mark) (now : ℕ) (octets : List ℕ) → (turn_of p s marks now).1 ≡ Some octets
+    → (turn_of p s marks now).0.quiet ≡ max (settled p s marks now).quiet (now + bits (length octets))
+own-quiets p s marks now octets said = ap (λ (q : ℕ × ℕ × ℕ). q.2) (own-turn_of p s marks now octets said)
 
 pub due_in_checking : (p : Params) (s : Station) (tries : ℕ) → s.busy ≡ false → s.phase ≡ Checking tries → due_of p s [] ≡ Some (s.own.end + p.tsl)
 due_in_checking p s tries idle checking =
@@ -175,16 +193,16 @@ pub due-token_passed : (p : Params) (s : Station) (marks : List Mark) (now tries
     → (turn_of p s marks now).1 ≡ Some octets → (turn_of p s marks now).0.phase ≡ Checking tries → (turn_of p s marks now).0.busy ≡ false
     → due_of p (turn_of p s marks now).0 [] ≡ Some (now + bits (length octets) + p.tsl)
 due-token_passed p s marks now tries octets said checking idle =
-    due_in_checking p (turn_of p s marks now).0 tries idle checking ∙ ap (λ (end : ℕ). Some (end + p.tsl)) (own-turn_of p s marks now octets said)
+    due_in_checking p (turn_of p s marks now).0 tries idle checking ∙ ap (λ (end : ℕ). Some (end + p.tsl)) (own-ends p s marks now octets said)
 
 pub due-asked : (p : Params) (s : Station) (marks : List Mark) (now of : ℕ) (octets : List ℕ)
     → (turn_of p s marks now).1 ≡ Some octets → (turn_of p s marks now).0.phase ≡ AwaitStatus of true → (turn_of p s marks now).0.busy ≡ false
     → due_of p (turn_of p s marks now).0 [] ≡ Some (now + bits (length octets) + p.tsl)
 due-asked p s marks now of octets said asking idle =
-    due_in_asking p (turn_of p s marks now).0 of idle asking ∙ ap (λ (end : ℕ). Some (end + p.tsl)) (own-turn_of p s marks now octets said)
+    due_in_asking p (turn_of p s marks now).0 of idle asking ∙ ap (λ (end : ℕ). Some (end + p.tsl)) (own-ends p s marks now octets said)
 
 pub due-requested : (p : Params) (s : Station) (marks : List Mark) (now : ℕ) (asked : Bool) (octets : List ℕ)
     → (turn_of p s marks now).1 ≡ Some octets → (turn_of p s marks now).0.phase ≡ AwaitData asked None true → (turn_of p s marks now).0.busy ≡ false
     → due_of p (turn_of p s marks now).0 [] ≡ Some (now + bits (length octets) + p.tsl)
 due-requested p s marks now asked octets said waiting idle =
-    due_in_waiting p (turn_of p s marks now).0 asked idle waiting ∙ ap (λ (end : ℕ). Some (end + p.tsl)) (own-turn_of p s marks now octets said)
+    due_in_waiting p (turn_of p s marks now).0 asked idle waiting ∙ ap (λ (end : ℕ). Some (end + p.tsl)) (own-ends p s marks now octets said)

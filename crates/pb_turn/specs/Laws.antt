@@ -41,6 +41,19 @@ is_asking (AwaitStatus of slot) = true
 is_asking (Pass tries ready) = false
 is_asking (Checking tries) = false
 
+-- a reply is waited for
+abbrev pub awaits_reply : Phase → Bool
+awaits_reply Offline = false
+awaits_reply PassiveIdle = false
+awaits_reply (Listening doubled) = false
+awaits_reply (Idle refused) = false
+awaits_reply (Claim sent ready) = false
+awaits_reply (Use asked ready) = false
+awaits_reply (AwaitData asked retry slot) = true
+awaits_reply (AwaitStatus of slot) = true
+awaits_reply (Pass tries ready) = false
+awaits_reply (Checking tries) = false
+
 -- the reply of a station to a request for its status: its control octet, and whether the station joins the ring with it
 abbrev pub status_reply_of : Params → Station → ℕ → Fields → ℕ → Bool → Reply
 status_reply_of p s at f fc joins = record {

@@ -1,9 +1,11 @@
 //! Rules of the turn, number by number.
 
-ghost use Rattle.std.specs.Prelude.{◌≡◌, ◌+◌, ◌*◌, List, [], ◌∷◌, ◌++◌, length, ◌<◌, ◌≤◌, ◌==◌, max, ℕ, Bool, true, false, Some, None, Option, IfSome};
+ghost use Rattle.std.specs.Prelude.{◌≡◌, ◌+◌, ◌*◌, ◌%◌, List, [], ◌∷◌, ◌++◌, length, ◌<◌, ◌≤◌, ◌==◌, max, ℕ, Bool, true, false, Some, None, Option, IfSome};
 ghost use Rattle.pb_telegram.specs.declared.chars.RxChar.{RxChar};
 ghost use Rattle.pb_timers.specs.Timers.{Params, bits};
-ghost use Rattle.pb_ring.specs.Las.{is_complete, heard, removed, listening, place_of, skips_of};
+ghost use Rattle.pb_ring.specs.Gap.{next_asked};
+ghost use Rattle.pb_ring.specs.Las.{is_complete, heard, removed, listening, members_of, place_of, skips_of};
+ghost use Rattle.pb_ring.specs.declared.gaps.Round.TheVariants.{Open, Closed};
 ghost use Rattle.pb_rotation.specs.Rotation.{holding_left, is_unused, may_low, may_high};
 ghost use Rattle.pb_cycles.specs.Fields.{Fields};
 ghost use Rattle.pb_cycles.specs.Initiating.{bits_for, first_sending, retry_of};
@@ -19,9 +21,9 @@ ghost use Rattle.pb_turn.specs.Arrivals.{Token, Framed, Acknowledgement, NoTeleg
 ghost use Rattle.pb_turn.specs.Hearing.{phase_timed_out, listening_hears, idle_hears, awaiting_status_hears, awaiting_data_hears, passive_hears, asks_status, is_taken_from, after_mark};
 ghost use Rattle.pb_turn.specs.Laws.{HasAsked, is_asking, status_reply_of, are_initiator, HasReply, HasCycles};
 ghost use Rattle.pb_turn.specs.Marks.{Mark, Begin, End};
-ghost use Rattle.pb_turn.specs.Phases.{Offline, PassiveIdle, Listening, Idle, Use, AwaitData, AwaitStatus, Pass, Checking, may_initiate, is_offline};
+ghost use Rattle.pb_turn.specs.Phases.{Offline, PassiveIdle, Listening, Idle, Claim, Use, AwaitData, AwaitStatus, Pass, Checking, may_initiate, is_offline};
 ghost use Rattle.pb_turn.specs.Stations.{Station, timer_of, speaks_at, next_station, previous_station, list_for, pushed};
-ghost use Rattle.pb_turn.specs.Turns.{says_token, says_request, says_again, high_request, low_request, high_taken, low_taken, phase_says, turn_of, token_octets};
+ghost use Rattle.pb_turn.specs.Turns.{says_token, says_look, says_request, says_again, high_request, low_request, high_taken, low_taken, phase_says, turn_of, token_octets, status_request_octets};
 
 /// A station that has passed the token on takes whatever begins from the beginning of its token on for a
 /// sign that it was taken, a telegram or not: it waits in Idle then, whatever else comes, and may initiate
@@ -219,4 +221,45 @@ pub fn a_reply_waits_for_its_delay()
     ensures in_ring { (p : Params) (s : Station) (refused : Option ℕ) (at : ℕ) (f : Fields) → IfSome (idle_hears p s refused at (Framed f)).reply (λ r. r.ready ≡ at + p.tsdr) }
     ensures passive { (p : Params) (s : Station) (at : ℕ) (f : Fields) → IfSome (passive_hears p s at (Framed f)).reply (λ r. r.ready ≡ at + p.tsdr) }
     ensures listening { (p : Params) (s : Station) (doubled : Bool) (at : ℕ) (f : Fields) → IfSome (listening_hears p s doubled at (Framed f)).reply (λ r. r.ready ≡ at + p.tsdr) }
+{}
+
+/// A round of questions to the GAP is due some rotation times after the last one was closed: where no request
+/// may be sent, the token goes on till then. A round that is open goes on behind the last address it asked.
+pub fn a_round_is_due_some_rotations_after_the_last()
+    ensures waits { (p : Params) (s : Station) (asked : Bool) (ready now closed : ℕ) → high_request s now ≡ None → low_request s now ≡ None
+        → s.gap ≡ Closed closed → now < closed + p.gap * p.ttr
+        → phase_says p (record s { phase = Use asked ready }) (Use asked ready) now ≡ says_token p (record s { phase = Use asked ready }) 0 now }
+    ensures begins { (p : Params) (s : Station) (ready now closed : ℕ) → high_request s now ≡ None → low_request s now ≡ None → may_low s.rotation now ≡ true
+        → s.gap ≡ Closed closed → closed + p.gap * p.ttr ≤ now
+        → phase_says p (record s { phase = Use false ready }) (Use false ready) now
+        ≡ says_look p (record s { phase = Use false ready }) (next_asked s.address (next_station s) p.hsa None) now }
+    ensures goes_on { (p : Params) (s : Station) (ready now : ℕ) (last : Option ℕ) → high_request s now ≡ None → low_request s now ≡ None → may_low s.rotation now ≡ true
+        → s.gap ≡ Open last
+        → phase_says p (record s { phase = Use false ready }) (Use false ready) now
+        ≡ says_look p (record s { phase = Use false ready }) (next_asked s.address (next_station s) p.hsa last) now }
+{}
+
+/// The next station of one in the ring is the one behind it, and the previous one that before it.
+pub fn a_station_stands_between_its_neighbours()
+    ensures next { (s : Station) → s.address ≡ 5 → members_of s.las.stage ≡ 2 ∷ 5 ∷ 9 ∷ [] → next_station s ≡ 9 }
+    ensures previous { (s : Station) → s.address ≡ 5 → members_of s.las.stage ≡ 2 ∷ 5 ∷ 9 ∷ [] → previous_station s ≡ 2 }
+    ensures next_of_last { (s : Station) → s.address ≡ 9 → members_of s.las.stage ≡ 2 ∷ 5 ∷ 9 ∷ [] → next_station s ≡ 2 }
+    ensures previous_of_first { (s : Station) → s.address ≡ 2 → members_of s.las.stage ≡ 2 ∷ 5 ∷ 9 ∷ [] → previous_station s ≡ 9 }
+{}
+
+/// A station that claims the token says two tokens to its own address, an idle time apart, and uses the token
+/// another idle time later.
+pub fn a_claim_is_two_tokens()
+    ensures after_listening { (s : Station) (doubled : Bool) (t : ℕ) → (phase_timed_out s (Listening doubled) t).phase ≡ Claim 0 t }
+    ensures after_idle { (s : Station) (refused : Option ℕ) (t : ℕ) → (phase_timed_out s (Idle refused) t).phase ≡ Claim 0 t }
+    ensures first { (p : Params) (s : Station) (ready now : ℕ) → (phase_says p s (Claim 0 ready) now).0.phase ≡ Claim 1 (now + 33 + p.tid1) }
+    ensures second { (p : Params) (s : Station) (ready now : ℕ) → (phase_says p s (Claim 1 ready) now).0.phase ≡ Use false (now + 33 + p.tid1) }
+    ensures says { (p : Params) (s : Station) (sent ready now : ℕ) → (phase_says p s (Claim sent ready) now).1 ≡ Some (0xdc ∷ s.address ∷ s.address ∷ []) }
+{}
+
+/// A token telegram has its destination first. A question for the status is a request with function code 9, whose
+/// check octet is the sum of its addresses and its control octet.
+pub fn what_tokens_and_questions_are()
+    ensures token { (da sa : ℕ) → token_octets da sa ≡ 0xdc ∷ da ∷ sa ∷ [] }
+    ensures question { (da sa : ℕ) → status_request_octets da sa ≡ 0x10 ∷ da ∷ sa ∷ 0x49 ∷ (da + sa + 0x49) % 256 ∷ 0x16 ∷ [] }
 {}

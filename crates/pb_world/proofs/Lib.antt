@@ -1,14 +1,3 @@
-pub mod Airing
-pub mod Behind
-pub mod Specified
-pub mod Stepping
-pub mod Cutting
-pub mod Elapsing
-pub mod Entering
-pub mod Hitting
-pub mod Items
-pub mod Passing
 pub mod Running
-pub mod Seats
-pub mod Sensing
-pub mod Widening
+pub mod Legal
+pub mod Premising

@@ -1,39 +1,24 @@
-//! Stations on one medium: the world, its events, and the trace of the bus.
+//! Stations on one medium: the world, its events, the trace of the bus, and its audit.
 //!
 //! [`World::new`] takes the bus parameters and the taps; [`World::apply`] does an event (a station's turn,
 //! passing time, damage, noise, a lost telegram, a start, a stop, a request) and answers what came of it. The
-//! trace, the clock, and each station with the moment of its next turn are read from it. All times are in
-//! bit times.
+//! trace, the clock, and each station with the moment of its next turn are read from it. [`audit`] judges a
+//! whole run. All times are in bit times.
 #![tactic(auto)]
 
-mod buses;
-mod clocks;
-mod damaging;
-mod entries;
-mod events;
-mod faults;
-mod inboxes;
-mod losing;
-mod making;
-mod moments;
-mod noising;
-mod passes;
-mod queueing;
-mod recents;
-mod senses;
-mod spans;
-mod starting;
-mod stopping;
-mod taps;
-mod tracing;
-mod turning;
+mod auditing;
+mod ends;
+mod findings;
+mod initiators;
+mod legality;
+mod premises;
 mod worlds;
 
-pub use entries::{Entry, Heard, Record};
-pub use events::{Event, Reply};
-pub use faults::{NewFault, WorldFault};
+pub use auditing::audit;
+pub use findings::{Audit, AuditFault};
+pub use pb_medium::{Entry, Heard, Record};
 pub use pb_station::Station;
-pub use taps::{Kind, TapSpec};
+pub use pb_taps::{Event, Kind, NewFault, Reply, TapSpec, WorldFault};
 pub use worlds::{World, run};
 
 #[cfg(test)]

@@ -1,3 +1,4 @@
+mod auditing;
 mod cutting;
 mod cycles;
 mod hearing;
@@ -13,6 +14,7 @@ mod running;
 mod stopping;
 mod texts;
 
+use crate::ends::end_of;
 use crate::{Entry, Event, Kind, TapSpec, World, WorldFault};
 use arrayvec::ArrayVec;
 use pb_cycles::{Request, Service};
@@ -143,7 +145,7 @@ fn next_instant(world: &World, steps: &[Step]) -> Option<u64> {
         next = sooner(now, next, Some(*at));
     }
     for entry in world.trace() {
-        next = sooner(now, next, Some(entry.end()));
+        next = sooner(now, next, Some(end_of(entry)));
     }
     for tap in 0..TAPS {
         next = sooner(now, next, due(world, tap));
@@ -163,7 +165,7 @@ fn sooner(now: u64, next: Option<u64>, other: Option<u64>) -> Option<u64> {
 fn has_news(world: &World, steps: &[Step]) -> bool {
     let now = world.now().get();
     let started = steps.iter().any(|(at, event)| *at == now && matches!(event, Event::Start(_)));
-    world.trace().iter().any(|entry| begins_at(entry, now) || (started && now < entry.end()))
+    world.trace().iter().any(|entry| begins_at(entry, now) || (started && now < end_of(entry)))
 }
 
 fn begins_at(entry: &Entry, moment: u64) -> bool {

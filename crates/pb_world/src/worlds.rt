@@ -1,15 +1,11 @@
 ghost use Rattle.std.specs.Prelude.{◌≡◌, OnOk, IfErr, map};
-ghost use Rattle.pb_world.specs.Events.{event_of};
-ghost use Rattle.pb_world.specs.Worlds.{RunsTo, StopsAt};
+ghost use Rattle.pb_taps.specs.Events.{event_of};
+ghost use Rattle.pb_bus.specs.Worlds.{RunsTo, StopsAt};
 
-use crate::buses::Bus;
-use crate::entries::Entry;
-use crate::events::{Event, Reply};
-use crate::faults::{NewFault, WorldFault};
-use crate::making::{check_taps, new_taps};
-use crate::moments::beginning;
-use crate::taps::TapSpec;
+use pb_bus::{Bus, new_bus};
+use pb_medium::Entry;
 use pb_station::Station;
+use pb_taps::{Event, NewFault, Reply, TapSpec, WorldFault};
 use pb_timers::{BusParams, Moment};
 use std::alloc::Global;
 use std::marker::Model;
@@ -25,7 +21,7 @@ pub struct World {
 
 impl Model for World {
     ghost use Rattle.pb_model.specs.World as model;
-    ghost use Rattle.pb_world.specs.Buses.{world_of, IsKept};
+    ghost use Rattle.pb_bus.specs.Buses.{world_of, IsKept};
 
     ghost Value = { model.World };
 
@@ -37,11 +33,11 @@ impl Model for World {
 impl World {
     ghost use Rattle.std.specs.Prelude.{◌≡◌, Ok, None, IfOk, IfErr, MatchOption, map, slice_get};
     ghost use Rattle.pb_model.specs.World.{new_world};
-    ghost use Rattle.pb_world.specs.Entries.{entry_of};
-    ghost use Rattle.pb_world.specs.Events.{event_of};
-    ghost use Rattle.pb_world.specs.Faults.{RefusesNew};
-    ghost use Rattle.pb_world.specs.Taps.{spec_of};
-    ghost use Rattle.pb_world.specs.Worlds.{due_at, Follows, IsStationAt};
+    ghost use Rattle.pb_medium.specs.Entries.{entry_of};
+    ghost use Rattle.pb_taps.specs.Events.{event_of};
+    ghost use Rattle.pb_taps.specs.Faults.{RefusesNew};
+    ghost use Rattle.pb_taps.specs.Taps.{spec_of};
+    ghost use Rattle.pb_bus.specs.Worlds.{due_at, Follows, IsStationAt};
 
     /// A world whose taps don't run yet, at clock 0.
     ///
@@ -52,17 +48,8 @@ impl World {
         ensures ok { IfOk result (λ w. new_world params (map spec_of specs.now) ≡ Ok w) }
         ensures fault { IfErr result (RefusesNew (new_world params (map spec_of specs.now))) }
     {
-        check_taps(&params, specs)?;
-        let taps = new_taps(alloc, &params, specs)?;
-        Ok(World {
-            bus: Bus {
-                params,
-                now: beginning(),
-                trace: Vec::new(alloc),
-                over: 0,
-                taps,
-            },
-        })
+        let bus = new_bus(alloc, params, specs)?;
+        Ok(World { bus })
     }
 
     /// Does an event, and answers the clock and the octets that a turn sent, if any. A refused event changes

@@ -5,7 +5,7 @@
 #![tactic(auto)]
 
 ghost use Rattle.std.specs.Prelude.{◌≡◌};
-ghost use Rattle.ringplay.specs.ExitStatus.{exit_status_of};
+ghost use Rattle.ringplay.specs.ExitStatus.{exit_status_of, words_status_of};
 
 use pb_cli::{Ask, AskFault, CliFault, CountedReader, CountedWriter, Status, ask, decode_lines};
 use std::fmt::Display;
@@ -27,11 +27,7 @@ const MEMORY: u8 = 4;
 fn main(rt: HostRuntime) -> ExitCode {
     let status = match asked(&rt) {
         Ok(Ask::Decode) => exit_status(&rt, decode(&rt)),
-        Err(AskFault::Usage(text)) => {
-            let _ = rt.eprint(text);
-            USAGE
-        }
-        Err(AskFault::NoMemory) => tell(&rt, CliFault::NoMemory, MEMORY),
+        Err(fault) => words_status(&rt, fault),
     };
     ExitCode::from(status)
 }
@@ -56,6 +52,19 @@ fn decode(rt: &(impl AllocGlobal + Input + Print)) -> Result<Status, CliFault> {
     let mut reader = CountedReader::new(rt.reader());
     let mut writer = CountedWriter::new(io::writer(rt));
     decode_lines(rt.alloc(), &mut reader, &mut writer)
+}
+
+/// The exit status of words that ask for nothing that the program can do; what to write goes to standard error.
+fn words_status(rt: &impl Eprint, fault: AskFault) -> u8
+    ensures { result ≡ words_status_of fault }
+{
+    match fault {
+        AskFault::Usage(text) => {
+            let _ = rt.eprint(text);
+            USAGE
+        }
+        AskFault::NoMemory => tell(rt, CliFault::NoMemory, MEMORY),
+    }
 }
 
 /// The exit status of an answer; a fault's words go to standard error.

@@ -63,6 +63,35 @@ impl Write for ByteWriter {
     }
 }
 
+/// Takes one byte a call, and is interrupted some times before each.
+#[derive(Drop)]
+struct HaltingWriter {
+    taken: Vec<u8>,
+    halts: u32,
+    left: u32,
+}
+
+impl Write for HaltingWriter {
+    fn write(&mut self, bytes: &[u8]) -> io::Result<usize> {
+        if self.left > 0 {
+            self.left -= 1;
+            return Err(Error::from(ErrorKind::Interrupted));
+        }
+        self.left = self.halts;
+        match bytes {
+            [byte, ..] => {
+                self.taken.push(*byte)?;
+                Ok(1)
+            }
+            [] => Ok(0),
+        }
+    }
+
+    fn flush(&mut self) -> io::Result<()> {
+        Ok(())
+    }
+}
+
 /// Takes no byte.
 #[derive(Drop)]
 struct FullWriter;
@@ -162,6 +191,19 @@ fn an_interrupted_write_is_tried_again(rt: HostRuntime) {
         let length = if answer.is_ok() { OUTPUT.len() } else { 3 };
         assert_eq!(rt; writer.writer().taken.len(), length);
     }
+}
+
+#[test]
+fn interruptions_count_anew_after_a_write(rt: HostRuntime) {
+    let mut writer = CountedWriter::new(HaltingWriter {
+        taken: Vec::new(rt.alloc()),
+        halts: 1000,
+        left: 1000,
+    });
+    let answer = decode_lines(rt.alloc(), &mut CountedReader::new(INPUT), &mut writer);
+    assert_eq!(rt; answer, Ok(Status::Refused));
+    assert_eq!(rt; writer.interruptions(), 35_000);
+    assert_eq!(rt; writer.writer().taken.as_slice(), OUTPUT);
 }
 
 #[test]

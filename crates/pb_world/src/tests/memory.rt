@@ -1,5 +1,5 @@
 use super::{ask, master, usual};
-use crate::{Event, NewFault, World, WorldFault};
+use crate::{AuditFault, Event, NewFault, World, WorldFault, audit};
 use pb_cycles::Service;
 use std::test::Fail;
 
@@ -36,6 +36,26 @@ fn refused_memory_in_a_world(rt: HostRuntime) -> Result<(), Fail> {
             assert!(rt; (world.now(), world.trace().len(), world.due(0)) == before);
             let _ = println!(rt; "refused");
             return Ok(());
+        }
+    }
+    Ok(())
+}
+
+/// Run with one allocation refused: an audit answers what it finds, or `NoMemory`, of the new bus or at the
+/// event that wanted memory.
+#[test]
+fn refused_memory_in_an_audit(rt: HostRuntime) -> Result<(), Fail> {
+    let alloc = rt.alloc();
+    let events = [Event::Start(0), Event::Pass(800), Event::Turn(0)];
+    match audit(alloc, usual()?, &[master(1), master(2)], &events) {
+        Ok(audit) => {
+            assert_eq!(rt; audit.premise, None);
+            assert_eq!(rt; audit.illegal, None);
+        }
+        Err(fault) => {
+            let of_the_bus = fault == AuditFault::New(NewFault::NoMemory);
+            assert!(rt; of_the_bus || fault == AuditFault::At(2, WorldFault::NoMemory));
+            let _ = println!(rt; "refused");
         }
     }
     Ok(())

@@ -1,5 +1,5 @@
 use Rattle.std.proofs.Common.{refl, ◌∙◌, map, arith, ◌≤◌, length}
-use Rattle.pb_station.specs.Cores.{station_of}
+use Rattle.pb_core.specs.Cores.{station_of}
 use Rattle.pb_station.specs.MarkViews.{mark_of}
 use Rattle.pb_station.proofs.MarkByMark.{read-more, read-all}
 use Rattle.pb_station.proofs.Places.{left-at}

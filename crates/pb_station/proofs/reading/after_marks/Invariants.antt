@@ -1,7 +1,7 @@
 use Rattle.std.proofs.Common.{◌≡◌, map}
 use Rattle.std.specs.Prelude.{drop}
 use Rattle.pb_turn.specs.Turns.{after_marks}
-use Rattle.pb_station.specs.Cores.{station_of}
+use Rattle.pb_core.specs.Cores.{station_of}
 use Rattle.pb_station.specs.MarkViews.{mark_of}
 use Rattle.pb_station.proofs.reading.after_marks.Given as goal
 

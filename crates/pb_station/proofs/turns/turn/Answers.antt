@@ -1,6 +1,6 @@
 use Rattle.std.proofs.Common.{ap, sym, subst, map, Option, List, ℕ}
 use Rattle.pb_turn.specs.Stations.{Station, speaks_at}
-use Rattle.pb_station.specs.Cores.{station_of, HasReceived}
+use Rattle.pb_core.specs.Cores.{station_of, HasReceived}
 use Rattle.pb_station.specs.MarkViews.{mark_of}
 use Rattle.pb_station.proofs.Receipts.{received-at_clock, received-speech}
 use Rattle.pb_station.proofs.turns.turn.Goals as goal

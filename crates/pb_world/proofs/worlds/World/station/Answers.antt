@@ -1,6 +1,6 @@
 use Rattle.std.proofs.Common.{sym, ap, ◌∙◌}
 use Rattle.std.specs.Prelude.{slice_get}
-use Rattle.pb_world.proofs.Items.{if-found}
+use Rattle.pb_taps.proofs.Items.{if-found}
 use Rattle.pb_world.proofs.worlds.World.station.Goals as goal
 
 pub returns : goal.returns

@@ -1,0 +1,24 @@
+-- A bus as the model says it.
+use Rattle.std.specs.Prelude.{◌≡◌, ◌≤◌, [], length, map}
+use Rattle.pb_model.specs.World.{World}
+use Rattle.pb_model.specs.Laws.{IsSound}
+use Rattle.pb_medium.specs.Airs.{IsCut}
+use Rattle.pb_medium.specs.Entries.{entry_of}
+use Rattle.pb_taps.specs.Taps.{tap_of, seat_of, AreSeated}
+use Rattle.pb_bus.specs.declared.buses.Bus.{Bus}
+
+abbrev pub world_of : Bus → World
+world_of w = record { params = w.params; now = w.now; trace = map entry_of w.trace.items; taps = map tap_of w.taps.items }
+
+-- what its fields keep
+pub record IsKept (w : Bus) : Type 0 where
+  pub sound : IsSound (world_of w)
+  pub clock : w.now ≤ 1000000000000
+  pub room : length w.taps.items ≤ 32
+  pub seats : AreSeated w.params 0 (map seat_of w.taps.items)
+  pub cut : IsCut w.now w.over (map entry_of w.trace.items)
+
+-- nothing has happened yet
+pub record IsBlank (w : World) : Type 0 where
+  pub start : w.now ≡ 0
+  pub empty : w.trace ≡ []

@@ -1,0 +1,6 @@
+pub mod Passes
+pub mod Worlds
+pub mod Starting
+pub mod Stopping
+pub mod Clocks
+pub mod Buses

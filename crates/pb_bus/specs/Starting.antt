@@ -1,0 +1,36 @@
+-- The start of a tap.
+use Rattle.std.specs.Prelude.{◌≡◌, ℕ, Bool, true, false, ◌||◌, List, [], Some, None, slice_get, slice_set}
+use Rattle.std.specs.List.{list_any}
+use Rattle.pb_turn.specs.Stations.{started}
+use Rattle.pb_model.specs.Step.{reaches_now}
+use Rattle.pb_model.specs.Trace.{Entry}
+use Rattle.pb_model.specs.World.{is_in_air_by}
+use Rattle.pb_taps.specs.declared.faults.WorldFault.{WorldFault}
+use Rattle.pb_taps.specs.declared.faults.WorldFault.TheVariants as fault
+use Rattle.pb_taps.specs.declared.taps.Tap.{Tap}
+use Rattle.pb_medium.specs.Senses.{at_once}
+
+-- a tap that starts, amid something that is reaching it or not
+abbrev pub fresh_tap : Tap → Bool → ℕ → Tap
+fresh_tap t amid now = record t {
+  running = true;
+  since = now;
+  amid = amid;
+  station = record t.station { station = started t.station.params t.station.station t.station.master now };
+  marks = [];
+}
+
+-- whether a tap runs, or a telegram of its own is among the entries in the air
+abbrev pub is_up : ℕ → List Entry → ℕ → Tap → Bool
+is_up now entries tap t = t.running || list_any (is_in_air_by at_once now tap) entries
+
+-- the taps after the start of one that was down
+abbrev pub IsStarted : ℕ → List Entry → List Tap → ℕ → List Tap → Type 0
+IsStarted now entries taps tap next = (t : Tap) × (slice_get taps tap ≡ Some t) × (is_up now entries tap t ≡ false)
+    × (next ≡ slice_set taps tap (fresh_tap t (list_any (reaches_now at_once tap now) entries) now))
+
+-- why a tap doesn't start
+abbrev pub RefusesStart : ℕ → List Entry → List Tap → ℕ → WorldFault → Type 0
+RefusesStart now entries taps tap fault.NoSuchTap = slice_get taps tap ≡ None
+RefusesStart now entries taps tap fault.Running = (t : Tap) × (slice_get taps tap ≡ Some t) × (is_up now entries tap t ≡ true)
+RefusesStart now entries taps tap other = ⊥

@@ -1,0 +1,28 @@
+ghost use Rattle.std.specs.Prelude.{◌≡◌, Ok, IfOk, IfErr, map};
+ghost use Rattle.pb_model.specs.World.{new_world};
+ghost use Rattle.pb_bus.specs.Buses.{world_of, IsBlank, IsKept};
+ghost use Rattle.pb_taps.specs.Faults.{RefusesNew};
+ghost use Rattle.pb_taps.specs.Taps.{spec_of};
+
+use crate::buses::Bus;
+use pb_taps::{NewFault, TapSpec, beginning, check_taps, new_taps};
+use pb_timers::BusParams;
+use std::alloc::Global;
+
+/// A bus whose taps don't run yet, at clock 0.
+pub fn new_bus(alloc: Global, params: BusParams, specs: &[TapSpec]) -> Result<Bus, NewFault>
+    ensures ok { IfOk result (λ bus. new_world params (map spec_of specs.now) ≡ Ok (world_of bus)) }
+    ensures kept { IfOk result IsKept }
+    ensures blank { IfOk result (λ bus. IsBlank (world_of bus)) }
+    ensures fault { IfErr result (RefusesNew (new_world params (map spec_of specs.now))) }
+{
+    check_taps(&params, specs)?;
+    let taps = new_taps(alloc, &params, specs)?;
+    Ok(Bus {
+        params,
+        now: beginning(),
+        trace: Vec::new(alloc),
+        over: 0,
+        taps,
+    })
+}

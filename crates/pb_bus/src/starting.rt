@@ -1,0 +1,61 @@
+ghost use Rattle.std.specs.Prelude.{◌≡◌, ◌≤◌, IfErr, OnOk, OnErr, map};
+ghost use Rattle.std.specs.List.{list_any};
+ghost use Rattle.pb_model.specs.World as world;
+ghost use Rattle.pb_medium.specs.Entries.{entry_of};
+ghost use Rattle.pb_medium.specs.Senses.{at_once};
+ghost use Rattle.pb_bus.specs.Starting.{fresh_tap, is_up, IsStarted, RefusesStart};
+
+use pb_medium::{Entry, is_in_air_by, is_reached};
+use pb_taps::{Tap, WorldFault};
+use pb_timers::Moment;
+
+/// Starts the station at a tap.
+pub(crate) fn start(
+    entries: &[Entry],
+    taps: &mut [Tap],
+    tap: usize,
+    now: Moment,
+) -> Result<(), WorldFault>
+    requires { now ≤ 1000000000000 }
+    ensures ok { OnOk result (IsStarted now (map entry_of entries.now) taps.old tap taps.new) }
+    ensures err { OnErr result (taps.new ≡ taps.old) }
+    ensures fault { IfErr result (RefusesStart now (map entry_of entries.now) taps.old tap) }
+{
+    if tap >= taps.len() {
+        return Err(WorldFault::NoSuchTap);
+    }
+    if is_up(entries, &taps[tap], tap, now) {
+        return Err(WorldFault::Running);
+    }
+    let amid = is_reached(entries, tap, now.get());
+    start_tap(&mut taps[tap], amid, now);
+    Ok(())
+}
+
+/// Whether the tap at a position runs, or a telegram of its own is in the air.
+fn is_up(entries: &[Entry], tap: &Tap, position: usize, now: Moment) -> bool
+    ensures { result ≡ is_up now (map entry_of entries.now) position tap.now }
+{
+    tap.running || is_sending(entries, position, now)
+}
+
+/// Whether a telegram of the tap is in the air.
+fn is_sending(entries: &[Entry], tap: usize, now: Moment) -> bool
+    ensures { result ≡ list_any (world.is_in_air_by at_once now tap) (map entry_of entries.now) }
+{
+    entries
+        .iter()
+        .any(|entry| is_in_air_by(entry, tap, now.get()))
+}
+
+/// The tap starts; whether amid something that is reaching it is told.
+fn start_tap(tap: &mut Tap, amid: bool, now: Moment)
+    requires { now ≤ 1000000000000 }
+    ensures { tap.new ≡ fresh_tap tap.old amid now }
+{
+    tap.running = true;
+    tap.since = now.get();
+    tap.amid = amid;
+    tap.station.start(now);
+    tap.marks.clear();
+}

@@ -1,0 +1,24 @@
+-- What a telegram brings is what its octets bring.
+use Rattle.std.proofs.Common.{◌≡◌, ◌∙◌, ap, sym, refl, List, None}
+use Rattle.pb_telegram.specs.Faults.{octets, unit_of, fault_of}
+use Rattle.pb_telegram.specs.Grammar.{spelling}
+use Rattle.pb_telegram.specs.declared.chars.RxChar.{RxChar}
+use Rattle.pb_telegram.specs.declared.telegrams.Fixed8Telegram.{Fixed8Telegram}
+use Rattle.pb_telegram.specs.declared.telegrams.Telegram.{Telegram}
+use Rattle.pb_telegram.specs.declared.telegrams.Telegram.TheVariants.{Short, Var, Fixed8, Token, Ack}
+use Rattle.pb_telegram.specs.declared.telegrams.VarTelegram.{VarTelegram}
+use Rattle.pb_turn.specs.Arrivals.{Framed, telegram_arrival, arrival_unless, arrival_of}
+use Rattle.pb_core.specs.Arrivals.{telegram_brings}
+
+octets-bring : ((t : VarTelegram) → unit_of (spelling (Var t)) ≡ t.unit.items) → ((t : Fixed8Telegram) → unit_of (spelling (Fixed8 t)) ≡ t.unit)
+    → (t : Telegram) → telegram_arrival (spelling t) ≡ telegram_brings t
+octets-bring var fixed (Short t) = refl
+octets-bring var fixed (Var t) = ap (λ unit. Framed (record { da = t.da; sa = t.sa; fc = t.fc; unit = unit })) (var t)
+octets-bring var fixed (Fixed8 t) = ap (λ unit. Framed (record { da = t.da; sa = t.sa; fc = t.fc; unit = unit })) (fixed t)
+octets-bring var fixed (Token t) = refl
+octets-bring var fixed Ack = refl
+
+pub telegram-brought : ((t : VarTelegram) → unit_of (spelling (Var t)) ≡ t.unit.items) → ((t : Fixed8Telegram) → unit_of (spelling (Fixed8 t)) ≡ t.unit)
+    → (chars : List RxChar) (t : Telegram) → fault_of chars ≡ None → octets chars ≡ spelling t → telegram_brings t ≡ arrival_of chars
+telegram-brought var fixed chars t free spelled =
+    sym (ap (λ fault. arrival_unless fault (octets chars)) free ∙ ap telegram_arrival spelled ∙ octets-bring var fixed t)

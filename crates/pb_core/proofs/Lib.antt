@@ -1,0 +1,4 @@
+pub mod Arriving
+pub mod Closing
+pub mod Incomplete
+pub mod Responses

@@ -1,0 +1,45 @@
+-- The core of a station as a turn says it.
+use Rattle.std.specs.Prelude.{Option, IsSome}
+use Rattle.std.specs.Option.{option_map}
+use Rattle.pb_rotation.specs.Rotation.{Receipt}
+use Rattle.pb_turn.specs.Phases as turn
+use Rattle.pb_turn.specs.Stations as turn_station
+use Rattle.pb_tokenfsm.specs.Phases.{phase_of}
+use Rattle.pb_core.specs.declared.cores.Core.{Core}
+use Rattle.pb_core.specs.declared.cores.Kept.{Kept}
+use Rattle.pb_core.specs.Cycles.{cycles_of}
+use Rattle.pb_core.specs.Replies.{reply_of}
+
+-- what a station keeps, with a phase
+abbrev pub with_phase : Kept → turn.Phase → turn_station.Station
+with_phase k phase = record {
+  address = k.address;
+  phase = phase;
+  busy = k.busy;
+  quiet = k.past.quiet;
+  own = record { begin = k.past.begin; end = k.past.end };
+  reply = option_map reply_of k.reply;
+  las = k.las;
+  gap = k.gap;
+  rotation = k.rotation;
+  cycles = cycles_of k.cycles;
+}
+
+abbrev pub station_of : Core → turn_station.Station
+station_of c = with_phase c.kept (phase_of c.phase)
+
+-- a phase that uses the token has received it
+abbrev pub has_received : turn.Phase → Option Receipt → Type 0
+has_received (turn.Use asked ready) last = IsSome last
+has_received (turn.AwaitData asked retry slot) last = IsSome last
+has_received (turn.AwaitStatus of slot) last = IsSome last
+has_received turn.Offline last = Unit {0}
+has_received turn.PassiveIdle last = Unit {0}
+has_received (turn.Listening doubled) last = Unit {0}
+has_received (turn.Idle refused) last = Unit {0}
+has_received (turn.Claim sent ready) last = Unit {0}
+has_received (turn.Pass tries ready) last = Unit {0}
+has_received (turn.Checking tries) last = Unit {0}
+
+abbrev pub HasReceived : turn_station.Station → Type 0
+HasReceived s = has_received s.phase s.rotation.last

@@ -1,0 +1,5 @@
+pub mod Arrivals
+pub mod Clocks
+pub mod Cores
+pub mod Cycles
+pub mod Replies

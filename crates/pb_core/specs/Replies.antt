@@ -1,0 +1,53 @@
+-- A reply that is not sent yet, and the type of a station in it.
+use Rattle.std.specs.Option.{option_map}
+use Rattle.std.specs.Prelude.{ℕ, ◌+◌, Bool, true, false, if◌then◌else◌, [], Option, Some, None}
+use Rattle.pb_timers.specs.Timers.{Params}
+use Rattle.pb_cycles.specs.Fields.{Fields}
+use Rattle.pb_cycles.specs.Messages.{reply_octets}
+use Rattle.pb_cycles.specs.declared.messages.Message.{Message}
+use Rattle.pb_cycles.specs.Responding.{reply_frame, reply_to_message, after_message}
+use Rattle.pb_turn.specs.Stations as turn
+use Rattle.pb_turn.specs.Hearing.{asks_status, passive, not_ready, ready_for_ring, in_ring}
+use Rattle.pb_core.specs.declared.replies.Head.{Head}
+use Rattle.pb_core.specs.declared.replies.Reply.{Reply}
+use Rattle.pb_core.specs.declared.replies.StationType.{StationType}
+use Rattle.pb_core.specs.declared.replies.StationType.TheVariants.{Passive, NotReady, Ready, InRing}
+
+abbrev pub reply_of : Reply → turn.Reply
+reply_of r = record { ready = r.ready; octets = r.octets.items; joins = r.joins }
+
+abbrev pub code_of : StationType → ℕ
+code_of Passive = passive
+code_of NotReady = not_ready
+code_of Ready = ready_for_ring
+code_of InRing = in_ring
+
+-- a station that says that it is ready joins the ring
+abbrev pub joins : StationType → Bool
+joins Passive = false
+joins NotReady = false
+joins Ready = true
+joins InRing = false
+
+-- the fields of a telegram without data that has this head
+abbrev pub fields_of : Head → Fields
+fields_of h = record { da = h.da; sa = h.sa; fc = h.fc; unit = [] }
+
+-- the answer of a station to a telegram that ended at a moment, where that asks for its status
+abbrev pub answer_to : Params → (ts at : ℕ) → Fields → StationType → Option turn.Reply
+answer_to p ts at f station_type =
+    if asks_status ts f
+    then Some (record { ready = at + p.tsdr; octets = reply_octets (reply_frame ts (code_of station_type) f 0 []); joins = joins station_type })
+    else None
+
+-- the reply that a responder's answer to a message that ended at a moment makes
+abbrev pub reply_to : Params → turn.Station → ℕ → ℕ → Message → Option turn.Reply
+reply_to p s at station_type m =
+    option_map (λ reply. record { ready = at + p.tsdr; octets = reply_octets reply; joins = false }) (reply_to_message s.cycles.responder s.address station_type m)
+
+-- a station of some type that answers a message, which it executes, if it is a request that it hasn't executed before
+abbrev pub answers : Params → turn.Station → ℕ → ℕ → Message → turn.Station
+answers p s at station_type m = record s {
+  reply = reply_to p s at station_type m;
+  cycles = record s.cycles { responder = after_message s.cycles.responder s.address station_type m };
+}

@@ -1,0 +1,21 @@
+//! What a station keeps: its phase, its past, its tables and its message cycles, and what it reads and says of
+//! them. Steps of the phases are in pb_phases.
+#![tactic(auto)]
+
+mod addresses;
+mod arrivals;
+mod cores;
+pub mod cycles;
+mod lists;
+mod moments;
+mod past;
+mod replies;
+
+pub use addresses::Address;
+pub use arrivals::whole_telegram;
+pub use cores::{Core, Kept};
+pub use cycles::{Cycles, closed, copy_outcome, push};
+pub use lists::{entered, heard, readied, removed};
+pub use moments::{PastMoment, after};
+pub use past::Past;
+pub use replies::{Head, Reply, StationType, answering, status_answer};

@@ -1,0 +1,58 @@
+//! Changes of a list of active stations, complete or not.
+
+ghost use Rattle.std.specs.Prelude.{◌≡◌, ◌<◌};
+ghost use Rattle.pb_ring.specs.Las.{heard, entered, removed, readied};
+
+use pb_ring::Las;
+use pb_telegram::TokenTelegram;
+
+/// The list after a token was heard.
+pub fn heard(las: Las, token: &TokenTelegram) -> Las
+    ensures { result ≡ heard las token.now.sa token.now.da }
+{
+    let mut list = las;
+    list.hear(token.sa, token.da);
+    list
+}
+
+/// The list after a station has entered it, if it is complete.
+#[tactic(auto, using(crate::proofs::Incomplete::none_enters))]
+pub fn entered(las: Las, address: u8) -> Las
+    requires { address < 127 }
+    ensures { result ≡ entered las address }
+{
+    if !las.complete() {
+        return las;
+    }
+    let mut list = las;
+    list.enter(address);
+    list
+}
+
+/// The list after a station has left it, if it is complete.
+#[tactic(auto, using(crate::proofs::Incomplete::none_leaves))]
+pub fn removed(las: Las, address: u8) -> Las
+    requires { address < 127 }
+    ensures { result ≡ removed las address }
+{
+    if !las.complete() {
+        return las;
+    }
+    let mut list = las;
+    list.remove(address);
+    list
+}
+
+/// The list after the own station has joined the ring, if it is complete.
+#[tactic(auto, using(crate::proofs::Incomplete::none_joins))]
+pub fn readied(las: Las, ts: u8) -> Las
+    requires { ts < 127 }
+    ensures { result ≡ readied las ts }
+{
+    if !las.complete() {
+        return las;
+    }
+    let mut list = las;
+    list.ready(ts);
+    list
+}

@@ -1,0 +1,76 @@
+ghost use Rattle.std.specs.Prelude.{◌≡◌, ◌≤◌, ◌+◌, max};
+ghost use Rattle.pb_timers.specs.Timers.{last_moment};
+
+use pb_timers::{Moment, bits};
+use std::marker::Model;
+
+/// A moment up to which a station was quiet, or spoke: never later than the end of the longest telegram that
+/// is said at the last moment of a turn. So what a timer adds to it is still a [`Moment`].
+#[derive(Clone, Copy, Debug)]
+pub struct PastMoment {
+    moment: Moment,
+}
+
+impl Model for PastMoment {
+    ghost use Rattle.std.specs.Prelude.{◌≤◌, ℕ};
+    ghost use Rattle.pb_core.specs.Clocks.{last_end};
+
+    ghost Value = { ℕ };
+
+    ghost view = { λ m. m.moment };
+
+    ghost invariant = { λ m. m.moment ≤ last_end };
+
+    ghost inverse = { λ n. record { moment = n } };
+}
+
+impl PastMoment {
+    ghost use Rattle.std.specs.Prelude.{◌≡◌, ◌≤◌, ◌+◌, max};
+    ghost use Rattle.pb_timers.specs.Timers as timers;
+    ghost use Rattle.pb_core.specs.Clocks.{last_turn, last_end};
+
+    /// The moment of a turn, or one before it.
+    pub fn at(moment: Moment) -> PastMoment
+        requires { moment ≤ last_turn }
+        ensures { result ≡ moment }
+    {
+        PastMoment { moment }
+    }
+
+    /// The end of a telegram of some octets, at most 255, that is said at a moment.
+    pub fn end_of(now: Moment, octets: usize) -> PastMoment
+        requires clock { now ≤ last_turn }
+        requires octets { octets ≤ 255 }
+        ensures { result ≡ now + timers.bits octets }
+    {
+        PastMoment {
+            moment: after(now, bits(octets)),
+        }
+    }
+
+    pub fn get(self) -> Moment
+        ensures value { result ≡ self }
+        ensures bound { self ≤ last_end }
+    {
+        self.moment
+    }
+
+    /// The later of two.
+    pub fn later(self, other: PastMoment) -> PastMoment
+        ensures { result ≡ max self other }
+    {
+        if self.moment.get() < other.moment.get() {
+            other
+        } else {
+            self
+        }
+    }
+}
+
+/// The moment some bit times later, which is not past the last.
+pub fn after(moment: Moment, bits: u64) -> Moment
+    requires { moment + bits ≤ last_moment }
+    ensures { result ≡ moment + bits }
+{
+    moment.add(bits).unwrap()
+}

@@ -1,0 +1,56 @@
+ghost use Rattle.std.specs.Prelude.{◌≡◌, ◌≤◌, ◌+◌, max};
+ghost use Rattle.pb_timers.specs.Timers.{bits};
+ghost use Rattle.pb_core.specs.Clocks.{last_turn};
+
+use crate::moments::PastMoment;
+use pb_timers::Moment;
+
+/// What a station keeps of its past.
+#[derive(Clone, Copy, Debug)]
+pub struct Past {
+    /// The latest of its start, its last End and the end of its own last telegram.
+    pub quiet: PastMoment,
+    /// When its own last telegram began; before it, its start.
+    pub begin: Moment,
+    /// When its own last telegram ended; before it, its start.
+    pub end: PastMoment,
+}
+
+impl Past {
+    /// The past of a station that starts at a moment.
+    pub fn started(now: Moment) -> Past
+        requires { now ≤ last_turn }
+        ensures { result ≡ record { quiet = now; begin = now; end = now } }
+    {
+        Past {
+            quiet: PastMoment::at(now),
+            begin: now,
+            end: PastMoment::at(now),
+        }
+    }
+
+    /// After an end was heard at a moment.
+    pub fn heard(self, at: Moment) -> Past
+        requires { at ≤ last_turn }
+        ensures { result ≡ record self { quiet = max self.quiet at } }
+    {
+        Past {
+            quiet: self.quiet.later(PastMoment::at(at)),
+            ..self
+        }
+    }
+
+    /// After a telegram of its own, of some octets, that it said at a moment.
+    pub fn said(self, now: Moment, octets: usize) -> Past
+        requires clock { now ≤ last_turn }
+        requires octets { octets ≤ 255 }
+        ensures { result ≡ record { quiet = max self.quiet (now + bits octets); begin = now; end = now + bits octets } }
+    {
+        let end = PastMoment::end_of(now, octets);
+        Past {
+            quiet: self.quiet.later(end),
+            begin: now,
+            end,
+        }
+    }
+}

@@ -1,0 +1,161 @@
+ghost use Rattle.std.specs.Prelude.{◌≡◌, ◌≤◌, [], ◌+◌, ◌*◌, false};
+ghost use Rattle.std.specs.Option.{option_map};
+ghost use Rattle.pb_telegram.specs.Grammar.{spelling};
+ghost use Rattle.pb_cycles.specs.Messages.{frame_octets, address_in, message_of};
+ghost use Rattle.pb_turn.specs.Hearing.{asks_status};
+ghost use Rattle.pb_core.specs.Clocks.{last_turn};
+ghost use Rattle.pb_turn.specs.Phases.{Phase};
+ghost use Rattle.pb_core.specs.Cores.{with_phase};
+ghost use Rattle.pb_core.specs.Replies.{reply_of, code_of, joins, fields_of, answer_to, answers};
+
+use crate::cores::Kept;
+use crate::moments::after;
+use arrayvec::ArrayVec;
+use pb_telegram::{Fc, ShortTelegram, Telegram, write};
+use pb_timers::{BusParams, Moment};
+
+/// A reply that is not sent yet.
+#[derive(Debug, Drop)]
+pub struct Reply {
+    /// When it is sent.
+    pub ready: Moment,
+    pub octets: ArrayVec<u8, 255>,
+    /// Whether it says that the station is ready, and takes it into the ring.
+    pub joins: bool,
+}
+
+/// The station type in a reply (IEC 61158-4-3, frame control field).
+#[derive(Clone, Copy, Debug, PartialEq, Eq)]
+pub enum StationType {
+    /// A passive station.
+    Passive,
+    /// A master that is not ready to enter the ring.
+    NotReady,
+    /// One that is ready to enter it.
+    Ready,
+    /// One in the ring.
+    InRing,
+}
+
+impl StationType {
+    fn code(self) -> u8
+        ensures value { result ≡ code_of self }
+        ensures bound { result ≤ 3 }
+    {
+        match self {
+            StationType::Passive => 0,
+            StationType::NotReady => 1,
+            StationType::Ready => 2,
+            StationType::InRing => 3,
+        }
+    }
+
+    fn joins(self) -> bool
+        ensures { result ≡ joins self }
+    {
+        match self {
+            StationType::Ready => true,
+            StationType::Passive | StationType::NotReady | StationType::InRing => false,
+        }
+    }
+}
+
+/// The function code of Request FDL Status.
+const STATUS_CODE: u8 = 9;
+
+/// The addresses and the control octet of a telegram.
+#[derive(Clone, Copy, Debug)]
+pub struct Head {
+    pub da: u8,
+    pub sa: u8,
+    pub fc: u8,
+}
+
+impl Head {
+    /// Whether it is that of a request for the status of the station `ts`.
+    fn asks_status(self, ts: u8) -> bool
+        ensures { result ≡ asks_status ts (fields_of self) }
+    {
+        let fc = Fc(self.fc);
+        fc.is_request() && fc.code() == STATUS_CODE && self.da % 128 == ts
+    }
+}
+
+/// When the reply to a request is sent that ended at a moment.
+fn reply_moment(params: &BusParams, at: Moment) -> Moment
+    requires { at ≤ last_turn }
+    ensures { result ≡ at + params.now.tsdr }
+{
+    after(at, u64::from(params.tsdr()))
+}
+
+/// The octets of the reply of the station `ts` to the station that asked for its status.
+fn status_octets(ts: u8, head: Head, station_type: StationType) -> ArrayVec<u8, 255>
+    requires { ts ≤ 126 }
+    ensures { result.items ≡ frame_octets (record { da = address_in head.sa; sa = ts; fc = 16 * code_of station_type + 0; unit = [] }) }
+{
+    write(&Telegram::Short(ShortTelegram {
+        da: head.sa % 128,
+        sa: ts,
+        fc: 16 * station_type.code(),
+    }))
+}
+
+/// The answer to a telegram that ended at a moment, if it is a request for the station's status.
+pub fn status_answer(
+    kept: &Kept,
+    params: &BusParams,
+    at: Moment,
+    head: Head,
+    station_type: StationType,
+) -> Option<Reply>
+    requires { at ≤ last_turn }
+    ensures { option_map reply_of result ≡ answer_to params.now kept.now.address at (fields_of head) station_type }
+{
+    let ts = kept.address.get();
+    if !head.asks_status(ts) {
+        return None;
+    }
+    Some(Reply {
+        ready: reply_moment(params, at),
+        octets: status_octets(ts, head, station_type),
+        joins: station_type.joins(),
+    })
+}
+
+/// What a responder answers, as a reply that is sent at a moment.
+fn reply_at(answer: Option<Telegram>, ready: Moment) -> Option<Reply>
+    ensures { option_map reply_of result ≡ option_map (λ octets. record { ready = ready; octets = octets; joins = false }) (option_map spelling answer) }
+{
+    match answer {
+        Some(telegram) => Some(Reply {
+            ready,
+            octets: write(&telegram),
+            joins: false,
+        }),
+        None => None,
+    }
+}
+
+/// A station of some type answers a telegram that ended at a moment, which it executes, if it is a request
+/// that it has not executed before.
+pub fn answering(
+    kept: Kept,
+    params: &BusParams,
+    at: Moment,
+    telegram: &Telegram,
+    station_type: StationType,
+) -> Kept
+    requires { at ≤ last_turn }
+    ensures { (phase : Phase) → with_phase result phase ≡ answers params.now (with_phase kept phase) at (code_of station_type) (message_of telegram.now) }
+{
+    let mut cycles = kept.cycles;
+    let ts = kept.address.get();
+    let answer = cycles.responder.answer(ts, station_type.code(), telegram);
+    let reply = reply_at(answer, reply_moment(params, at));
+    Kept {
+        reply,
+        cycles,
+        ..kept
+    }
+}

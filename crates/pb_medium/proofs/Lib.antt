@@ -1,0 +1,4 @@
+pub mod Entering
+pub mod Hitting
+pub mod Sensing
+pub mod Widening

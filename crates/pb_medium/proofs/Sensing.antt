@@ -1,0 +1,123 @@
+-- What a tap senses without a cable delay: tests and choices over mapped lists, the next end, bursts and characters.
+use Rattle.std.proofs.Common.{◌≡◌, ℕ, ◌+◌, ◌<◌, List, [], ◌∷◌, ◌++◌, Bool, true, false, cond, if◌then◌else◌, not, ◌||◌, ◌&&◌, ◌==◌, refl, ap, sym, ◌∙◌, arith, Option, Some, None, map, length, get_or, drop, append_assoc, add-one, drop-cons}
+use Rattle.std.specs.Prelude.{nat_lt, min, filter, filter_map, find, fold, count_by, slice_get}
+use Rattle.std.specs.List.{list_any, list_all, cons_option, reduce}
+use Rattle.std.specs.Option.{option_map}
+use Rattle.pb_telegram.specs.Faults.{is_bad}
+use Rattle.pb_telegram.specs.declared.chars.RxChar.{RxChar}
+use Rattle.pb_telegram.specs.declared.chars.RxChar.TheVariants.{Good, Bad}
+use Rattle.pb_turn.specs.Spans.{Span}
+use Rattle.pb_model.specs.Medium.{Tap, reaches, is_unheard, sensed, hears_from, overlaps, sends_during, fills_burst, is_whole_at}
+use Rattle.pb_turn.specs.Stations.{earlier}
+use Rattle.pb_model.specs.Trace.{Hit, Record, Entry, Sent, Noise, entry_end, hits_place, characters_from, characters_at}
+use Rattle.pb_model.specs.World.{later_end, entry_next_end, next_end_of}
+use Rattle.pb_medium.specs.Senses.{at_once, span_of, is_alone, is_undamaged}
+
+pub list_any-map : {X Y : Type 0} (delay : Y → Bool) (f : X → Y) (xs : List X) → list_any delay (map f xs) ≡ list_any (λ x. delay (f x)) xs
+list_any-map delay f [] = refl
+list_any-map delay f (x ∷ xs) = ap (λ (b : Bool). delay (f x) || b) (list_any-map delay f xs)
+
+pub filter_map-map : {X Y Z : Type 0} (h : Y → Option Z) (f : X → Y) (xs : List X) → filter_map h (map f xs) ≡ filter_map (λ x. h (f x)) xs
+filter_map-map h f [] = refl
+filter_map-map h f (x ∷ xs) = ap (cons_option (h (f x))) (filter_map-map h f xs)
+
+-- the choice of a found element, once the test of the first is known
+find-step : {X Y : Type 0} (f : X → Y) (b : Bool) (x : X) (o : Option X) (r : Option Y) → r ≡ option_map f o → cond b (Some (f x)) r ≡ option_map f (cond b (Some x) o)
+find-step f true x o r e = refl
+find-step f false x o r e = e
+
+find-map : {X Y : Type 0} (delay : Y → Bool) (f : X → Y) (xs : List X) → find delay (map f xs) ≡ option_map f (find (λ x. delay (f x)) xs)
+find-map delay f [] = refl
+find-map delay f (x ∷ xs) = find-step f (delay (f x)) x (find (λ y. delay (f y)) xs) (find delay (map f xs)) (find-map delay f xs)
+
+map-seen : {X Y Z : Type 0} (f : Y → Z) (v : X → Y) (o : Option X) → option_map (λ x. f (v x)) o ≡ option_map f (option_map v o)
+map-seen f v None = refl
+map-seen f v (Some x) = refl
+
+-- what is found through references
+pub found-map : {X Y Z : Type 0} (delay : Z → Bool) (f : Y → Z) (v : X → Y) (ys : List Y) (o : Option X) → option_map v o ≡ find (λ y. delay (f y)) ys
+    → option_map (λ x. f (v x)) o ≡ find delay (map f ys)
+found-map delay f v ys o e = map-seen f v o ∙ ap (option_map f) e ∙ sym (find-map delay f ys)
+
+-- ---- the next end
+
+earlier-assoc : (a b : ℕ) (o : Option ℕ) → earlier (Some (min a b)) o ≡ earlier (Some a) (earlier (Some b) o)
+earlier-assoc a b None = refl
+earlier-assoc a b (Some c) = ap (λ (n : ℕ). Some n) (omega arith)
+
+fold-earlier : (a : ℕ) (xs : List ℕ) → Some (fold min a xs) ≡ earlier (Some a) (reduce min xs)
+fold-earlier a [] = refl
+fold-earlier a (x ∷ xs) = fold-earlier (min a x) xs ∙ earlier-assoc a x (reduce min xs) ∙ ap (earlier (Some a)) (sym (fold-earlier x xs))
+
+-- the least of the later ends, one end at a time
+later-step : (b : Bool) (m : ℕ) (ms : List ℕ) → reduce min (cond b (m ∷ ms) ms) ≡ earlier (cond b (Some m) None) (reduce min ms)
+later-step true m ms = fold-earlier m ms
+later-step false m ms = refl
+
+twice : (b : Bool) (m : ℕ) → cond b (Some m) None ≡ earlier (cond b (Some m) None) (cond b (Some m) None)
+twice true m = ap (λ (n : ℕ). Some n) (omega arith)
+twice false m = refl
+
+next-end-step : (now : ℕ) (e : Entry) → later_end now (entry_end e) ≡ entry_next_end at_once now e
+next-end-step now (Noise span) = refl
+next-end-step now (Sent r) =
+    let soon : r.end ≡ r.end + 0 = omega arith in
+    twice (nat_lt now r.end) r.end ∙ ap (λ (m : ℕ). earlier (later_end now r.end) (later_end now m)) soon
+
+pub least-later-end : (now : ℕ) (es : List Entry) → reduce min (filter (λ m. nat_lt now m) (map entry_end es)) ≡ next_end_of at_once now es
+least-later-end now [] = refl
+least-later-end now (e ∷ es) =
+    later-step (nat_lt now (entry_end e)) (entry_end e) (filter (λ m. nat_lt now m) (map entry_end es))
+    ∙ ap (λ (o : Option ℕ). earlier o (reduce min (filter (λ m. nat_lt now m) (map entry_end es)))) (next-end-step now e)
+    ∙ ap (earlier (entry_next_end at_once now e)) (least-later-end now es)
+
+-- ---- bursts
+
+-- whether a telegram that is at the taps for a stretch of time fills a burst
+abbrev fills : ℕ → Tap → List Entry → Record → Span → Bool
+fills tap t trace r span =
+    not (r.tap == tap || is_unheard (slice_get r.heard tap))
+    && hears_from t span.begin
+    && count_by (overlaps span) (sensed at_once tap t.since trace) == 1
+    && not (list_any (sends_during tap span) trace)
+
+reaches-at_once : (r : Record) → span_of r ≡ reaches at_once r
+reaches-at_once r =
+    let begins : r.begin ≡ r.begin + 0 = omega arith in
+    let ends : r.end ≡ r.end + 0 = omega arith in
+    ap (λ (m : ℕ). record { begin = m; end = r.end }) begins ∙ ap (λ (m : ℕ). record { begin = r.begin + 0; end = m }) ends
+
+second-first : (a b c d : Bool) → (b && (a && c && d)) ≡ (a && b && c && d)
+second-first true true c d = refl
+second-first true false c d = refl
+second-first false true c d = refl
+second-first false false c d = refl
+
+pub burst-filled : (tap : ℕ) (t : Tap) (trace : List Entry) (r : Record) (hears alone : Bool) → hears ≡ hears_from t r.begin → alone ≡ is_alone tap t.since trace r
+    → (hears && alone) ≡ fills_burst at_once tap t trace r
+burst-filled tap t trace r hears alone h a =
+    ap (λ (b : Bool). b && alone) h ∙ ap (λ (b : Bool). hears_from t r.begin && b) a
+    ∙ second-first (not (r.tap == tap || is_unheard (slice_get r.heard tap))) (hears_from t r.begin)
+    (count_by (overlaps (span_of r)) (sensed at_once tap t.since trace) == 1) (not (list_any (sends_during tap (span_of r)) trace))
+    ∙ ap (fills tap t trace r) (reaches-at_once r)
+
+whole-parts : (a b c d : Bool) → a ≡ true → (b && (c && d)) ≡ (a && b && c && d)
+whole-parts true true c d e = refl
+whole-parts true false c d e = refl
+whole-parts false b c d e = absurd cc
+
+pub whole-filled : (tap : ℕ) (t : Tap) (trace : List Entry) (r : Record) (fills undamaged : Bool) → t.running ≡ true → fills ≡ fills_burst at_once tap t trace r
+    → undamaged ≡ is_undamaged tap r → (fills && undamaged) ≡ is_whole_at at_once tap t trace r
+whole-filled tap t trace r fills undamaged runs f u =
+    ap (λ (b : Bool). b && undamaged) f ∙ ap (λ (b : Bool). fills_burst at_once tap t trace r && b) u
+    ∙ whole-parts t.running (fills_burst at_once tap t trace r) (length (characters_at tap r) == length r.octets) (list_all (λ char. not (is_bad char)) (characters_at tap r)) runs
+
+-- ---- characters
+
+pub characters-step : (tap : ℕ) (hits : List Hit) (place : ℕ) (octets : List ℕ) (chars : List RxChar) (char : RxChar) → place < length octets
+    → char ≡ (if list_any (hits_place tap place) hits then Bad else Good (get_or octets place 0))
+    → (chars ++ char ∷ []) ++ characters_from tap hits (place + 1) (drop (place + 1) octets) ≡ chars ++ characters_from tap hits place (drop place octets)
+characters-step tap hits place octets chars char within e =
+    let rest = characters_from tap hits (place + 1) (drop (place + 1) octets) in
+    let next : drop place octets ≡ get_or octets place 0 ∷ drop (place + 1) octets = rw add-one (drop-cons octets place 0 within) in
+    append_assoc chars (char ∷ []) rest ∙ ap (λ (c : RxChar). chars ++ c ∷ rest) e ∙ ap (λ (xs : List ℕ). chars ++ characters_from tap hits place xs) (sym next)

@@ -1,0 +1,23 @@
+-- The part of a world that an event changes: the clock, the entries that are not over yet, and the taps.
+use Rattle.std.specs.Prelude.{ℕ, ◌≤◌, List, length, map, take, drop}
+use Rattle.pb_timers.specs.Timers.{Params}
+use Rattle.pb_model.specs.World as model
+use Rattle.pb_model.specs.Trace as trace
+use Rattle.pb_model.specs.Laws.{AllOver, AllFrom}
+use Rattle.pb_medium.specs.declared.entries.Entry.{Entry}
+use Rattle.pb_taps.specs.declared.taps.Tap.{Tap}
+use Rattle.pb_medium.specs.Entries.{entry_of}
+use Rattle.pb_medium.specs.Senses.{at_once}
+use Rattle.pb_taps.specs.Taps.{tap_of}
+
+-- parameters of a bus without a cable delay; what neither turns a station nor starts it asks for nothing else of them
+abbrev pub plain : Params
+plain = record { tsl = 0; tid1 = 0; tid2 = 0; tsdr = 0; lag = 0; ttr = 0; gap = 0; hsa = 0; retries = 0; ttd = at_once }
+
+-- some entries and taps as a world of the model, at a moment
+abbrev pub air : ℕ → List Entry → List Tap → model.World
+air now entries taps = record { params = plain; now = now; trace = map entry_of entries; taps = map tap_of taps }
+
+-- some entries have ended by a moment that is not later than the clock, before all others began
+abbrev pub IsCut : ℕ → ℕ → List trace.Entry → Type 0
+IsCut now over entries = (m : ℕ) × (m ≤ now) × (over ≤ length entries) × AllOver m (take over entries) × AllFrom m (drop over entries)

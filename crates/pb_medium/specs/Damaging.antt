@@ -1,0 +1,26 @@
+-- The damage of a telegram in the air.
+use Rattle.std.specs.Prelude.{◌≡◌, ℕ, Bool, true, false, not, ◌==◌, ◌||◌, List, ◌∷◌, ◌+◌, ◌<◌, ◌++◌, length, take, drop, Some, find}
+use Rattle.pb_model.specs.Step.{has_place, change_first}
+use Rattle.pb_model.specs.Trace.{Entry, Hit}
+use Rattle.pb_model.specs.World.{is_in_air_by}
+use Rattle.pb_taps.specs.declared.faults.WorldFault.{WorldFault}
+use Rattle.pb_taps.specs.declared.faults.WorldFault.TheVariants as fault
+use Rattle.pb_medium.specs.Senses.{at_once}
+
+-- another tap than the speaker is hit, at a place of a telegram of the speaker that is in the air
+abbrev pub can_hit : ℕ → ℕ → Hit → List Entry → Bool
+can_hit speaker now hit entries = not (hit.tap == speaker || not (has_place (find (is_in_air_by at_once now speaker) entries) hit.place))
+
+-- why nothing is hit
+abbrev pub RefusesHit : Bool → WorldFault → Type 0
+RefusesHit can fault.NothingInAir = can ≡ false
+RefusesHit can fault.NoMemory = can ≡ true
+RefusesHit can other = ⊥
+
+abbrev pub IsNoMemory : WorldFault → Type 0
+IsNoMemory reason = reason ≡ fault.NoMemory
+
+-- the entry at a place is the first that passes a test
+abbrev pub IsFirstPlace : (Entry → Bool) → List Entry → ℕ → Type 0
+IsFirstPlace test entries place = (e : Entry) × (place < length entries) × (drop place entries ≡ e ∷ drop (place + 1) entries) × (find test entries ≡ Some e)
+    × ((change : Entry → Entry) → change_first test change entries ≡ take place entries ++ change e ∷ drop (place + 1) entries)

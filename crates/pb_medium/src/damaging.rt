@@ -1,0 +1,98 @@
+ghost use Rattle.std.specs.Prelude.{◌≡◌, ◌≤◌, ◌++◌, length, take, drop, true, false, IfErr, IfSome, OnErr, OnOk, Some, None, map, find};
+ghost use Rattle.pb_model.specs.Step as step;
+ghost use Rattle.pb_model.specs.Step.{change_first, with_hit};
+ghost use Rattle.pb_model.specs.World as world;
+ghost use Rattle.pb_medium.specs.Damaging.{can_hit, IsFirstPlace, RefusesHit, IsNoMemory};
+ghost use Rattle.pb_medium.specs.Entries.{entry_of, hit_of};
+ghost use Rattle.pb_medium.specs.Senses.{at_once};
+
+use crate::entries::{Entry, Hit};
+use crate::senses::is_in_air_by;
+use pb_taps::WorldFault;
+use pb_timers::Moment;
+
+/// Damages the first telegram of a speaker in the air, at another tap; nothing that is over is in the
+/// air.
+pub fn damage_recent(
+    trace: &mut [Entry],
+    over: usize,
+    speaker: usize,
+    now: Moment,
+    hit: Hit,
+) -> Result<(), WorldFault>
+    requires { over ≤ length trace.old }
+    ensures length { length trace.new ≡ length trace.old }
+    ensures ok { OnOk result (map entry_of trace.new ≡ take over (map entry_of trace.old)
+        ++ change_first (world.is_in_air_by at_once now speaker) (with_hit (hit_of hit)) (drop over (map entry_of trace.old))) }
+    ensures found { OnOk result (can_hit speaker now (hit_of hit) (drop over (map entry_of trace.old)) ≡ true) }
+    ensures err { OnErr result (map entry_of trace.new ≡ map entry_of trace.old) }
+    ensures fault { IfErr result (RefusesHit (can_hit speaker now (hit_of hit) (drop over (map entry_of trace.old)))) }
+{
+    damage(&mut trace[over..], speaker, now, hit)
+}
+
+/// Damages the first telegram of a speaker in the air, at another tap.
+fn damage(entries: &mut [Entry], speaker: usize, now: Moment, hit: Hit) -> Result<(), WorldFault>
+    ensures length { length entries.new ≡ length entries.old }
+    ensures ok { OnOk result (map entry_of entries.new ≡ change_first (world.is_in_air_by at_once now speaker) (with_hit (hit_of hit)) (map entry_of entries.old)) }
+    ensures found { OnOk result (can_hit speaker now (hit_of hit) (map entry_of entries.old) ≡ true) }
+    ensures err { OnErr result (map entry_of entries.new ≡ map entry_of entries.old) }
+    ensures fault { IfErr result (RefusesHit (can_hit speaker now (hit_of hit) (map entry_of entries.old))) }
+{
+    match target(entries, speaker, now, hit) {
+        Some(place) => {
+            strike(&mut entries[place], hit)?;
+            Ok(())
+        }
+        None => Err(WorldFault::NothingInAir),
+    }
+}
+
+/// The telegram that is hit.
+fn target(entries: &[Entry], speaker: usize, now: Moment, hit: Hit) -> Option<usize>
+    ensures none { result ≡ None → can_hit speaker now (hit_of hit) (map entry_of entries.now) ≡ false }
+    ensures some { IfSome result (λ i. can_hit speaker now (hit_of hit) (map entry_of entries.now) ≡ true) }
+    ensures place { IfSome result (IsFirstPlace (world.is_in_air_by at_once now speaker) (map entry_of entries.now)) }
+{
+    if hit.tap == speaker {
+        return None;
+    }
+    let place = first_in_air(entries, speaker, now)?;
+    if !has_place(&entries[place], hit.place) {
+        return None;
+    }
+    Some(place)
+}
+
+fn first_in_air(entries: &[Entry], speaker: usize, now: Moment) -> Option<usize>
+    ensures none { result ≡ None → find (world.is_in_air_by at_once now speaker) (map entry_of entries.now) ≡ None }
+    ensures place { IfSome result (IsFirstPlace (world.is_in_air_by at_once now speaker) (map entry_of entries.now)) }
+{
+    for (place, entry) in entries.iter().enumerate() {
+        if is_in_air_by(entry, speaker, now.get()) {
+            return Some(place);
+        }
+    }
+    None
+}
+
+/// Whether a place is among the octets that were meant.
+fn has_place(entry: &Entry, place: Option<u8>) -> bool
+    ensures { result ≡ step.has_place (Some (entry_of entry.now)) place }
+{
+    match (entry, place) {
+        (Entry::Sent(telegram), Some(place)) => usize::from(place) < telegram.octets.len(),
+        _ => true,
+    }
+}
+
+fn strike(entry: &mut Entry, hit: Hit) -> Result<(), WorldFault>
+    ensures ok { OnOk result (entry_of entry.new ≡ with_hit (hit_of hit) (entry_of entry.old)) }
+    ensures err { OnErr result (entry_of entry.new ≡ entry_of entry.old) }
+    ensures fault { IfErr result IsNoMemory }
+{
+    if let Entry::Sent(telegram) = entry {
+        telegram.hits.push(hit)?;
+    }
+    Ok(())
+}

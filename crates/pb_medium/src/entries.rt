@@ -1,0 +1,128 @@
+ghost use Rattle.std.specs.Prelude.{◌≡◌, nat_lt, slice_get};
+ghost use Rattle.std.specs.List.{list_any};
+ghost use Rattle.pb_model.specs.Medium.{is_unheard};
+ghost use Rattle.pb_model.specs.Trace.{hits_place, entry_begin, entry_end, rank, goes_before};
+ghost use Rattle.pb_medium.specs.Entries.{entry_of, record_of};
+
+use crate::spans::Span;
+use arrayvec::ArrayVec;
+
+/// How a telegram reached a tap.
+#[derive(Clone, Copy, Debug, Default, PartialEq, Eq)]
+pub enum Heard {
+    /// The tap sent it.
+    Own,
+    /// It came whole.
+    Whole,
+    /// It came damaged, or the tap didn't run all the while.
+    Damaged,
+    /// It never came.
+    Unheard,
+    /// It is in the air.
+    #[default]
+    Pending,
+}
+
+/// Damage at a tap: of the character at a place of the telegram, or of every character.
+#[derive(Clone, Copy, Debug)]
+pub struct Hit {
+    pub tap: usize,
+    pub place: Option<u8>,
+}
+
+/// One telegram on the bus.
+#[derive(Debug, Drop)]
+pub struct Record {
+    /// The tap that sent it, counted from 0.
+    pub tap: usize,
+    /// All octets that were meant.
+    pub octets: ArrayVec<u8, 255>,
+    /// When it began, in bit times.
+    pub begin: u64,
+    /// When it ends, in bit times: this moment is no longer in it.
+    pub end: u64,
+    /// How it reached each tap.
+    pub heard: ArrayVec<Heard, 32>,
+    /// Damage done to it so far.
+    pub(crate) hits: Vec<Hit>,
+}
+
+/// One entry of the trace.
+#[derive(Debug, Drop)]
+pub enum Entry {
+    /// A telegram.
+    Sent(Record),
+    /// Noise from one moment to another, in bit times.
+    Noise {
+        /// When it begins.
+        begin: u64,
+        /// When it ends.
+        end: u64,
+    },
+}
+
+impl Record {
+    /// When it is on the bus.
+    pub(crate) fn span(&self) -> Span
+        ensures { result ≡ record { begin = self.now.begin; end = self.now.end } }
+    {
+        Span::new(self.begin, self.end)
+    }
+
+    /// Whether it never comes to a tap.
+    pub(crate) fn is_unheard(&self, tap: usize) -> bool
+        ensures { result ≡ is_unheard (slice_get (record_of self.now).heard tap) }
+    {
+        matches!(self.heard.get(tap), Some(Heard::Unheard))
+    }
+
+    /// Whether the character at a place comes damaged to a tap.
+    pub(crate) fn is_hit(&self, tap: usize, place: usize) -> bool
+        ensures { result ≡ list_any (hits_place tap place) (record_of self.now).hits }
+    {
+        self.hits.iter().any(|hit| hit.tap == tap
+            && hit.place.is_none_or(|p| usize::from(p) == place))
+    }
+}
+
+impl Entry {
+    /// When it ends, in bit times.
+    pub(crate) fn end(&self) -> u64
+        ensures { result ≡ entry_end (entry_of self.now) }
+    {
+        match self {
+            Entry::Sent(record) => record.end,
+            Entry::Noise { end, .. } => *end,
+        }
+    }
+}
+
+impl Entry {
+    /// When it begins, in bit times.
+    pub(crate) fn begin(&self) -> u64
+        ensures { result ≡ entry_begin (entry_of self.now) }
+    {
+        match self {
+            Entry::Sent(telegram) => telegram.begin,
+            Entry::Noise { begin, .. } => *begin,
+        }
+    }
+
+    /// Whether it goes before another that begins with it: noise goes first, then telegrams by tap.
+    fn ranks_below(&self, other: &Entry) -> bool
+        ensures { result ≡ nat_lt (rank (entry_of self.now)) (rank (entry_of other.now)) }
+    {
+        match (self, other) {
+            (Entry::Sent(one), Entry::Sent(two)) => one.tap < two.tap,
+            (Entry::Noise { .. }, Entry::Sent(_)) => true,
+            (_, Entry::Noise { .. }) => false,
+        }
+    }
+
+    /// Whether it goes before another in the trace.
+    pub(crate) fn goes_before(&self, other: &Entry) -> bool
+        ensures { result ≡ goes_before (entry_of self.now) (entry_of other.now) }
+    {
+        self.begin() < other.begin() || (self.begin() == other.begin() && self.ranks_below(other))
+    }
+}

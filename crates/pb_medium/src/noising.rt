@@ -1,0 +1,74 @@
+ghost use Rattle.std.specs.Prelude.{◌≡◌, ◌==◌, ◌≤◌, ◌+◌, ◌++◌, false, IfErr, OnOk, OnErr, length, map, take, drop};
+ghost use Rattle.std.specs.List.{position};
+ghost use Rattle.pb_model.specs.Step.{with_noise};
+ghost use Rattle.pb_model.specs.Trace as trace;
+ghost use Rattle.pb_medium.specs.Entries.{entry_of};
+ghost use Rattle.pb_medium.specs.Noising.{has_noise, has_no_room, RefusesNoise};
+
+use crate::entries::Entry;
+use crate::recents::recent;
+use crate::tracing::put;
+use pb_taps::WorldFault;
+use pb_timers::Moment;
+
+/// Noise for some time from the clock on, in bit times. What is in the air lasts so long, or there is new noise.
+pub fn make_noise(
+    trace: &mut Vec<Entry>,
+    over: usize,
+    now: Moment,
+    bits: u32,
+) -> Result<(), WorldFault>
+    requires { (over ≤ length trace.old.items) × (now ≤ 1000000000000) }
+    ensures ok { OnOk result (map entry_of trace.new.items ≡ take over (map entry_of trace.old.items)
+        ++ with_noise now (now + bits) (has_noise now (drop over (map entry_of trace.old.items))) (drop over (map entry_of trace.old.items))) }
+    ensures some { OnOk result ((bits == 0) ≡ false) }
+    ensures room { OnOk result (has_no_room (has_noise now (drop over (map entry_of trace.old.items))) (length trace.old.items) ≡ false) }
+    ensures err { OnErr result (trace.new.items ≡ trace.old.items) }
+    ensures fault { IfErr result (RefusesNoise bits (has_noise now (drop over (map entry_of trace.old.items))) (length trace.old.items)) }
+{
+    if bits == 0 {
+        return Err(WorldFault::ZeroTime);
+    }
+    let end = now.get() + u64::from(bits);
+    match noise_in_air(recent(trace, over), now) {
+        Some(place) => {
+            prolong(&mut trace[over + place], end);
+            Ok(())
+        }
+        None => put(
+            trace,
+            over,
+            Entry::Noise {
+                begin: now.get(),
+                end,
+            },
+        ),
+    }
+}
+
+/// The noise that is in the air.
+fn noise_in_air(entries: &[Entry], now: Moment) -> Option<usize>
+    ensures { result ≡ position (trace.is_noise_at now) (map entry_of entries.now) }
+{
+    entries
+        .iter()
+        .position(|entry| is_noise_at(entry, now.get()))
+}
+
+fn is_noise_at(entry: &Entry, moment: u64) -> bool
+    ensures { result ≡ trace.is_noise_at moment (entry_of entry.now) }
+{
+    match entry {
+        Entry::Noise { end, .. } => moment < *end,
+        Entry::Sent(_) => false,
+    }
+}
+
+/// Noise lasts until a moment at least.
+fn prolong(entry: &mut Entry, until: u64)
+    ensures { entry_of entry.new ≡ trace.noisy_until until (entry_of entry.old) }
+{
+    if let Entry::Noise { end, .. } = entry {
+        *end = (*end).max(until);
+    }
+}

@@ -1,0 +1,14 @@
+//! What a station does in each of its phases: at a begin and at an end on the bus, when its timer ends, and when its
+//! moment to speak has come.
+#![tactic(auto)]
+
+mod beginnings;
+mod hearing;
+mod rotations;
+mod speeches;
+mod timers;
+
+pub use beginnings::begun;
+pub use hearing::ended;
+pub use speeches::{Spoken, speaks_at, speech};
+pub use timers::{after_timer, timer};

@@ -1,0 +1,5 @@
+pub mod Behind
+pub mod Items
+pub mod Seats
+pub mod Specified
+pub mod Turned

@@ -1,0 +1,123 @@
+ghost use Rattle.std.specs.Prelude.{◌≡◌};
+ghost use Rattle.pb_taps.specs.Faults.{number_of, number_of_new};
+ghost use Rattle.pb_taps.specs.declared.faults.NewFault.TheVariants as new;
+ghost use Rattle.pb_taps.specs.declared.faults.WorldFault.TheVariants as world;
+
+use pb_station::NoMemory;
+use std::alloc::{AllocError, AllocFailed};
+use thiserror::Error;
+
+/// Why there is no new world: the first fault that applies, in the order of the numbers.
+#[derive(Clone, Copy, Debug, PartialEq, Eq, Error)]
+pub enum NewFault {
+    /// 1: there is no tap.
+    #[error("NoTaps")]
+    NoTaps,
+    /// 2: there are more than 32 taps.
+    #[error("TooManyTaps")]
+    TooManyTaps,
+    /// 3: a master's address is over the highest station address, or a passive station's over 126; the
+    /// least such tap.
+    #[error("BadAddress {0}")]
+    BadAddress(usize),
+    /// 4: memory was refused.
+    #[error("NoMemory")]
+    NoMemory,
+}
+
+impl NewFault {
+    /// The fault's number, 1 to 4: its place in the order in which faults are looked for.
+    pub fn number(&self) -> u8
+        ensures { result ≡ number_of_new self.now }
+    {
+        match self {
+            NewFault::NoTaps => 1,
+            NewFault::TooManyTaps => 2,
+            NewFault::BadAddress(_) => 3,
+            NewFault::NoMemory => 4,
+        }
+    }
+}
+
+impl From<AllocError> for NewFault {
+    ghost from_gives = { λ _ fault. fault ≡ new.NoMemory };
+
+    fn from(_refused: AllocError) -> NewFault {
+        NewFault::NoMemory
+    }
+}
+
+impl From<NoMemory> for NewFault {
+    ghost from_gives = { λ _ fault. fault ≡ new.NoMemory };
+
+    fn from(_refused: NoMemory) -> NewFault {
+        NewFault::NoMemory
+    }
+}
+
+/// Why a world refuses an event: the first fault that applies, in the order of the numbers.
+#[derive(Clone, Copy, Debug, PartialEq, Eq, Error)]
+pub enum WorldFault {
+    /// 1: there is no such tap.
+    #[error("NoSuchTap")]
+    NoSuchTap,
+    /// 2: the tap runs, or a telegram of its own is in the air.
+    #[error("Running")]
+    Running,
+    /// 3: the tap doesn't run.
+    #[error("NotRunning")]
+    NotRunning,
+    /// 4: nothing that could be damaged is in the air.
+    #[error("NothingInAir")]
+    NothingInAir,
+    /// 5: a stretch of time without a bit time.
+    #[error("ZeroTime")]
+    ZeroTime,
+    /// 6: the new clock would be past the next end in the air, which is given, in bit times.
+    #[error("TooFar {0}")]
+    TooFar(u64),
+    /// 7: the new clock would be over 1,000,000,000,000 bit times.
+    #[error("ClockFull")]
+    ClockFull,
+    /// 8: the queue of the station is full.
+    #[error("QueueFull")]
+    QueueFull,
+    /// 9: a tap would have more than 64 unread marks; the least such tap.
+    #[error("InboxFull {0}")]
+    InboxFull(usize),
+    /// 10: the trace has 100,000 entries.
+    #[error("TraceFull")]
+    TraceFull,
+    /// 11: memory was refused.
+    #[error("NoMemory")]
+    NoMemory,
+}
+
+impl WorldFault {
+    /// The fault's number, 1 to 11: its place in the order in which faults are looked for.
+    pub fn number(&self) -> u8
+        ensures { result ≡ number_of self.now }
+    {
+        match self {
+            WorldFault::NoSuchTap => 1,
+            WorldFault::Running => 2,
+            WorldFault::NotRunning => 3,
+            WorldFault::NothingInAir => 4,
+            WorldFault::ZeroTime => 5,
+            WorldFault::TooFar(_) => 6,
+            WorldFault::ClockFull => 7,
+            WorldFault::QueueFull => 8,
+            WorldFault::InboxFull(_) => 9,
+            WorldFault::TraceFull => 10,
+            WorldFault::NoMemory => 11,
+        }
+    }
+}
+
+impl<T: Drop> From<AllocFailed<T>> for WorldFault {
+    ghost from_gives = { λ _ fault. fault ≡ world.NoMemory };
+
+    fn from(_refused: AllocFailed<T>) -> WorldFault {
+        WorldFault::NoMemory
+    }
+}

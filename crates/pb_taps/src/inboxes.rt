@@ -1,0 +1,56 @@
+use pb_station::Mark;
+use std::alloc::{AllocError, Global};
+use std::marker::Model;
+
+/// How many unread marks a tap may have.
+pub const MARK_LIMIT: usize = 64;
+
+/// The unread marks of a tap, with room for as many as there may be: a list of marks in every clause.
+#[derive(Debug, Drop)]
+pub struct Inbox {
+    marks: Vec<Mark>,
+}
+
+impl Model for Inbox {
+    ghost use Rattle.std.specs.Prelude.{◌≤◌, List, length, map};
+    ghost use Rattle.std.specs.Vec.{vec_capacity};
+    ghost use Rattle.pb_turn.specs.Marks as model;
+    ghost use Rattle.pb_station.specs.MarkViews.{mark_of};
+
+    ghost Value = { List model.Mark };
+
+    ghost view = { λ b. map mark_of b.marks.items };
+
+    ghost invariant = { λ b. 64 ≤ vec_capacity b.marks };
+}
+
+impl Inbox {
+    ghost use Rattle.std.specs.Prelude.{◌≡◌, ◌<◌, ◌++◌, [], ◌∷◌, IfOk, length, map};
+    ghost use Rattle.pb_station.specs.MarkViews.{mark_of};
+
+    pub fn new(alloc: Global) -> Result<Inbox, AllocError>
+        ensures { IfOk result (λ b. b ≡ []) }
+    {
+        let marks = Vec::with_capacity(alloc, MARK_LIMIT)?;
+        Ok(Inbox { marks })
+    }
+
+    pub fn marks(&self) -> &[Mark]
+        ensures { map mark_of result.now ≡ self.now }
+    {
+        &self.marks
+    }
+
+    pub fn push(&mut self, mark: Mark)
+        requires { length self.old < 64 }
+        ensures { self.new ≡ self.old ++ mark_of mark ∷ [] }
+    {
+        self.marks.push_reserved(mark);
+    }
+
+    pub fn clear(&mut self)
+        ensures { self.new ≡ [] }
+    {
+        self.marks.clear();
+    }
+}

@@ -1,0 +1,21 @@
+//! The taps of one bus: what each is, its station with the marks that it has not read, what may happen, and
+//! why that is refused. All times are in bit times.
+#![tactic(auto)]
+
+mod events;
+mod faults;
+mod inboxes;
+mod making;
+mod moments;
+mod queueing;
+mod taps;
+mod turning;
+
+pub use events::{Event, Reply};
+pub use faults::{NewFault, WorldFault};
+pub use inboxes::{Inbox, MARK_LIMIT};
+pub use making::{check_taps, new_taps};
+pub use moments::beginning;
+pub use queueing::queue;
+pub use taps::{Kind, Tap, TapSpec};
+pub use turning::{keep_turn, turn_at};

@@ -1,0 +1,42 @@
+ghost use Rattle.std.specs.Prelude.{◌≡◌, IfErr, OnErr, OnOk};
+ghost use Rattle.pb_turn.specs.Laws.{IsRequest};
+ghost use Rattle.pb_taps.specs.Queueing.{takes_requests, IsQueued, RefusesQueue};
+
+use crate::faults::WorldFault;
+use crate::taps::Tap;
+use pb_cycles::Request;
+
+/// Has a request wait at the station of a tap.
+pub fn queue(taps: &mut [Tap], tap: usize, request: Request) -> Result<(), WorldFault>
+    ensures ok { OnOk result (IsQueued taps.old tap request taps.new) }
+    ensures err { OnErr result (taps.new ≡ taps.old) }
+    ensures fault { IfErr result (RefusesQueue taps.old tap request) }
+    ensures request { IsRequest request }
+{
+    check_request(&request);
+    if tap >= taps.len() {
+        return Err(WorldFault::NoSuchTap);
+    }
+    if !takes_requests(&taps[tap]) {
+        return Err(WorldFault::NotRunning);
+    }
+    match taps[tap].station.push(request) {
+        Ok(()) => Ok(()),
+        Err(_) => Err(WorldFault::QueueFull),
+    }
+}
+
+/// Whether a tap takes requests: a master that runs.
+fn takes_requests(tap: &Tap) -> bool
+    ensures { result ≡ takes_requests tap.now }
+{
+    tap.running && tap.station.is_master()
+}
+
+/// A request has the address and the data of one, by its type.
+fn check_request(request: &Request)
+    ensures { IsRequest request.now }
+{
+    let _address = request.da();
+    let _octets = request.unit().len();
+}

@@ -1,0 +1,27 @@
+use Rattle.std.proofs.Common.{◌∙◌, ap, sym, subst, map}
+use Rattle.pb_theorem.specs.Headline.{specs_of}
+use Rattle.pb_theorem.specs.Judging.{IsOrdered}
+use Rattle.pb_theorem.specs.Legality.{first_illegal}
+use Rattle.pb_theorem.proofs.Ordered.{is-ordered}
+use Rattle.pb_bus.specs.Buses.{world_of}
+use Rattle.pb_medium.specs.Entries.{entry_of}
+use Rattle.pb_taps.specs.Events.{event_of}
+use Rattle.pb_world.specs.Judging.{specs_at}
+use Rattle.pb_taps.specs.Taps.{spec_of}
+use Rattle.pb_world.proofs.Legal.{runs-in-order}
+use Rattle.pb_world.proofs.auditing.audit.Goals as goal
+
+pub returns-in-Ok-first_broken-clause-ok : goal.returns-in-Ok-first_broken-clause-ok
+returns-in-Ok-first_broken-clause-ok c =
+    let new = world_of c.in-Ok.bus in
+    let w = world_of c.first_broken.new.bus in
+    let sound = c.in-Ok-first_broken.ensures.kept.sound in
+    let made = c.in-Ok.ensures.ok in
+    let runs = c.in-Ok-first_broken.ensures.runs in
+    let stands = runs-in-order c.args.params (map spec_of c.args.specs.now) (map event_of c.args.events.now) new w made runs in
+    let taps = c.deref.ensures.value in
+    let trace = c.deref-in-Ok-first_broken.ensures.value in
+    let illegal = c.first_illegal.ensures sound.no_delay (subst (λ es. IsOrdered (map entry_of es)) (sym trace) (is-ordered w sound stands))
+    ∙ ap (λ ts. first_illegal w.params (specs_at ts) (map entry_of c.deref-in-Ok-first_broken.result.now)) taps
+    ∙ ap (λ es. first_illegal w.params (specs_of w) (map entry_of es)) trace in
+    (new, w, made, runs, c.in-Ok-first_broken.ensures.ok, illegal)
