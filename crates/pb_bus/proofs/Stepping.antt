@@ -28,6 +28,7 @@ use Rattle.pb_taps.specs.declared.faults.WorldFault.TheVariants as fault
 use Rattle.pb_bus.proofs.Cutting.{begun-behind}
 use Rattle.pb_medium.proofs.Entering.{entered-behind}
 use Rattle.pb_medium.proofs.Widening.{widened, pass-whole, damage-whole, is_sending, started_amid, start-whole, cut-whole, noisy-behind, noise-whole, unheard-whole}
+use Rattle.std.proofs.lemmas.Bool.{not-true}
 
 -- the world of the recent entries
 abbrev pub recent_of : ℕ → World → World
@@ -42,10 +43,6 @@ in-err P Q (Err e) f err same q = subst Q (sym same) q
 not-false : (b : Bool) → not b ≡ false → b ≡ true
 not-false true e = refl
 not-false false e = absurd (let wrong : true ≡ false = e in cc)
-
-not-true : (b : Bool) → not b ≡ true → b ≡ false
-not-true false e = refl
-not-true true e = absurd (let wrong : false ≡ true = e in cc)
 
 -- a tap that is there
 pub is-there : {X : Type 0} (xs : List X) (i : ℕ) → i < length xs → is_none (slice_get xs i) ≡ false

@@ -22,6 +22,7 @@ use Rattle.pb_medium.specs.Losing.{has_nothing_to_lose}
 use Rattle.pb_medium.specs.Noising.{has_noise, has_no_room}
 use Rattle.pb_medium.specs.Senses.{at_once}
 use Rattle.pb_medium.proofs.Entering.{entered-behind}
+use Rattle.std.proofs.Math.Bool.{and-false}
 
 -- ---- a world with old entries in front of its own, and other parameters
 
@@ -74,10 +75,6 @@ pass-whole w over d none (m, later, some, old, begun) =
     ∙ pass-wide w.params (take over w.trace) (drop over w.trace) w.now d m w.taps none old begun later
 
 -- ---- what is over is not in the air, and reaches nobody
-
-and-false : (b : Bool) → (b && false) ≡ false
-and-false true = refl
-and-false false = refl
 
 over-landed : (delay m now speaker : ℕ) (es : List Entry) → delay ≡ 0 → AllOver m es → m ≤ now → list_any (is_in_air_by delay now speaker) es ≡ false
 over-landed delay m now speaker [] none over later = refl

@@ -5,6 +5,7 @@ use Rattle.std.proofs.lemmas.Option.{slice_get-get_or, slice_get-map, get_or_fro
 use Rattle.std.proofs.Math.Nat.{eq-or-lt_of_le}
 use Rattle.std.proofs.lemmas.List.{length-map, take_more, at_drop_more, drop-map}
 use Rattle.std.specs.Option.{option_map}
+pub use Rattle.pb_station.proofs.Places.{left-at}
 
 -- an item of a list, seen through a function
 pub item-at : {X Y : Type 0} (f : X → Y) (xs : List X) (i : ℕ) (x : X) → i < length xs → x ≡ slice_index_or xs i x → slice_get (map f xs) i ≡ Some (f x)
@@ -40,13 +41,6 @@ found-at xs i x there is = slice_get-get_or xs i x there ∙ ap (λ y. Some y) (
 -- lists that look alike are as long
 pub as-many : {X Y : Type 0} (f : X → Y) (xs ys : List X) → map f xs ≡ map f ys → length xs ≡ length ys
 as-many f xs ys same = sym (length-map xs f) ∙ ap length same ∙ length-map ys f
-
--- what is left from it on
-pub left-at : {X Y : Type 0} (f : X → Y) (xs : List X) (i : ℕ) (x : X) → i < length xs → x ≡ slice_index_or xs i x
-    → drop i (map f xs) ≡ f x ∷ drop (i + 1) (map f xs)
-left-at f xs i x there is =
-    drop-map f i xs ∙ at_drop_more (λ ys. map f ys) xs i x there ∙ ap (λ y. f y ∷ map f (drop (i + 1) xs)) (sym is)
-    ∙ ap (λ ys. f x ∷ ys) (sym (drop-map f (i + 1) xs))
 
 -- what has been passed with it
 pub passed-at : {X Y : Type 0} (f : X → Y) (xs : List X) (i : ℕ) (x : X) → i < length xs → x ≡ slice_index_or xs i x

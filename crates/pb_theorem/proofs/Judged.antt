@@ -41,10 +41,6 @@ or-false : (a : Bool) → (a || false) ≡ a
 or-false true = refl
 or-false false = refl
 
-and-false : (a : Bool) → (a && false) ≡ false
-and-false true = refl
-and-false false = refl
-
 any-append : (from to : ℕ) (xs ys : List Entry) → any_between from to (xs ++ ys) ≡ (any_between from to xs || any_between from to ys)
 any-append from to [] ys = refl
 any-append from to (x ∷ xs) ys = ap (λ b. is_between from to x || b) (any-append from to xs ys) ∙ sym (or-assoc (is_between from to x) (any_between from to xs) (any_between from to ys))

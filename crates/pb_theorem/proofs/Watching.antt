@@ -18,6 +18,7 @@ use Rattle.pb_theorem.specs.Premises.{Waited, Broken, Course, has_waited, waited
 use Rattle.pb_theorem.specs.Quiet.{quiet_at}
 use Rattle.pb_theorem.specs.Watching.{Watched, passes_busy, meets_last, new_meet, last_of, watched_after, StandsFor}
 use Rattle.pb_theorem.proofs.Quiets.{quiet-speech, quiet-damaged, quiet-unheard, quiet-cut, quiet-noise, quiet-passed}
+use Rattle.std.proofs.Math.Bool.{or-true}
 
 -- ---- the silence
 
@@ -134,10 +135,6 @@ none-or : (a : Bool) → (a || false) ≡ a
 none-or true = refl
 none-or false = refl
 
-or-true : (a b : Bool) → b ≡ true → (a || b) ≡ true
-or-true true b e = refl
-or-true false b e = e
-
 -- whether two meet is decided by those that have waited out now and the last one before
 two-meet : (delay now : ℕ) (new old : List Waited) (last : Option Waited) → AllNew now 0 new
     → ((one : Waited) → now ≤ one.moment → list_any (meets delay one) old ≡ meets_last delay one last)
@@ -150,7 +147,7 @@ two-meet delay now (one ∷ []) old last all decides =
 two-meet delay now (one ∷ other ∷ more) old last all decides =
     let met = meets-next delay now one other all.1 all.2.1 (omega (arith, all.2.0)) in
     ap (λ (b : Bool). (meets delay one one || (b || list_any (meets delay one) (more ++ old))) || list_any (λ x. list_any (meets delay x) (one ∷ other ∷ more ++ old)) (other ∷ more)) met
-    ∙ ap (λ (b : Bool). b || list_any (λ x. list_any (meets delay x) (one ∷ other ∷ more ++ old)) (other ∷ more)) (or-true (meets delay one one) true refl)
+    ∙ ap (λ (b : Bool). b || list_any (λ x. list_any (meets delay x) (one ∷ other ∷ more ++ old)) (other ∷ more)) (or-true (meets delay one one))
 
 absorbed : (a b : Bool) → (b ≡ true → a ≡ true) → (a || b) ≡ a
 absorbed true b more = refl

@@ -25,6 +25,7 @@ use Rattle.pb_medium.specs.Airs.{IsCut}
 use Rattle.pb_world.specs.Premises.{IsFirstWaiting, waiting_of, met_by, last_by}
 use Rattle.pb_medium.specs.Senses.{at_once}
 use Rattle.pb_bus.specs.Worlds.{due_at}
+use Rattle.std.proofs.Math.Bool.{or-true}
 
 -- ---- what is in the air is recent
 
@@ -147,10 +148,6 @@ pub no-namesake : (table : List Bool) (left ts : List Tap) (t : Tap) → left �
 no-namesake table left ts t here small noted free none =
     ap has_namesakes here ∙ ap (λ (b : Bool). (t.running && b) || has_namesakes ts) (sym (noted t.spec.address small))
     ∙ ap (λ (b : Bool). b || has_namesakes ts) free ∙ none
-
-or-true : (b : Bool) → (b || true) ≡ true
-or-true true = refl
-or-true false = refl
 
 -- one that has a namesake behind it stands behind others too
 pub namesakes-behind : (ts : List Tap) (place : ℕ) → has_namesakes (drop place ts) ≡ true → has_namesakes ts ≡ true

@@ -7,10 +7,7 @@ use Rattle.pb_medium.specs.Entries.{entry_of}
 use Rattle.pb_medium.specs.Senses.{at_once}
 use Rattle.pb_medium.proofs.Hitting.{first-found}
 use Rattle.pb_medium.proofs.damaging.target.Goals as goal
-
-or-true : (b : Bool) → not (b || true) ≡ false
-or-true true = refl
-or-true false = refl
+use Rattle.std.proofs.Math.Bool.{or-true}
 
 pub returns-then-not-has_place-clause-none : goal.returns-then-not-has_place-clause-none
 returns-then-not-has_place-clause-none c = λ _.
@@ -19,7 +16,7 @@ returns-then-not-has_place-clause-none c = λ _.
     let there : c.in_ok-place.place < length c.args.entries.now = omega (arith, first.1, length-map c.args.entries.now entry_of) in
     let here = first-found test entry_of c.args.entries.now c.in_ok-place.place c.index-entries-place.result first there c.index-entries-place.is in
     ap (λ o. not (c.args.hit.tap == c.args.speaker || not (has_place o c.args.hit.place))) here.0
-    ∙ ap (λ (b : Bool). not (c.args.hit.tap == c.args.speaker || not b)) (sym c.if-not-has_place.ensures) ∙ or-true (c.args.hit.tap == c.args.speaker)
+    ∙ ap (λ (b : Bool). not (c.args.hit.tap == c.args.speaker || not b)) (sym c.if-not-has_place.ensures) ∙ ap not (or-true (c.args.hit.tap == c.args.speaker))
 
 pub returns-clause-some : goal.returns-clause-some
 returns-clause-some c =
