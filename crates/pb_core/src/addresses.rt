@@ -21,6 +21,7 @@ impl Model for Address {
 impl Address {
     ghost use Rattle.std.specs.Prelude.{◌≡◌, ◌≤◌};
 
+    /// The address of a station, 0 to 126.
     pub fn new(number: u8) -> Address
         requires { number ≤ 126 }
         ensures { result ≡ number }
@@ -28,6 +29,7 @@ impl Address {
         Address { number }
     }
 
+    /// Its number, 0 to 126.
     pub fn get(self) -> u8
         ensures value { result ≡ self }
         ensures bound { self ≤ 126 }

@@ -48,6 +48,7 @@ impl PastMoment {
         }
     }
 
+    /// The moment itself, in bit times.
     pub fn get(self) -> Moment
         ensures value { result ≡ self }
         ensures bound { self ≤ last_end }

@@ -12,7 +12,7 @@ use pb_taps::WorldFault;
 use pb_timers::Moment;
 
 /// Damages the first telegram of a speaker in the air, at another tap; nothing that is over is in the
-/// air.
+/// air. Faults, the first that applies: `NothingInAir`; `NoMemory`.
 pub fn damage_recent(
     trace: &mut [Entry],
     over: usize,

@@ -11,7 +11,7 @@ use pb_taps::WorldFault;
 use pb_timers::Moment;
 
 /// The telegram that a speaker has begun at the clock never comes to another tap; nothing that is over
-/// begins at the clock.
+/// begins at the clock. Its fault: `NothingInAir`.
 pub fn lose_recent(
     trace: &mut Vec<Entry>,
     over: usize,

@@ -12,6 +12,7 @@ use pb_taps::WorldFault;
 use pb_timers::Moment;
 
 /// Noise for some time from the clock on, in bit times. What is in the air lasts so long, or there is new noise.
+/// Faults, the first that applies: `ZeroTime`; for new noise, `TraceFull` and `NoMemory`.
 pub fn make_noise(
     trace: &mut Vec<Entry>,
     over: usize,

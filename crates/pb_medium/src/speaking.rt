@@ -73,7 +73,8 @@ fn first_heard(speaker: usize, tap: usize) -> Heard
     }
 }
 
-/// Puts what a tap said at the clock, if anything, into the trace of a bus with so many taps.
+/// Puts what a tap said at the clock, if anything, into the trace of a bus with so many taps. Faults, the first that
+/// applies: `TraceFull`; `NoMemory`.
 pub fn say(
     trace: &mut Vec<Entry>,
     over: usize,

@@ -28,6 +28,7 @@ impl Inbox {
     ghost use Rattle.std.specs.Prelude.{◌≡◌, ◌<◌, ◌++◌, [], ◌∷◌, IfOk, length, map};
     ghost use Rattle.pb_station.specs.MarkViews.{mark_of};
 
+    /// An inbox without marks, with room for all that it may have. Its fault: memory was refused.
     pub fn new(alloc: Global) -> Result<Inbox, AllocError>
         ensures { IfOk result (λ b. b ≡ []) }
     {
@@ -35,12 +36,14 @@ impl Inbox {
         Ok(Inbox { marks })
     }
 
+    /// The marks that have not been read, the oldest first.
     pub fn marks(&self) -> &[Mark]
         ensures { map mark_of result.now ≡ self.now }
     {
         &self.marks
     }
 
+    /// One more mark, behind the others.
     pub fn push(&mut self, mark: Mark)
         requires { length self.old < 64 }
         ensures { self.new ≡ self.old ++ mark_of mark ∷ [] }
@@ -48,6 +51,7 @@ impl Inbox {
         self.marks.push_reserved(mark);
     }
 
+    /// All marks have been read.
     pub fn clear(&mut self)
         ensures { self.new ≡ [] }
     {

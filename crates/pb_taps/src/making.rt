@@ -26,7 +26,8 @@ const TAP_LIMIT: usize = 32;
 /// The highest address of a station.
 const HIGHEST_ADDRESS: u32 = 126;
 
-/// The first fault of some taps.
+/// The first fault of some taps: `NoTaps`; `TooManyTaps` over 32; `BadAddress` with the least tap whose address is
+/// too high for its kind.
 pub fn check_taps(params: &BusParams, specs: &[TapSpec]) -> Result<(), NewFault>
     ensures ok { OnOk result (first_fault (new_faults params.now (map spec_of specs.now)) ≡ None) }
     ensures stations { OnOk result (AreStations specs.now) }
@@ -70,7 +71,7 @@ fn has_bad_address(highest: u32, spec: &TapSpec) -> bool
     }
 }
 
-/// The taps of a new world: none of them runs.
+/// The taps of a new world: none of them runs. Its fault: `NoMemory`.
 pub fn new_taps(alloc: Global, params: &BusParams, specs: &[TapSpec]) -> Result<Vec<Tap>, NewFault>
     requires { AreStations specs.now }
     ensures taps { IfOk result (λ taps. map tap_of taps.items ≡ map (stopped_tap params.now) (map spec_of specs.now)) }

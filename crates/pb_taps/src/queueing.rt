@@ -6,7 +6,8 @@ use crate::faults::WorldFault;
 use crate::taps::Tap;
 use pb_cycles::Request;
 
-/// Has a request wait at the station of a tap.
+/// Has a request wait at the station of a tap. Faults, the first that applies: `NoSuchTap`; `NotRunning` for a tap
+/// that is stopped, or passive; `QueueFull`.
 pub fn queue(taps: &mut [Tap], tap: usize, request: Request) -> Result<(), WorldFault>
     ensures ok { OnOk result (IsQueued taps.old tap request taps.new) }
     ensures err { OnErr result (taps.new ≡ taps.old) }

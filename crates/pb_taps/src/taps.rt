@@ -15,6 +15,7 @@ pub enum Kind {
     Passive,
 }
 
+/// Whether a tap of a kind is a master.
 pub fn is_master(kind: Kind) -> bool
     ensures { result ≡ is_master kind }
 {

@@ -18,7 +18,7 @@ fn turn(tap: &Tap, now: Moment) -> Turn
     tap.station.turn(tap.marks.marks(), now)
 }
 
-/// The turn of the station at a tap.
+/// The turn of the station at a tap. Faults, the first that applies: `NoSuchTap`; `NotRunning`.
 pub fn turn_at(taps: &[Tap], tap: usize, now: Moment) -> Result<Turn, WorldFault>
     requires clock { now ≤ 1000000000000 }
     requires order { AllInOrder now (map tap_of taps.now) }
