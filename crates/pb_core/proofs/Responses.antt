@@ -1,6 +1,6 @@
 -- What a station answers to a telegram with a control octet.
 use Rattle.std.proofs.Common.{◌≡◌, ◌∙◌, ap, refl, ℕ, ◌+◌, true, false, List, Option, Some, None}
-use Rattle.std.specs.Option.{option_map}
+use Rattle.std.specs.Option.{option_map, option_or}
 use Rattle.pb_timers.specs.Timers.{Params}
 use Rattle.pb_cycles.specs.Messages.{message_of, reply_octets}
 use Rattle.pb_cycles.specs.Responding.{reply_to_message, after_message}
@@ -24,12 +24,16 @@ answered f o xs r is same = is ∙ ap (λ (x : Option (List ℕ)). option_map f 
     twice None = refl
     twice (Some a) = refl
 
+pub or-mapped : {A B : Type 0} (f : A → B) (o before : Option A) → option_map f (option_or o before) ≡ option_or (option_map f o) (option_map f before)
+or-mapped f None before = refl
+or-mapped f (Some x) before = refl
+
 -- a station that answers, from the parts that are computed
-pub answers_by : (p : Params) (s : Station) (at station_type : ℕ) (m : Message) (ready ts code : ℕ) (octets : Option (List ℕ)) (reply : Option turn.Reply) (responder : ResponderTable)
-    → reply ≡ option_map (λ xs. record { ready = ready; octets = xs; joins = false }) octets → octets ≡ option_map reply_octets (reply_to_message s.cycles.responder ts code m)
+pub answers_by : (p : Params) (s : Station) (at station_type : ℕ) (m : Message) (ready ts code : ℕ) (octets : Option (List ℕ)) (reply waits : Option turn.Reply) (responder : ResponderTable)
+    → waits ≡ option_or reply s.reply → reply ≡ option_map (λ xs. record { ready = ready; octets = xs; joins = false }) octets → octets ≡ option_map reply_octets (reply_to_message s.cycles.responder ts code m)
     → responder ≡ after_message s.cycles.responder ts code m → ready ≡ at + p.tsdr → ts ≡ s.address → code ≡ station_type
-    → record s { reply = reply; cycles = record s.cycles { responder = responder } } ≡ answers p s at station_type m
-answers_by p s at station_type m ready ts code octets reply responder is said after later own type =
+    → record s { reply = waits; cycles = record s.cycles { responder = responder } } ≡ answers p s at station_type m
+answers_by p s at station_type m ready ts code octets reply waits responder or is said after later own type =
     let t = s.cycles.responder in
     let made : reply ≡ option_map (λ (a : Reply). record { ready = ready; octets = reply_octets a; joins = false }) (reply_to_message t s.address station_type m)
     = answered (λ xs. record { ready = ready; octets = xs; joins = false }) (reply_to_message t s.address station_type m) octets reply is
@@ -38,8 +42,8 @@ answers_by p s at station_type m ready ts code octets reply responder is said af
     = made ∙ ap (λ (n : ℕ). option_map (λ (a : Reply). record { ready = n; octets = reply_octets a; joins = false }) (reply_to_message t s.address station_type m)) later in
     let done : responder ≡ after_message t s.address station_type m
     = after ∙ ap (λ (n : ℕ). after_message t n code m) own ∙ ap (λ (n : ℕ). after_message t s.address n m) type in
-    ap (λ (r : Option turn.Reply). record s { reply = r; cycles = record s.cycles { responder = responder } }) sent
-    ∙ ap (λ (x : ResponderTable). record s { reply = reply_to p s at station_type m; cycles = record s.cycles { responder = x } }) done
+    ap (λ (r : Option turn.Reply). record s { reply = r; cycles = record s.cycles { responder = responder } }) (or ∙ ap (λ (r : Option turn.Reply). option_or r s.reply) sent)
+    ∙ ap (λ (x : ResponderTable). record s { reply = option_or (reply_to p s at station_type m) s.reply; cycles = record s.cycles { responder = x } }) done
 
 pub in_idle : (p : Params) (s : Station) (refused : Option ℕ) (at : ℕ) (t : Telegram) → is_framed t ≡ true
     → answers p s at in_ring (message_of t) ≡ idle_hears p s refused at (telegram_brings t)

@@ -1,5 +1,5 @@
 -- A reply that is not sent yet, and the type of a station in it.
-use Rattle.std.specs.Option.{option_map}
+use Rattle.std.specs.Option.{option_map, option_or}
 use Rattle.std.specs.Prelude.{ℕ, ◌+◌, Bool, true, false, if◌then◌else◌, [], Option, Some, None}
 use Rattle.pb_timers.specs.Timers.{Params}
 use Rattle.pb_cycles.specs.Fields.{Fields}
@@ -48,6 +48,6 @@ reply_to p s at station_type m =
 -- a station of some type that answers a message, which it executes, if it is a request that it hasn't executed before
 abbrev pub answers : Params → turn.Station → ℕ → ℕ → Message → turn.Station
 answers p s at station_type m = record s {
-  reply = reply_to p s at station_type m;
+  reply = option_or (reply_to p s at station_type m) s.reply;
   cycles = record s.cycles { responder = after_message s.cycles.responder s.address station_type m };
 }

@@ -138,7 +138,7 @@ fn reply_at(answer: Option<Telegram>, ready: Moment) -> Option<Reply>
 }
 
 /// A station of some type answers a telegram that ended at a moment, which it executes, if it is a request
-/// that it has not executed before.
+/// that it has not executed before. Its answer takes the place of a reply that is not sent yet.
 pub fn answering(
     kept: Kept,
     params: &BusParams,
@@ -152,7 +152,7 @@ pub fn answering(
     let mut cycles = kept.cycles;
     let ts = kept.address.get();
     let answer = cycles.responder.answer(ts, station_type.code(), telegram);
-    let reply = reply_at(answer, reply_moment(params, at));
+    let reply = reply_at(answer, reply_moment(params, at)).or(kept.reply);
     Kept {
         reply,
         cycles,

@@ -51,7 +51,7 @@ fn own_token(
     }
 }
 
-/// After a token to another station; one that was skipped twice listens anew.
+/// After a token to another station; one that was skipped twice listens anew, with nothing to reply.
 fn foreign_token(idle: Idle, kept: Kept) -> Core
     ensures { station_of result ≡ foreign_token (with_phase kept (phase_of (Phase.Idle idle))) }
 {
@@ -65,6 +65,7 @@ fn foreign_token(idle: Idle, kept: Kept) -> Core
         phase: Phase::Listening(idle.on_skipped()),
         kept: Kept {
             las: Las::listening(),
+            reply: None,
             ..kept
         },
     }
@@ -188,7 +189,7 @@ fn listening_asked(
     requires { at ≤ last_turn }
     ensures { station_of result ≡ listening_hears params.now (with_phase kept (phase_of (Phase.Listening listening))) (is_doubled listening) at (Framed (fields_of head)) }
 {
-    let reply = listening_answer(&kept, params, at, head);
+    let reply = listening_answer(&kept, params, at, head).or(kept.reply);
     Core {
         phase: Phase::Listening(listening),
         kept: Kept { reply, ..kept },
@@ -490,7 +491,6 @@ pub fn ended(core: Core, params: &BusParams, at: Moment, arrival: &Option<Telegr
     let kept = Kept {
         busy: false,
         past: kept.past.heard(at),
-        reply: None,
         ..kept
     };
     phase_ended(Core { phase, kept }, params, at, arrival)

@@ -134,7 +134,7 @@ by-ended p s (Checking tries) at a h = by-holder (record s { phase = Checking tr
 by-heard : (p : Params) (s : Station) (m : Mark) → HasReceived s → HasReceived (heard p s m)
 by-heard p s (Begin at seen) h = by-begin s s.phase at seen p h
 by-heard p s (End at seen chars) h =
-    by-ended p (record s { busy = false; quiet = max s.quiet at; reply = None }) s.phase at (arrival_of chars) h
+    by-ended p (record s { busy = false; quiet = max s.quiet at }) s.phase at (arrival_of chars) h
 
 by-mark : (p : Params) (s : Station) (m : Mark) → HasReceived s → HasReceived (after_mark p s m)
 by-mark p s m h = by_test HasReceived (is_offline s.phase) s (heard p s m) (λ _. h) (λ _. by-heard p s m h)

@@ -151,6 +151,7 @@ fn a_new_master_listens_and_claims(rt: HostRuntime) -> Result<(), Fail> {
     let alloc = rt.alloc();
     let mut station = master(alloc)?;
     assert_eq!(rt; station.phase().name(), "Offline");
+    assert_eq!(rt; NoMemory.to_string(alloc)?.as_str(), "NoMemory");
     assert!(rt; due(&station, &[]).is_none());
     assert_eq!(rt; station.tap(), 0);
     assert_eq!(rt; station.address(), 1);

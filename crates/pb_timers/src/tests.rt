@@ -84,6 +84,7 @@ fn faults_have_numbers_and_names(rt: HostRuntime) -> Result<(), Fail> {
         assert_eq!(rt; fault.number(), number);
         assert_eq!(rt; fault.to_string(rt.alloc())?.as_str(), name);
     }
+    assert_eq!(rt; ClockFull.to_string(rt.alloc())?.as_str(), "ClockFull");
     Ok(())
 }
 

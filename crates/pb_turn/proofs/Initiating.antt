@@ -23,7 +23,7 @@ use Rattle.pb_turn.specs.Phases.{Phase, Offline, PassiveIdle, Listening, Idle, C
 use Rattle.pb_turn.specs.Stations.{Station, Reply, timer_of, speaks_at, next_station, previous_station}
 use Rattle.pb_turn.specs.Turns.{after_marks, settled, looks_at_gap, says_no_request, high_request, low_request, high_taken, low_taken, says_request, says_low, says_high, says_again, says_look, says_token, says_reply, says_ready, replying, joining, phase_says, speech, turn_of, saying, received_own, token_octets}
 use Rattle.pb_turn.proofs.Cases.{by_test}
-use Rattle.pb_turn.proofs.Keeping.{Sayable, sayable-passive, sayable-in_ring, cycles-closed, open-retried, open-request, high-request, low-request, cycles-high_taken, cycles-low_taken}
+use Rattle.pb_turn.proofs.Keeping.{or-one-of, Sayable, sayable-passive, sayable-in_ring, cycles-closed, open-retried, open-request, high-request, low-request, cycles-high_taken, cycles-low_taken}
 use Rattle.pb_turn.proofs.Octets.{frame-some, frame-fits}
 use Rattle.pb_turn.proofs.Paths.{at_end}
 
@@ -74,17 +74,18 @@ reply-token_in_idle p s refused at da sa has =
     let x = with_token s da sa in
     by_test Sayable (da == s.address) _ _
     (λ _. by_test Sayable (is_taken_from refused (previous_station s) sa) (taking p x at) _ (λ _. has) (λ _. has))
-    (λ _. by_test Sayable (nat_le skips_limit (skips_of (place_of x.las.stage))) _ x (λ _. has) (λ _. has))
+    (λ _. by_test Sayable (nat_le skips_limit (skips_of (place_of x.las.stage))) _ x (λ _. (tt, has.1)) (λ _. has))
 
 reply-idle_hears : (p : Params) (s : Station) (refused : Option ℕ) (at : ℕ) (a : Arrival) → Sayable s → Sayable (idle_hears p s refused at a)
 reply-idle_hears p s refused at (Token da sa) has = reply-token_in_idle p s refused at da sa has
-reply-idle_hears p s refused at (Framed f) has = sayable-in_ring p s at f has.1
+reply-idle_hears p s refused at (Framed f) has = sayable-in_ring p s at f has
 reply-idle_hears p s refused at Acknowledgement has = has
 reply-idle_hears p s refused at NoTelegram has = has
 
 reply-listening_hears : (p : Params) (s : Station) (doubled : Bool) (at : ℕ) (a : Arrival) → Sayable s → Sayable (listening_hears p s doubled at a)
 reply-listening_hears p s doubled at (Token da sa) has = has
-reply-listening_hears p s doubled at (Framed f) has = (reply-listening_answer p s at f, has.1)
+reply-listening_hears p s doubled at (Framed f) has =
+    (or-one-of (λ (r : Reply). IsReply r.octets) (listening_answer p s at f) s.reply (reply-listening_answer p s at f) has.0, has.1)
 reply-listening_hears p s doubled at Acknowledgement has = has
 reply-listening_hears p s doubled at NoTelegram has = has
 
@@ -120,7 +121,7 @@ reply-awaiting_data p s asked slot at NoTelegram has = reply-not_answered s aske
 
 reply-passive : (p : Params) (s : Station) (at : ℕ) (a : Arrival) → Sayable s → Sayable (passive_hears p s at a)
 reply-passive p s at (Token da sa) has = has
-reply-passive p s at (Framed f) has = sayable-passive p s at f has.1
+reply-passive p s at (Framed f) has = sayable-passive p s at f has
 reply-passive p s at Acknowledgement has = has
 reply-passive p s at NoTelegram has = has
 
@@ -138,7 +139,7 @@ reply-ended p s (Checking tries) at a has = reply-holder_hears s a has
 
 reply-heard : (p : Params) (s : Station) (m : Mark) → Sayable s → Sayable (heard p s m)
 reply-heard p s (Begin at seen) has = (tt, has.1)
-reply-heard p s (End at seen chars) has = reply-ended p (at_end s at) s.phase at (arrival_of chars) (tt, has.1)
+reply-heard p s (End at seen chars) has = reply-ended p (at_end s at) s.phase at (arrival_of chars) has
 
 pub reply-after_mark : (p : Params) (s : Station) (m : Mark) → Sayable s → Sayable (after_mark p s m)
 reply-after_mark p s m has = by_test Sayable (is_offline s.phase) s (heard p s m) (λ _. has) (λ _. reply-heard p s m has)

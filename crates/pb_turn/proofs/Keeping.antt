@@ -1,6 +1,6 @@
 -- What a station keeps of its message cycles can be said.
 use Rattle.std.proofs.Common.{◌≡◌, ℕ, ◌+◌, ◌*◌, ◌≤◌, ◌==◌, ◌%◌, List, [], ◌∷◌, ◌++◌, length, Bool, true, false, refl, arith, Option, Some, None}
-use Rattle.std.specs.Option.{option_map}
+use Rattle.std.specs.Option.{option_map, option_or}
 use Rattle.std.specs.Prelude.{All, IfSome, nat_lt}
 use Rattle.std.proofs.lemmas.List.Elements.{All-drop, All-nil, All-push}
 use Rattle.pb_timers.specs.Timers.{Params}
@@ -145,15 +145,26 @@ cycles-answering p s at f station_type type has =
     let after = responder-framed s.cycles.responder s.address station_type f type (record { unit = has.unit; kept = has.kept }) in
     record { high = has.high; low = has.low; pending = has.pending; unit = after.unit; kept = after.kept }
 
+-- what holds of an answer and of the reply before it holds of the one that stays
+pub or-one-of : {A : Type 0} (P : A → Type 0) (answer before : Option A) → IfSome answer P → IfSome before P → IfSome (option_or answer before) P
+or-one-of P None before new old = old
+or-one-of P (Some r) before new old = new
+
 -- both, for a passive station and for one in the ring
 abbrev pub Sayable : Station → Type 0
 Sayable s = HasReply s × HasCycles s
 
-pub sayable-passive : (p : Params) (s : Station) (at : ℕ) (f : Fields) → HasCycles s → Sayable (answering p s at f passive)
-sayable-passive p s at f has = (reply-answer_to p s at f passive passive-type has, cycles-answering p s at f passive passive-type has)
+sayable-answering : (p : Params) (s : Station) (at : ℕ) (f : Fields) (station_type : ℕ) → HasType station_type → Sayable s → Sayable (answering p s at f station_type)
+sayable-answering p s at f station_type type has = (
+  or-one-of (λ (r : station.Reply). IsReply r.octets) (answer_to p s at f station_type) s.reply (reply-answer_to p s at f station_type type has.1) has.0,
+  cycles-answering p s at f station_type type has.1,
+)
 
-pub sayable-in_ring : (p : Params) (s : Station) (at : ℕ) (f : Fields) → HasCycles s → Sayable (answering p s at f in_ring)
-sayable-in_ring p s at f has = (reply-answer_to p s at f in_ring in_ring-type has, cycles-answering p s at f in_ring in_ring-type has)
+pub sayable-passive : (p : Params) (s : Station) (at : ℕ) (f : Fields) → Sayable s → Sayable (answering p s at f passive)
+sayable-passive p s at f has = sayable-answering p s at f passive passive-type has
+
+pub sayable-in_ring : (p : Params) (s : Station) (at : ℕ) (f : Fields) → Sayable s → Sayable (answering p s at f in_ring)
+sayable-in_ring p s at f has = sayable-answering p s at f in_ring in_ring-type has
 
 -- ---- an initiator's table
 

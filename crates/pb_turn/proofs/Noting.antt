@@ -1,5 +1,6 @@
 -- What a station makes of a Begin, of an End, and of a reply to its question.
 use Rattle.std.proofs.Common.{◌≡◌, ◌≢◌, ◌∙◌, ℕ, ◌+◌, ◌<◌, ◌≤◌, ◌==◌, ◌&&◌, ◌%◌, ◌/◌, List, Bool, true, false, if◌then◌else◌, refl, ap, sym, Option, Some, None}
+use Rattle.std.specs.Option.{option_or}
 use Rattle.std.specs.Prelude.{nat_lt, max}
 use Rattle.std.proofs.lemmas.Bool.{le-ltb, lt-ltb, eq-eqb, eqb-true, ne_eqb, and_parts}
 use Rattle.pb_telegram.specs.declared.chars.RxChar.{RxChar}
@@ -241,8 +242,8 @@ nothing-unless : (b : Bool) (r : Reply) → b ≡ false → (if b then Some r el
 nothing-unless true r e = absurd (let wrong : true ≡ false = e in cc)
 nothing-unless false r e = refl
 
-pub asks-silent : (p : Params) (s : Station) (doubled : Bool) (at : ℕ) (f : Fields) → asks_status s.address f ≡ false → (listening_hears p s doubled at (Framed f)).reply ≡ None
+pub asks-silent : (p : Params) (s : Station) (doubled : Bool) (at : ℕ) (f : Fields) → asks_status s.address f ≡ false → listening_hears p s doubled at (Framed f) ≡ s
 asks-silent p s doubled at f other =
-    by_test (λ (o : Option Reply). o ≡ None) (is_complete s.las.stage) (status_answer p s at f ready_for_ring true) (status_answer p s at f not_ready false)
-    (λ _. nothing-unless (asks_status s.address f) (status_reply_of p s at f 0x20 true) other)
-    (λ _. nothing-unless (asks_status s.address f) (status_reply_of p s at f 0x10 false) other)
+    by_test (λ (o : Option Reply). record s { reply = option_or o s.reply } ≡ s) (is_complete s.las.stage) (status_answer p s at f ready_for_ring true) (status_answer p s at f not_ready false)
+    (λ _. ap (λ (o : Option Reply). record s { reply = option_or o s.reply }) (nothing-unless (asks_status s.address f) (status_reply_of p s at f 0x20 true) other))
+    (λ _. ap (λ (o : Option Reply). record s { reply = option_or o s.reply }) (nothing-unless (asks_status s.address f) (status_reply_of p s at f 0x10 false) other))

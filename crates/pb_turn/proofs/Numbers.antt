@@ -1,6 +1,6 @@
 -- Rules of the turn, number by number.
 use Rattle.std.proofs.Common.{◌≡◌, ◌∙◌, ℕ, ◌+◌, ◌<◌, ◌≤◌, ◌==◌, ◌%◌, List, [], Bool, true, false, if◌then◌else◌, refl, ap, sym, subst, Option, Some, None}
-use Rattle.std.specs.Option.{option_map}
+use Rattle.std.specs.Option.{option_map, option_or}
 use Rattle.std.specs.Prelude.{is_some, min, max}
 use Rattle.std.proofs.lemmas.Bool.{le-leb, lt-leb, eq-eqb, and_parts}
 use Rattle.pb_timers.specs.Timers.{Params}
@@ -26,7 +26,7 @@ use Rattle.pb_turn.specs.Hearing.{not_answered, passive_hears, answer_to, is_sta
 use Rattle.pb_turn.specs.Laws.{HasAsked, is_asking, status_reply_of}
 use Rattle.pb_turn.specs.Marks.{Mark, Begin, End}
 use Rattle.pb_turn.specs.Phases.{Phase, Offline, Listening, Idle, Use, AwaitData, AwaitStatus, Pass, Checking}
-use Rattle.pb_turn.specs.Stations.{Station, next_station, previous_station}
+use Rattle.pb_turn.specs.Stations.{Station, Reply, next_station, previous_station}
 use Rattle.pb_turn.specs.Turns.{says_token, received_own, saying, token_octets, says_look, says_no_request, high_request, low_request, high_taken, low_taken, says_request, says_low, says_high, says_again, phase_says}
 use Rattle.pb_turn.proofs.Cases.{by_test, and-false, or-true}
 use Rattle.pb_turn.proofs.Keeping.{waiting_reply}
@@ -143,14 +143,14 @@ asked-mark p s m of slot e = asked-phase p s s.phase m of slot e
 pub says-not_ready : (p : Params) (s : Station) (doubled : Bool) (at : ℕ) (f : Fields) → asks_status s.address f ≡ true → is_complete s.las.stage ≡ false
     → (listening_hears p s doubled at (Framed f)).reply ≡ Some (status_reply_of p s at f 0x10 false)
 says-not_ready p s doubled at f asks none =
-    ap (λ (b : Bool). if b then status_answer p s at f ready_for_ring true else status_answer p s at f not_ready false) none
-    ∙ ap (λ (b : Bool). if b then Some (status_reply_of p s at f 0x10 false) else None) asks
+    ap (λ (b : Bool). option_or (if b then status_answer p s at f ready_for_ring true else status_answer p s at f not_ready false) s.reply) none
+    ∙ ap (λ (b : Bool). option_or (if b then Some (status_reply_of p s at f 0x10 false) else None) s.reply) asks
 
 pub says-ready : (p : Params) (s : Station) (doubled : Bool) (at : ℕ) (f : Fields) → asks_status s.address f ≡ true → is_complete s.las.stage ≡ true
     → (listening_hears p s doubled at (Framed f)).reply ≡ Some (status_reply_of p s at f 0x20 true)
 says-ready p s doubled at f asks complete =
-    ap (λ (b : Bool). if b then status_answer p s at f ready_for_ring true else status_answer p s at f not_ready false) complete
-    ∙ ap (λ (b : Bool). if b then Some (status_reply_of p s at f 0x20 true) else None) asks
+    ap (λ (b : Bool). option_or (if b then status_answer p s at f ready_for_ring true else status_answer p s at f not_ready false) s.reply) complete
+    ∙ ap (λ (b : Bool). option_or (if b then Some (status_reply_of p s at f 0x20 true) else None) s.reply) asks
 
 status-asked : (t : ResponderTable) (ts station_type : ℕ) (f : Fields) (asked : Asked) → is_status asked ≡ true → (address_in f.da == ts) ≡ true
     → reply_to_asked t ts station_type f asked ≡ Some (reply_frame ts station_type f 0 [])
@@ -170,11 +170,11 @@ says-status p s at f station_type asks =
 
 pub says-in_ring : (p : Params) (s : Station) (refused : Option ℕ) (at : ℕ) (f : Fields) → asks_status s.address f ≡ true
     → (idle_hears p s refused at (Framed f)).reply ≡ Some (status_reply_of p s at f 0x30 false)
-says-in_ring p s refused at f asks = says-status p s at f in_ring asks
+says-in_ring p s refused at f asks = ap (λ (o : Option Reply). option_or o s.reply) (says-status p s at f in_ring asks)
 
 pub says-passive : (p : Params) (s : Station) (at : ℕ) (f : Fields) → asks_status s.address f ≡ true
     → (passive_hears p s at (Framed f)).reply ≡ Some (status_reply_of p s at f 0x00 false)
-says-passive p s at f asks = says-status p s at f passive asks
+says-passive p s at f asks = ap (λ (o : Option Reply). option_or o s.reply) (says-status p s at f passive asks)
 
 pub request-heard : (p : Params) (s : Station) (of at : ℕ) (f : Fields) → has_bit f.fc 6 ≡ true → (awaiting_status_hears p s of at (Framed f)).phase ≡ Idle None
 request-heard p s of at f asks =
@@ -216,15 +216,15 @@ foreign-heard p s refused at da sa other =
     ap (λ (b : Bool). if b then own_token p (with_token s da sa) (is_taken_from refused (previous_station s) sa) sa at else foreign_token (with_token s da sa)) other
 
 pub skipped-twice : (p : Params) (s : Station) (refused : Option ℕ) (at da sa : ℕ) → (da == s.address) ≡ false → 2 ≤ skips_of (place_of (heard s.las sa da).stage)
-    → idle_hears p s refused at (Token da sa) ≡ record s { phase = Listening false; las = listening }
+    → idle_hears p s refused at (Token da sa) ≡ record s { phase = Listening false; las = listening; reply = None }
 skipped-twice p s refused at da sa other twice =
     let x = with_token s da sa in
     foreign-heard p s refused at da sa other
-    ∙ ap (λ (b : Bool). if b then record x { phase = Listening false; las = listening } else x) (le-leb 2 (skips_of (place_of (heard s.las sa da).stage)) twice)
+    ∙ ap (λ (b : Bool). if b then record x { phase = Listening false; las = listening; reply = None } else x) (le-leb 2 (skips_of (place_of (heard s.las sa da).stage)) twice)
 
 pub skipped-once : (p : Params) (s : Station) (refused : Option ℕ) (at da sa : ℕ) → (da == s.address) ≡ false → skips_of (place_of (heard s.las sa da).stage) < 2
     → idle_hears p s refused at (Token da sa) ≡ record s { las = heard s.las sa da }
 skipped-once p s refused at da sa other once =
     let x = with_token s da sa in
     foreign-heard p s refused at da sa other
-    ∙ ap (λ (b : Bool). if b then record x { phase = Listening false; las = listening } else x) (lt-leb 2 (skips_of (place_of (heard s.las sa da).stage)) once)
+    ∙ ap (λ (b : Bool). if b then record x { phase = Listening false; las = listening; reply = None } else x) (lt-leb 2 (skips_of (place_of (heard s.las sa da).stage)) once)

@@ -40,7 +40,7 @@ phase-listening Q p s doubled at NoTelegram gone listens same = same
 
 -- the station as an end finds it
 abbrev pub at_end : Station → ℕ → Station
-at_end s at = record s { busy = false; quiet = max s.quiet at; reply = None }
+at_end s at = record s { busy = false; quiet = max s.quiet at }
 
 -- ---- who takes the token
 

@@ -25,7 +25,7 @@ use Rattle.pb_cycles.specs.declared.initiators.OpenRequest.{OpenRequest}
 use Rattle.pb_cycles.specs.declared.outcomes.Outcome.{Outcome}
 use Rattle.pb_cycles.specs.declared.outcomes.Outcome.TheVariants.{Acked, NoAnswer}
 use Rattle.pb_turn.specs.Arrivals.{Arrival, Token, Framed, Acknowledgement, NoTelegram, arrival_of}
-use Rattle.pb_turn.specs.Hearing.{asked_station, outcome_at, cycle_closed, not_answered, phase_timed_out, timed_out, after_timer, begun, passive, in_ring, asks_status, passive_hears, listening_hears, idle_hears, lost, data_told, awaiting_data_hears, after_mark}
+use Rattle.pb_turn.specs.Hearing.{asked_station, outcome_at, cycle_closed, not_answered, phase_timed_out, timed_out, after_timer, begun, passive, in_ring, asks_status, answer_to, listening_answer, passive_hears, lost, data_told, awaiting_data_hears, after_mark}
 use Rattle.pb_turn.specs.Laws.{are_initiator, HasReply, HasCycles}
 use Rattle.pb_turn.specs.Marks.{Mark, Begin, End, moment_of}
 use Rattle.pb_turn.specs.Phases.{Phase, PassiveIdle, Use, AwaitData, is_offline, may_initiate}
@@ -338,14 +338,11 @@ ready-answer : (p : Params) (at : ℕ) (o : Option cycles.Reply) → IsReadyAt (
 ready-answer p at None = tt
 ready-answer p at (Some r) = refl
 
-pub ready-in_ring : (p : Params) (s : Station) (refused : Option ℕ) (at : ℕ) (f : Fields) → IfSome (idle_hears p s refused at (Framed f)).reply (λ r. r.ready ≡ at + p.tsdr)
-ready-in_ring p s refused at f = ready-answer p at (reply_to_framed s.cycles.responder s.address in_ring f)
+pub ready-answer_to : (p : Params) (s : Station) (at : ℕ) (f : Fields) (station_type : ℕ) → IfSome (answer_to p s at f station_type) (λ r. r.ready ≡ at + p.tsdr)
+ready-answer_to p s at f station_type = ready-answer p at (reply_to_framed s.cycles.responder s.address station_type f)
 
-pub ready-passive : (p : Params) (s : Station) (at : ℕ) (f : Fields) → IfSome (passive_hears p s at (Framed f)).reply (λ r. r.ready ≡ at + p.tsdr)
-ready-passive p s at f = ready-answer p at (reply_to_framed s.cycles.responder s.address passive f)
-
-pub ready-listening : (p : Params) (s : Station) (doubled : Bool) (at : ℕ) (f : Fields) → IfSome (listening_hears p s doubled at (Framed f)).reply (λ r. r.ready ≡ at + p.tsdr)
-ready-listening p s doubled at f =
+pub ready-listening : (p : Params) (s : Station) (at : ℕ) (f : Fields) → IfSome (listening_answer p s at f) (λ r. r.ready ≡ at + p.tsdr)
+ready-listening p s at f =
     by_test (IsReadyAt (at + p.tsdr)) (is_complete s.las.stage) _ _
     (λ _. by_test (IsReadyAt (at + p.tsdr)) (asks_status s.address f) _ None (λ _. refl) (λ _. tt))
     (λ _. by_test (IsReadyAt (at + p.tsdr)) (asks_status s.address f) _ None (λ _. refl) (λ _. tt))

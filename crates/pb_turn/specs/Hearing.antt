@@ -1,5 +1,5 @@
 -- What a station makes of its timers and of what it hears.
-use Rattle.std.specs.Option.{option_map}
+use Rattle.std.specs.Option.{option_map, option_or}
 use Rattle.std.specs.Prelude.{ℕ, is_some, ◌+◌, ◌/◌, ◌%◌, Bool, true, false, if◌then◌else◌, ◌==◌, nat_lt, nat_le, ◌||◌, ◌&&◌, [], max, Option, Some, None}
 use Rattle.pb_timers.specs.Timers.{Params}
 use Rattle.pb_ring.specs.Las as las
@@ -136,9 +136,10 @@ asks_status ts f = has_bit f.fc 6 && (is_status (asked_by (f.fc % 16)) && addres
 abbrev pub answer_to : Params → Station → ℕ → Fields → ℕ → Option Reply
 answer_to p s at f station_type = option_map (λ reply. record { ready = at + p.tsdr; octets = reply_octets reply; joins = false }) (reply_to_framed s.cycles.responder s.address station_type f)
 
+-- the answer takes the place of a reply that is not sent yet
 abbrev pub answering : Params → Station → ℕ → Fields → ℕ → Station
 answering p s at f station_type = record s {
-  reply = answer_to p s at f station_type;
+  reply = option_or (answer_to p s at f station_type) s.reply;
   cycles = record s.cycles { responder = after_framed s.cycles.responder s.address station_type f };
 }
 
@@ -171,7 +172,7 @@ doubled_by doubled sa ts = if sa == ts then if doubled then Offline else Listeni
 
 abbrev pub listening_hears : Params → Station → Bool → ℕ → Arrival → Station
 listening_hears p s doubled at (Token da sa) = record (with_token s da sa) { phase = doubled_by doubled sa s.address }
-listening_hears p s doubled at (Framed f) = record s { reply = listening_answer p s at f }
+listening_hears p s doubled at (Framed f) = record s { reply = option_or (listening_answer p s at f) s.reply }
 listening_hears p s doubled at Acknowledgement = s
 listening_hears p s doubled at NoTelegram = s
 
@@ -191,13 +192,13 @@ is_taken_from refused ps sa = sa == ps || is_offered_again refused sa
 abbrev pub own_token : Params → Station → Bool → ℕ → ℕ → Station
 own_token p s taken sa at = if taken then taking p s at else record s { phase = Idle (Some sa) }
 
--- one that was skipped twice listens anew, with nothing heard
+-- one that was skipped twice listens anew, with nothing heard and nothing to reply
 abbrev pub skips_limit : ℕ
 skips_limit = 2
 
 abbrev pub foreign_token : Station → Station
 foreign_token s =
-    if nat_le skips_limit (skips_of (place_of s.las.stage)) then record s { phase = Listening false; las = las.listening } else s
+    if nat_le skips_limit (skips_of (place_of s.las.stage)) then record s { phase = Listening false; las = las.listening; reply = None } else s
 
 -- Idle hears a token; its previous station is that before the token corrects the list
 abbrev pub token_in_idle : Params → Station → Option ℕ → ℕ → ℕ → ℕ → Station
@@ -270,7 +271,7 @@ phase_ended p s (Pass tries ready) at arrival = holder_hears s arrival
 phase_ended p s (Checking tries) at arrival = holder_hears s arrival
 
 abbrev pub ended : Params → Station → ℕ → Arrival → Station
-ended p s at arrival = phase_ended p (record s { busy = false; quiet = max s.quiet at; reply = None }) s.phase at arrival
+ended p s at arrival = phase_ended p (record s { busy = false; quiet = max s.quiet at }) s.phase at arrival
 
 -- ---- marks
 

@@ -58,12 +58,12 @@ pub fn what_a_station_knows_outlasts_its_replies()
 {}
 
 /// An End that brings no telegram, or an acknowledgement that nobody waits for, tells a station no more than
-/// that the bus is quiet.
+/// that the bus is quiet. A reply that is not sent yet stays.
 pub fn what_is_no_telegram_tells_nothing()
     ensures damage { (p : Params) (s : Station) (at seen : ℕ) (chars : List RxChar) → is_offline s.phase ≡ false → awaits_reply s.phase ≡ false → arrival_of chars ≡ NoTelegram
-        → after_mark p s (End at seen chars) ≡ record s { busy = false; quiet = max s.quiet at; reply = None } }
+        → after_mark p s (End at seen chars) ≡ record s { busy = false; quiet = max s.quiet at } }
     ensures acknowledgement { (p : Params) (s : Station) (at seen : ℕ) (chars : List RxChar) → is_offline s.phase ≡ false → awaits_reply s.phase ≡ false
-        → arrival_of chars ≡ Acknowledgement → after_mark p s (End at seen chars) ≡ record s { busy = false; quiet = max s.quiet at; reply = None } }
+        → arrival_of chars ≡ Acknowledgement → after_mark p s (End at seen chars) ≡ record s { busy = false; quiet = max s.quiet at } }
 {}
 
 /// After an End, whatever it brings, a station is no longer busy, and the bus has been quiet since it, or
@@ -114,7 +114,7 @@ pub fn only_the_question_for_the_status_is_answered_by_one_that_listens()
     ensures code { (ts : ℕ) (f : Fields) → asks_status ts f ≡ true → f.fc % 16 ≡ 9 }
     ensures address { (ts : ℕ) (f : Fields) → asks_status ts f ≡ true → f.da % 128 ≡ ts }
     ensures silent { (p : Params) (s : Station) (doubled : Bool) (at : ℕ) (f : Fields) → asks_status s.address f ≡ false
-        → (listening_hears p s doubled at (Framed f)).reply ≡ None }
+        → listening_hears p s doubled at (Framed f) ≡ s }
 {}
 
 /// What characters bring: a token from its source to its destination, the fields of a request, of a telegram

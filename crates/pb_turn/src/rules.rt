@@ -1,5 +1,6 @@
 //! Rules of the turn, number by number.
 
+ghost use Rattle.std.specs.Option.{option_or};
 ghost use Rattle.std.specs.Prelude.{◌≡◌, ◌+◌, ◌*◌, ◌%◌, List, [], ◌∷◌, ◌++◌, length, ◌<◌, ◌≤◌, ◌==◌, max, ℕ, Bool, true, false, Some, None, Option, IfSome};
 ghost use Rattle.pb_telegram.specs.declared.chars.RxChar.{RxChar};
 ghost use Rattle.pb_timers.specs.Timers.{Params, bits};
@@ -18,7 +19,7 @@ ghost use Rattle.pb_cycles.specs.declared.messages.Message.TheVariants as messag
 ghost use Rattle.pb_cycles.specs.declared.outcomes.Outcome.{Outcome};
 ghost use Rattle.pb_cycles.specs.declared.outcomes.Outcome.TheVariants.{Acked, NoAnswer};
 ghost use Rattle.pb_turn.specs.Arrivals.{Token, Framed, Acknowledgement, NoTelegram, arrival_of};
-ghost use Rattle.pb_turn.specs.Hearing.{phase_timed_out, listening_hears, idle_hears, awaiting_status_hears, awaiting_data_hears, passive_hears, asks_status, is_taken_from, after_mark};
+ghost use Rattle.pb_turn.specs.Hearing.{phase_timed_out, listening_hears, idle_hears, awaiting_status_hears, awaiting_data_hears, passive_hears, asks_status, answer_to, listening_answer, is_taken_from, after_mark};
 ghost use Rattle.pb_turn.specs.Laws.{HasAsked, is_asking, status_reply_of, are_initiator, HasReply, HasCycles};
 ghost use Rattle.pb_turn.specs.Marks.{Mark, Begin, End};
 ghost use Rattle.pb_turn.specs.Phases.{Offline, PassiveIdle, Listening, Idle, Claim, Use, AwaitData, AwaitStatus, Pass, Checking, may_initiate, is_offline};
@@ -117,10 +118,10 @@ pub fn a_namesake_is_given_way()
     ensures second { (p : Params) (s : Station) (at da : ℕ) → (listening_hears p s true at (Token da s.address)).phase ≡ Offline }
 {}
 
-/// A station that two tokens have skipped listens anew, with nothing heard.
+/// A station that two tokens have skipped listens anew, with nothing heard and nothing to reply.
 pub fn a_station_that_is_skipped_twice_listens()
     ensures twice { (p : Params) (s : Station) (refused : Option ℕ) (at da sa : ℕ) → (da == s.address) ≡ false → 2 ≤ skips_of (place_of (heard s.las sa da).stage)
-        → idle_hears p s refused at (Token da sa) ≡ record s { phase = Listening false; las = listening } }
+        → idle_hears p s refused at (Token da sa) ≡ record s { phase = Listening false; las = listening; reply = None } }
     ensures once { (p : Params) (s : Station) (refused : Option ℕ) (at da sa : ℕ) → (da == s.address) ≡ false → skips_of (place_of (heard s.las sa da).stage) < 2
         → idle_hears p s refused at (Token da sa) ≡ record s { las = heard s.las sa da } }
 {}
@@ -218,9 +219,18 @@ pub fn a_reply_is_the_outcome()
 
 /// A reply is ready a reply delay after the end of the request.
 pub fn a_reply_waits_for_its_delay()
-    ensures in_ring { (p : Params) (s : Station) (refused : Option ℕ) (at : ℕ) (f : Fields) → IfSome (idle_hears p s refused at (Framed f)).reply (λ r. r.ready ≡ at + p.tsdr) }
-    ensures passive { (p : Params) (s : Station) (at : ℕ) (f : Fields) → IfSome (passive_hears p s at (Framed f)).reply (λ r. r.ready ≡ at + p.tsdr) }
-    ensures listening { (p : Params) (s : Station) (doubled : Bool) (at : ℕ) (f : Fields) → IfSome (listening_hears p s doubled at (Framed f)).reply (λ r. r.ready ≡ at + p.tsdr) }
+    ensures answer { (p : Params) (s : Station) (at : ℕ) (f : Fields) (station_type : ℕ) → IfSome (answer_to p s at f station_type) (λ r. r.ready ≡ at + p.tsdr) }
+    ensures listening { (p : Params) (s : Station) (at : ℕ) (f : Fields) → IfSome (listening_answer p s at f) (λ r. r.ready ≡ at + p.tsdr) }
+{}
+
+/// The answer to a request takes the place of a reply that is not sent yet, and a request without an answer
+/// leaves that one.
+pub fn an_answer_takes_the_place_of_a_reply_that_waits()
+    ensures in_ring { (p : Params) (s : Station) (refused : Option ℕ) (at : ℕ) (f : Fields)
+        → (idle_hears p s refused at (Framed f)).reply ≡ option_or (answer_to p s at f 3) s.reply }
+    ensures passive { (p : Params) (s : Station) (at : ℕ) (f : Fields) → (passive_hears p s at (Framed f)).reply ≡ option_or (answer_to p s at f 0) s.reply }
+    ensures listening { (p : Params) (s : Station) (doubled : Bool) (at : ℕ) (f : Fields)
+        → (listening_hears p s doubled at (Framed f)).reply ≡ option_or (listening_answer p s at f) s.reply }
 {}
 
 /// A round of questions to the GAP is due some rotation times after the last one was closed: where no request

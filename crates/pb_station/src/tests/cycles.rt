@@ -211,6 +211,24 @@ fn a_full_queue_hands_back(rt: HostRuntime) -> Result<(), Fail> {
     Ok(())
 }
 
+/// Marks that begin with an End: damage leaves the reply that waits, and the answer to the next request takes its
+/// place.
+#[test]
+fn an_end_leaves_a_reply(rt: HostRuntime) -> Result<(), Fail> {
+    let alloc = rt.alloc();
+    let asked = "1006 940 - PassiveIdle 1017 b:940:940 e:1006:1006:1007016d7516";
+    let station = play(alloc, passive(alloc)?, asked)?;
+    let station = play(
+        alloc,
+        station,
+        "1008 1008 - PassiveIdle 1017 e:1008:1008:--",
+    )?;
+    let lines =
+        "1010 1010 - PassiveIdle 1021 e:1010:1010:100701495116\n1021 1021 100107000816 PassiveIdle -";
+    play(alloc, station, lines)?;
+    Ok(())
+}
+
 /// A station that stops drops its reply, and keeps all else.
 #[test]
 fn a_stopped_station_says_nothing(rt: HostRuntime) -> Result<(), Fail> {

@@ -1,5 +1,5 @@
 use super::{damage, due, masters, pass_to, phase_name, started, trace_text};
-use crate::{Event, NewFault, World, WorldFault};
+use crate::{AuditFault, Event, NewFault, World, WorldFault};
 use pb_timers::bits;
 use std::alloc::Global;
 use std::test::Fail;
@@ -198,6 +198,18 @@ fn faults_have_numbers_and_texts(rt: HostRuntime) -> Result<(), Fail> {
         (NewFault::NoMemory, 4, "NoMemory"),
     ] {
         assert_eq!(rt; fault.number(), number, "{text}");
+        assert_eq!(rt; fault.to_string(rt.alloc())?.as_str(), text);
+    }
+    for (fault, text) in [
+        (
+            AuditFault::New(NewFault::BadAddress(31)),
+            "New BadAddress 31",
+        ),
+        (
+            AuditFault::At(2, WorldFault::TooFar(833)),
+            "At 2 TooFar 833",
+        ),
+    ] {
         assert_eq!(rt; fault.to_string(rt.alloc())?.as_str(), text);
     }
     Ok(())
