@@ -1,6 +1,6 @@
 -- What a pass tells the taps, and how it settles what was in the air.
 use Rattle.std.proofs.Common.{◌≡◌, ℕ, zero, suc, ◌+◌, ◌<◌, ◌≤◌, List, [], ◌∷◌, ◌++◌, Bool, true, false, if◌then◌else◌, not, length, map, get_or, set, take, drop, ◌&&◌, ◌||◌, ◌==◌, refl, ap, sym, ◌∙◌, subst, arith, length-append, Option, Some, None}
-use Rattle.std.specs.Prelude.{nat_lt, slice_get, find, count_by}
+use Rattle.std.specs.Prelude.{nat_lt, slice_get, count_by}
 use Rattle.std.specs.List.{list_any, list_all, cons_option}
 use Rattle.std.specs.Option.{option_and_then, option_map}
 use Rattle.std.proofs.lemmas.Bool.{ltb-false, lt-ltb, le-ltb}
@@ -13,8 +13,10 @@ use Rattle.pb_turn.specs.Spans.{Span}
 use Rattle.pb_turn.specs.Marks.{Mark, Begin, End}
 use Rattle.pb_model.specs.Trace.{Heard, Own, Whole, Damaged, Unheard, Pending, Record, Entry, Sent, Noise, characters_at}
 use Rattle.pb_model.specs.Medium.{Tap, overlaps, part_after, reaches, is_unheard, at_tap, sensed, hears_from, sends_during, fills_burst, fills_burst_to, entry_characters, burst_begins, burst_ends, burst_characters, is_whole_at, heard_in_the_end, heard_by, ends_between, entry_at}
+use Rattle.pb_model.specs.World.{mark_limit}
 use Rattle.pb_model.specs.Step.{first_full}
 use Rattle.pb_model.proofs.Cases.{by_test}
+use Rattle.pb_model.proofs.Past.{find-same}
 use Rattle.pb_bus.specs.Passes.{news, with_news, told_news, heard_with}
 
 -- ---- entries that look the same
@@ -205,29 +207,29 @@ told-at delay trace from to tap (t ∷ ts) zero n d same within = ap (λ (m : �
 told-at delay trace from to tap (t ∷ ts) (suc i) n d same within = told-at delay trace from to (tap + 1) ts i n d (omega arith) (omega arith)
 
 -- a tap that has more unread marks than it may is the first one, and else it is among the others
-pub full-here : (tap : ℕ) (t : Tap) (ts : List Tap) → 64 < length t.marks → first_full tap (t ∷ ts) ≡ Some tap
-full-here tap t ts full = ap (λ (b : Bool). if b then Some tap else first_full (tap + 1) ts) (lt-ltb 64 (length t.marks) full)
+pub full-here : (tap : ℕ) (t : Tap) (ts : List Tap) → mark_limit < length t.marks → first_full tap (t ∷ ts) ≡ Some tap
+full-here tap t ts full = ap (λ (b : Bool). if b then Some tap else first_full (tap + 1) ts) (lt-ltb mark_limit (length t.marks) full)
 
-pub full-later : (tap : ℕ) (t : Tap) (ts : List Tap) → length t.marks ≤ 64 → first_full tap (t ∷ ts) ≡ first_full (tap + 1) ts
-full-later tap t ts fits = ap (λ (b : Bool). if b then Some tap else first_full (tap + 1) ts) (le-ltb 64 (length t.marks) fits)
+pub full-later : (tap : ℕ) (t : Tap) (ts : List Tap) → length t.marks ≤ mark_limit → first_full tap (t ∷ ts) ≡ first_full (tap + 1) ts
+full-later tap t ts fits = ap (λ (b : Bool). if b then Some tap else first_full (tap + 1) ts) (le-ltb mark_limit (length t.marks) fits)
 
-first-fits : (tap : ℕ) (t : Tap) (ts : List Tap) → first_full tap (t ∷ ts) ≡ None → length t.marks ≤ 64
+first-fits : (tap : ℕ) (t : Tap) (ts : List Tap) → first_full tap (t ∷ ts) ≡ None → length t.marks ≤ mark_limit
 first-fits tap t ts =
-    by_test (λ (o : Option ℕ). o ≡ None → length t.marks ≤ 64) (nat_lt 64 (length t.marks)) (Some tap) (first_full (tap + 1) ts)
-    (λ full none. absurd cc) (λ fits none. ltb-false 64 (length t.marks) fits)
+    by_test (λ (o : Option ℕ). o ≡ None → length t.marks ≤ mark_limit) (nat_lt mark_limit (length t.marks)) (Some tap) (first_full (tap + 1) ts)
+    (λ full none. absurd cc) (λ fits none. ltb-false mark_limit (length t.marks) fits)
 
-none-full : (tap : ℕ) (ts : List Tap) → first_full tap ts ≡ None → (i : ℕ) (d : Tap) → i < length ts → length (get_or ts i d).marks ≤ 64
+none-full : (tap : ℕ) (ts : List Tap) → first_full tap ts ≡ None → (i : ℕ) (d : Tap) → i < length ts → length (get_or ts i d).marks ≤ mark_limit
 none-full tap [] none i d within = absurd (omega arith)
 none-full tap (t ∷ ts) none zero d within = first-fits tap t ts none
 none-full tap (t ∷ ts) none (suc i) d within = none-full (tap + 1) ts (sym (full-later tap t ts (first-fits tap t ts none)) ∙ none) i d (omega arith)
 
 -- where no tap is told more than it may have unread, there is room for the news of each
 pub room-for-news : (delay : ℕ) (trace : List Entry) (from to : ℕ) (ts : List Tap) (i : ℕ) (d : Tap) → first_full 0 (told_news delay trace from to 0 ts) ≡ None
-    → i < length ts → length (get_or ts i d).marks + length (news delay i (get_or ts i d) trace from to) ≤ 64
+    → i < length ts → length (get_or ts i d).marks + length (news delay i (get_or ts i d) trace from to) ≤ mark_limit
 room-for-news delay trace from to ts i d none within =
     let at : get_or (told_news delay trace from to 0 ts) i d ≡ with_news delay i (get_or ts i d) trace from to = told-at delay trace from to 0 ts i i d (let e : 0 + i ≡ i = omega arith in e) within in
     let fits = none-full 0 (told_news delay trace from to 0 ts) none i d (omega (arith, within, told-length delay trace from to 0 ts)) in
-    let sum : length (with_news delay i (get_or ts i d) trace from to).marks ≤ 64 = subst (λ (t : Tap). length t.marks ≤ 64) at fits in
+    let sum : length (with_news delay i (get_or ts i d) trace from to).marks ≤ mark_limit = subst (λ (t : Tap). length t.marks ≤ mark_limit) at fits in
     omega (arith, sum, length-append (get_or ts i d).marks (news delay i (get_or ts i d) trace from to))
 
 -- what is told of the taps from a position on
@@ -258,8 +260,8 @@ news-running delay tap t trace from to begins ends runs b e =
 
 -- where there is room for the news of a tap that runs, there is room for its marks
 pub room-running : (delay : ℕ) (tap : ℕ) (t : Tap) (trace : List Entry) (from to : ℕ) (begins ends : Bool) (n : ℕ) → t.running ≡ true
-    → begins ≡ burst_begins (sensed delay tap t.since trace) from → ends ≡ burst_ends (sensed delay tap t.since trace) to → n + length (news delay tap t trace from to) ≤ 64
-    → n + length (begin_news begins from to) + length (end_news ends to (burst_characters delay tap t trace to)) ≤ 64
+    → begins ≡ burst_begins (sensed delay tap t.since trace) from → ends ≡ burst_ends (sensed delay tap t.since trace) to → n + length (news delay tap t trace from to) ≤ mark_limit
+    → n + length (begin_news begins from to) + length (end_news ends to (burst_characters delay tap t trace to)) ≤ mark_limit
 room-running delay tap t trace from to begins ends n runs b e fits =
     omega (
       arith,
@@ -276,7 +278,3 @@ characters-unread delay tap t ms trace m = ap (entry_characters tap) (find-same 
     same : (e : Entry) → fills_burst_to delay tap (record t { marks = ms }) trace m e ≡ fills_burst_to delay tap t trace m e
     same (Noise span) = refl
     same (Sent r) = refl
-
-    find-same : {X : Type 0} (f g : X → Bool) → ((x : X) → f x ≡ g x) → (xs : List X) → find f xs ≡ find g xs
-    find-same {X} f g eq [] = refl
-    find-same {X} f g eq (x ∷ xs) = ap (λ (b : Bool). if b then Some x else find f xs) (eq x) ∙ ap (λ (o : Option X). if g x then Some x else o) (find-same f g eq xs)

@@ -10,8 +10,8 @@ use Rattle.pb_model.specs.Trace.{Hit, Record, cut_end, cut_at, Entry, Sent, Nois
 use Rattle.pb_model.specs.Medium.{Tap, entry_at, ends_between, reaches, heard_by}
 use Rattle.pb_turn.specs.Turns.{turn_of}
 use Rattle.pb_model.specs.World as world
-use Rattle.pb_model.specs.World.{World, Event, Turn, Pass, Damage, Start, Stop, Queue, Reply, Fault, NoSuchTap, Running, NotRunning, NothingInAir, ZeroTime, QueueFull, TraceFull, unless, is_in_air_by}
-use Rattle.pb_model.specs.Step.{told, pass_faults, step_pass, with_hit, change_first, has_place, step_damage, step_start, halted, step_stop, step_queue, with_noise, is_noisy, step_noise, step_unheard, with_speech, after_turn, step_turn, sending, step, world_after}
+use Rattle.pb_model.specs.World.{World, Event, Turn, Pass, Damage, Start, Stop, Queue, Reply, Fault, NoSuchTap, Running, NotRunning, NothingInAir, ZeroTime, QueueFull, TraceFull, unless, is_in_air_by, queue_limit}
+use Rattle.pb_model.specs.Step.{told, pass_faults, step_pass, with_hit, change_first, has_place, step_damage, step_start, halted, step_stop, step_queue, with_noise, is_noisy, step_noise, step_unheard, with_said, after_turn, step_turn, sending, step, world_after}
 use Rattle.pb_model.specs.Laws.{AllBegun, AllOver, AllFrom, IsEvent, IsSound}
 use Rattle.pb_model.proofs.Cases.{by_test}
 use Rattle.pb_model.proofs.Worlds.{sound-step, unless-Ok}
@@ -22,13 +22,13 @@ use Rattle.pb_taps.specs.Faults.{Refuses}
 use Rattle.pb_medium.specs.Losing.{has_nothing_to_lose}
 use Rattle.pb_medium.specs.Noising.{has_noise, has_no_room, RefusesNoise}
 use Rattle.pb_medium.specs.Senses.{at_once}
-use Rattle.pb_medium.specs.Speaking.{with_said, is_full, RefusesSaid}
+use Rattle.pb_medium.specs.Speaking.{is_full, RefusesSaid}
 use Rattle.pb_taps.specs.declared.faults.WorldFault.{WorldFault}
 use Rattle.pb_taps.specs.declared.faults.WorldFault.TheVariants as fault
 use Rattle.pb_bus.proofs.Cutting.{begun-behind}
 use Rattle.pb_medium.proofs.Entering.{entered-behind}
 use Rattle.pb_medium.proofs.Widening.{widened, pass-whole, damage-whole, is_sending, started_amid, start-whole, cut-whole, noisy-behind, noise-whole, unheard-whole}
-use Rattle.std.proofs.lemmas.Bool.{not-true}
+use Rattle.std.proofs.lemmas.Bool.{not-true, not-false}
 
 -- the world of the recent entries
 abbrev pub recent_of : ℕ → World → World
@@ -39,10 +39,6 @@ recent_of over w = record w { params = plain; trace = drop over w.trace }
 pub in-err : {X F : Type 0} (P : X → Type 0) (Q : F → Type 0) (r : Result X F) (f : F) → IsErr r → IsErrAnd r (λ e. e ≡ f) → Q f → MatchResult r P Q
 in-err P Q (Ok x) f err same q = absurd (let wrong : false ≡ true = err in cc)
 in-err P Q (Err e) f err same q = subst Q (sym same) q
-
-not-false : (b : Bool) → not b ≡ false → b ≡ true
-not-false true e = refl
-not-false false e = absurd (let wrong : true ≡ false = e in cc)
 
 -- a tap that is there
 pub is-there : {X : Type 0} (xs : List X) (i : ℕ) → i < length xs → is_none (slice_get xs i) ≡ false
@@ -227,12 +223,12 @@ from-cut m now tap (Sent r ∷ es) from =
 -- ---- Queue
 
 pub queue-done : (w : World) (tap : ℕ) (r : RequestFields) (t : Tap) → slice_get w.taps tap ≡ Some t → (t.running && t.spec.master) ≡ true
-    → nat_le 16 (length (list_for t.station.cycles.queue r)) ≡ false
+    → nat_le queue_limit (length (list_for t.station.cycles.queue r)) ≡ false
     → step_queue w tap r (slice_get w.taps tap) ≡ Ok (record w { taps = slice_set w.taps tap (record t { station = pushed t.station r }) }, record { now = w.now; spoke = None })
 queue-done w tap r t at takes room =
     let ending : Bool → Bool → Result (World × Reply) Fault
     = λ a b. unless ((not a, NotRunning) ∷ (b, QueueFull) ∷ []) (record w { taps = slice_set w.taps tap (record t { station = pushed t.station r }) }, record { now = w.now; spoke = None }) in
-    ap (λ o. step_queue w tap r o) at ∙ ap (λ a. ending a (nat_le 16 (length (list_for t.station.cycles.queue r)))) takes ∙ ap (ending true) room
+    ap (λ o. step_queue w tap r o) at ∙ ap (λ a. ending a (nat_le queue_limit (length (list_for t.station.cycles.queue r)))) takes ∙ ap (ending true) room
 
 pub queue-missing : (w : World) (tap : ℕ) (r : RequestFields) → slice_get w.taps tap ≡ None → Refuses w (Queue tap r) (step_queue w tap r (slice_get w.taps tap)) fault.NoSuchTap
 queue-missing w tap r missing = subst (λ o. Refuses w (Queue tap r) (step_queue w tap r o) fault.NoSuchTap) (sym missing) refl
@@ -243,17 +239,17 @@ queue-idle w tap r t at idle =
     subst (λ x. Refuses w (Queue tap r) x fault.NotRunning)
     (sym (
     ap (λ o. step_queue w tap r o) at
-    ∙ ap (λ (a : Bool). unless ((not a, NotRunning) ∷ (nat_le 16 (length (list_for t.station.cycles.queue r)), QueueFull) ∷ []) (record w { taps = slice_set w.taps tap (record t { station = pushed t.station r }) }, record { now = w.now; spoke = None })) idle
+    ∙ ap (λ (a : Bool). unless ((not a, NotRunning) ∷ (nat_le queue_limit (length (list_for t.station.cycles.queue r)), QueueFull) ∷ []) (record w { taps = slice_set w.taps tap (record t { station = pushed t.station r }) }, record { now = w.now; spoke = None })) idle
     ))
     refl
 
 pub queue-full : (w : World) (tap : ℕ) (r : RequestFields) (t : Tap) → slice_get w.taps tap ≡ Some t → (t.running && t.spec.master) ≡ true
-    → nat_le 16 (length (list_for t.station.cycles.queue r)) ≡ true → Refuses w (Queue tap r) (step_queue w tap r (slice_get w.taps tap)) fault.QueueFull
+    → nat_le queue_limit (length (list_for t.station.cycles.queue r)) ≡ true → Refuses w (Queue tap r) (step_queue w tap r (slice_get w.taps tap)) fault.QueueFull
 queue-full w tap r t at takes full =
     let ending : Bool → Bool → Result (World × Reply) Fault
     = λ a b. unless ((not a, NotRunning) ∷ (b, QueueFull) ∷ []) (record w { taps = slice_set w.taps tap (record t { station = pushed t.station r }) }, record { now = w.now; spoke = None }) in
     subst (λ x. Refuses w (Queue tap r) x fault.QueueFull)
-    (sym (ap (λ o. step_queue w tap r o) at ∙ ap (λ a. ending a (nat_le 16 (length (list_for t.station.cycles.queue r)))) takes ∙ ap (ending true) full)) refl
+    (sym (ap (λ o. step_queue w tap r o) at ∙ ap (λ a. ending a (nat_le queue_limit (length (list_for t.station.cycles.queue r)))) takes ∙ ap (ending true) full)) refl
 
 -- ---- Noise
 
@@ -332,18 +328,18 @@ unheard-refused w over tap speaker at from reason cut there nothing is =
 turn-by : (w : World) (tap : ℕ) (t : Tap) (s : Station) (said : Option (List ℕ)) → slice_get w.taps tap ≡ Some t → t.running ≡ true
     → (s, said) ≡ turn_of w.params t.station t.marks w.now
     → step w (Turn tap) ≡ unless ((is_full said (length w.trace), TraceFull) ∷ []) (
-      record w { trace = with_speech w tap said; taps = slice_set w.taps tap (record t { station = s; marks = [] }) },
+      record w { trace = with_said tap said w.now w.taps w.trace; taps = slice_set w.taps tap (record t { station = s; marks = [] }) },
       record { now = w.now; spoke = said },
     )
 turn-by w tap t s said at runs turns =
     ap (λ o. step_turn w tap o) at ∙ ap (after_turn w tap t) (sym turns)
     ∙ ap (λ (b : Bool). unless ((not b, NotRunning) ∷ (is_full said (length w.trace), TraceFull) ∷ []) (
-      record w { trace = with_speech w tap said; taps = slice_set w.taps tap (record t { station = s; marks = [] }) },
+      record w { trace = with_said tap said w.now w.taps w.trace; taps = slice_set w.taps tap (record t { station = s; marks = [] }) },
       record { now = w.now; spoke = said },
     )) runs
 
 said-behind : (w : World) (over tap : ℕ) (said : Option (List ℕ)) → IsCut w.now over w.trace
-    → with_speech w tap said ≡ take over w.trace ++ with_said tap said w.now w.taps (drop over w.trace)
+    → with_said tap said w.now w.taps w.trace ≡ take over w.trace ++ with_said tap said w.now w.taps (drop over w.trace)
 said-behind w over tap None cut = sym (take-append-drop over w.trace)
 said-behind w over tap (Some octets) (m, at, some, old, begun) =
     let e : Entry = Sent (sending tap octets w.now w.taps) in
@@ -362,17 +358,17 @@ turn-done w over tap t s said at runs turns cut room =
     let taps = slice_set w.taps tap (record t { station = s; marks = [] }) in
     let reply : Reply = record { now = w.now; spoke = said } in
     turn-by w tap t s said at runs turns
-    ∙ ap (λ (b : Bool). unless ((b, TraceFull) ∷ []) (record w { trace = with_speech w tap said; taps = taps }, reply)) room
+    ∙ ap (λ (b : Bool). unless ((b, TraceFull) ∷ []) (record w { trace = with_said tap said w.now w.taps w.trace; taps = taps }, reply)) room
     ∙ ap (λ es. Ok (record w { trace = es; taps = taps }, reply)) (said-behind w over tap said cut)
 
 pub turn-refused : (w : World) (tap : ℕ) (t : Tap) (s : Station) (said : Option (List ℕ)) (reason : WorldFault) → slice_get w.taps tap ≡ Some t → t.running ≡ true
     → (s, said) ≡ turn_of w.params t.station t.marks w.now → RefusesSaid said (length w.trace) reason → Refuses w (Turn tap) (step w (Turn tap)) reason
 turn-refused w tap t s said fault.TraceFull at runs turns full =
-    let next = record w { trace = with_speech w tap said; taps = slice_set w.taps tap (record t { station = s; marks = [] }) } in
+    let next = record w { trace = with_said tap said w.now w.taps w.trace; taps = slice_set w.taps tap (record t { station = s; marks = [] }) } in
     let reply : Reply = record { now = w.now; spoke = said } in
     subst (λ r. Refuses w (Turn tap) r fault.TraceFull) (sym (turn-by w tap t s said at runs turns ∙ ap (λ (b : Bool). unless ((b, TraceFull) ∷ []) (next, reply)) full)) refl
 turn-refused w tap t s said fault.NoMemory at runs turns room =
-    let next = record w { trace = with_speech w tap said; taps = slice_set w.taps tap (record t { station = s; marks = [] }) } in
+    let next = record w { trace = with_said tap said w.now w.taps w.trace; taps = slice_set w.taps tap (record t { station = s; marks = [] }) } in
     let reply : Reply = record { now = w.now; spoke = said } in
     subst (λ r. Refuses w (Turn tap) r fault.NoMemory) (sym (turn-by w tap t s said at runs turns ∙ ap (λ (b : Bool). unless ((b, TraceFull) ∷ []) (next, reply)) room.0)) (room.1, refl)
 turn-refused w tap t s said other at runs turns wrong = absurd wrong

@@ -1,6 +1,6 @@
 -- A bus as the model says it.
 use Rattle.std.specs.Prelude.{◌≡◌, ◌≤◌, [], length, map}
-use Rattle.pb_model.specs.World.{World}
+use Rattle.pb_model.specs.World.{World, clock_limit, tap_limit}
 use Rattle.pb_model.specs.Laws.{IsSound}
 use Rattle.pb_medium.specs.Airs.{IsCut}
 use Rattle.pb_medium.specs.Entries.{entry_of}
@@ -13,8 +13,8 @@ world_of w = record { params = w.params; now = w.now; trace = map entry_of w.tra
 -- what its fields keep
 pub record IsKept (w : Bus) : Type 0 where
   pub sound : IsSound (world_of w)
-  pub clock : w.now ≤ 1000000000000
-  pub room : length w.taps.items ≤ 32
+  pub clock : w.now ≤ clock_limit
+  pub room : length w.taps.items ≤ tap_limit
   pub seats : AreSeated w.params 0 (map seat_of w.taps.items)
   pub cut : IsCut w.now w.over (map entry_of w.trace.items)
 

@@ -1,8 +1,6 @@
 -- The stop of a tap.
-use Rattle.std.specs.Prelude.{◌≡◌, ℕ, true, false, List, [], Some, None, slice_get, slice_set}
+use Rattle.std.specs.Prelude.{◌≡◌, ℕ, true, false, List, [], Some, slice_get, slice_set}
 use Rattle.pb_turn.specs.Stations.{stopped}
-use Rattle.pb_taps.specs.declared.faults.WorldFault.{WorldFault}
-use Rattle.pb_taps.specs.declared.faults.WorldFault.TheVariants as fault
 use Rattle.pb_taps.specs.declared.taps.Tap.{Tap}
 
 -- a tap that stops drops its unread marks
@@ -12,9 +10,3 @@ halted_tap t = record t { running = false; station = record t.station { station 
 -- the taps after the stop of one that ran
 abbrev pub IsStopped : List Tap → ℕ → List Tap → Type 0
 IsStopped taps tap next = (t : Tap) × (slice_get taps tap ≡ Some t) × (t.running ≡ true) × (next ≡ slice_set taps tap (halted_tap t))
-
--- why a tap doesn't stop
-abbrev pub RefusesStop : List Tap → ℕ → WorldFault → Type 0
-RefusesStop taps tap fault.NoSuchTap = slice_get taps tap ≡ None
-RefusesStop taps tap fault.NotRunning = (t : Tap) × (slice_get taps tap ≡ Some t) × (t.running ≡ false)
-RefusesStop taps tap other = ⊥

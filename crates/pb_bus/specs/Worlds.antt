@@ -1,10 +1,10 @@
 -- What comes of events, and what readers of a world are told.
-use Rattle.std.specs.Prelude.{◌≡◌, ℕ, List, [], ◌∷◌, if◌then◌else◌, Option, Some, None, Result, Ok, slice_get, MatchResult, take}
+use Rattle.std.specs.Prelude.{◌≡◌, ℕ, List, if◌then◌else◌, Option, Some, None, Result, Ok, slice_get, MatchResult, take}
 use Rattle.std.specs.Option.{option_and_then}
-use Rattle.pb_model.specs.World.{World, Event, Reply}
+use Rattle.pb_model.specs.World.{World, Event}
 use Rattle.pb_model.specs.Medium as medium
 use Rattle.pb_turn.specs.Stations.{due_of}
-use Rattle.pb_model.specs.Step.{step}
+use Rattle.pb_model.specs.Step.{step, RunsTo}
 use Rattle.pb_station.specs.Stations.{StationView}
 use Rattle.pb_taps.specs.declared.events.Reply as events
 use Rattle.pb_taps.specs.declared.faults.WorldFault.{WorldFault}
@@ -25,11 +25,6 @@ due_at w tap = option_and_then (λ t. if t.running then due_of w.params t.statio
 abbrev pub IsStationAt : World → ℕ → StationView → Type 0
 IsStationAt w tap s = (t : medium.Tap) × (slice_get w.taps tap ≡ Some t)
     × (s ≡ record { tap = tap; params = w.params; master = t.spec.master; reply_data = t.spec.reply; station = t.station })
-
--- events lead from one world to another
-abbrev pub RunsTo : World → List Event → World → Type 0
-RunsTo w [] next = w ≡ next
-RunsTo w (e ∷ es) next = (between : World) × (reply : Reply) × (step w e ≡ Ok (between, reply)) × RunsTo between es next
 
 -- events lead to a world that refuses the one at a place
 abbrev pub StopsAt : World → List Event → ℕ → WorldFault → World → Type 0

@@ -19,7 +19,7 @@ const CLOCK_LIMIT: u64 = 1_000_000_000_000;
 
 /// The clock after some time, which goes to the next end in the air at most.
 fn later(end: Option<u64>, now: Moment, bits: u64) -> Result<Moment, WorldFault>
-    ensures ok { IfOk result (λ to. (to ≡ now + bits) × (to ≤ 1000000000000) × (first_fault (time_faults now bits end) ≡ None)) }
+    ensures ok { IfOk result (λ to. (to ≡ now + bits) × (to ≤ world.clock_limit) × (first_fault (time_faults now bits end) ≡ None)) }
     ensures err { IfErr result (IsFirstOf (time_faults now bits end)) }
 {
     if bits == 0 {
@@ -48,7 +48,7 @@ pub(crate) fn pass_recent(
     requires sound { IsSound (air now (drop over trace.old) taps.old) }
     ensures ok { IfOk result (λ to. PassesTo (air now (drop over trace.old) taps.old) bits (take over (map entry_of trace.old))
         to (map entry_of trace.new) (map tap_of taps.new)) }
-    ensures clock { IfOk result (λ to. (now ≤ to) × (to ≤ 1000000000000)) }
+    ensures clock { IfOk result (λ to. (now ≤ to) × (to ≤ world.clock_limit)) }
     ensures seats { map seat_of taps.new ≡ map seat_of taps.old }
     ensures length { length trace.new ≡ length trace.old }
     ensures err { OnErr result ((map entry_of trace.new ≡ map entry_of trace.old) × (taps.new ≡ taps.old)) }
@@ -66,7 +66,7 @@ fn pass(
 ) -> Result<Moment, WorldFault>
     requires { IsSound (air now entries.old taps.old) }
     ensures ok { IfOk result (λ to. step_pass (air now entries.old taps.old) bits ≡ Ok (air to entries.new taps.new, record { now = to; spoke = None })) }
-    ensures clock { IfOk result (λ to. (now ≤ to) × (to ≤ 1000000000000)) }
+    ensures clock { IfOk result (λ to. (now ≤ to) × (to ≤ world.clock_limit)) }
     ensures seats { map seat_of taps.new ≡ map seat_of taps.old }
     ensures length { length entries.new ≡ length entries.old }
     ensures err { OnErr result ((entries.new ≡ entries.old) × (taps.new ≡ taps.old)) }

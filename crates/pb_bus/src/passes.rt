@@ -2,6 +2,7 @@ ghost use Rattle.std.specs.Prelude.{◌≡◌, ◌+◌, ◌≤◌, ℕ, List, No
 ghost use Rattle.std.specs.Option.{option_map};
 ghost use Rattle.pb_model.specs.Medium.{entry_at, heard_by};
 ghost use Rattle.pb_model.specs.Step as step;
+ghost use Rattle.pb_model.specs.World.{mark_limit};
 ghost use Rattle.pb_medium.specs.Entries.{entry_of, heard_of, record_of};
 ghost use Rattle.pb_bus.specs.Passes.{news, told_news, with_news, heard_with, settled_as};
 ghost use Rattle.pb_medium.specs.Senses.{at_once};
@@ -39,7 +40,7 @@ pub(crate) fn first_full(entries: &[Entry], taps: &[Tap], from: Moment, to: Mome
 
 /// A pass tells the tap at a position.
 fn tell(entries: &[Entry], position: usize, tap: &mut Tap, from: Moment, to: Moment)
-    requires { length tap.old.marks + length (news at_once position (tap_of tap.old) (map entry_of entries.now) from to) ≤ 64 }
+    requires { length tap.old.marks + length (news at_once position (tap_of tap.old) (map entry_of entries.now) from to) ≤ mark_limit }
     ensures told { tap_of tap.new ≡ with_news at_once position (tap_of tap.old) (map entry_of entries.now) from to }
     ensures seat { seat_of tap.new ≡ seat_of tap.old }
 {

@@ -16,7 +16,7 @@ pub(crate) fn start(
     tap: usize,
     now: Moment,
 ) -> Result<(), WorldFault>
-    requires { now ≤ 1000000000000 }
+    requires { now ≤ world.clock_limit }
     ensures ok { OnOk result (IsStarted now (map entry_of entries.now) taps.old tap taps.new) }
     ensures err { OnErr result (taps.new ≡ taps.old) }
     ensures fault { IfErr result (RefusesStart now (map entry_of entries.now) taps.old tap) }
@@ -50,7 +50,7 @@ fn is_sending(entries: &[Entry], tap: usize, now: Moment) -> bool
 
 /// The tap starts; whether amid something that is reaching it is told.
 fn start_tap(tap: &mut Tap, amid: bool, now: Moment)
-    requires { now ≤ 1000000000000 }
+    requires { now ≤ world.clock_limit }
     ensures { tap.new ≡ fresh_tap tap.old amid now }
 {
     tap.running = true;

@@ -1,14 +1,12 @@
 ghost use Rattle.std.specs.Prelude.{◌≡◌, ◌≤◌, ◌++◌, length, map, take, drop, IfErr, OnErr, OnOk};
 ghost use Rattle.pb_model.specs.Trace.{cut_at, cut_end};
 ghost use Rattle.pb_medium.specs.Entries.{entry_of, record_of};
-ghost use Rattle.pb_bus.specs.Stopping.{halted_tap, IsStopped, RefusesStop};
+ghost use Rattle.pb_taps.specs.Turning.{RefusesStopped};
+ghost use Rattle.pb_bus.specs.Stopping.{halted_tap, IsStopped};
 
 use pb_medium::{Entry, Record};
 use pb_taps::{Tap, WorldFault};
-use pb_timers::Moment;
-
-/// How many bit times a character takes.
-const CHARACTER_BITS: u64 = 11;
+use pb_timers::{CHARACTER_BITS, Moment};
 
 /// Stops the station at a tap; nothing that is over changes.
 pub(crate) fn stop_recent(
@@ -23,7 +21,7 @@ pub(crate) fn stop_recent(
     ensures ok { OnOk result (IsStopped taps.old tap taps.new) }
     ensures cut { OnOk result (map entry_of trace.new ≡ take over (map entry_of trace.old) ++ map (cut_at now tap) (drop over (map entry_of trace.old))) }
     ensures err { OnErr result ((map entry_of trace.new ≡ map entry_of trace.old) × (taps.new ≡ taps.old)) }
-    ensures fault { IfErr result (RefusesStop taps.old tap) }
+    ensures fault { IfErr result (RefusesStopped taps.old tap) }
 {
     stop(&mut trace[over..], taps, tap, now)
 }
@@ -34,7 +32,7 @@ fn stop(entries: &mut [Entry], taps: &mut [Tap], tap: usize, now: Moment) -> Res
     ensures ok { OnOk result (IsStopped taps.old tap taps.new) }
     ensures cut { OnOk result (map entry_of entries.new ≡ map (cut_at now tap) (map entry_of entries.old)) }
     ensures err { OnErr result ((map entry_of entries.new ≡ map entry_of entries.old) × (taps.new ≡ taps.old)) }
-    ensures fault { IfErr result (RefusesStop taps.old tap) }
+    ensures fault { IfErr result (RefusesStopped taps.old tap) }
 {
     if tap >= taps.len() {
         return Err(WorldFault::NoSuchTap);

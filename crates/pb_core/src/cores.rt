@@ -5,9 +5,9 @@ use crate::addresses::Address;
 use crate::cycles::Cycles;
 use crate::past::Past;
 use crate::replies::Reply;
-use arrayvec::ArrayVec;
 use pb_ring::{Gap, Las};
 use pb_rotation::Rotation;
+use pb_telegram::copy_octets;
 use pb_timers::Moment;
 use pb_tokenfsm::Phase;
 
@@ -32,22 +32,13 @@ pub struct Core {
     pub kept: Kept,
 }
 
-/// The same octets.
-fn copy_octets(octets: &ArrayVec<u8, 255>) -> ArrayVec<u8, 255>
-    ensures { result ≡ octets.now }
-{
-    let mut copy = ArrayVec::new();
-    copy.try_extend_from_slice(octets.as_slice()).unwrap();
-    copy
-}
-
 impl Reply {
     fn copy(&self) -> Reply
         ensures { result ≡ self.now }
     {
         Reply {
             ready: self.ready,
-            octets: copy_octets(&self.octets),
+            octets: copy_octets(self.octets.as_slice()),
             joins: self.joins,
         }
     }

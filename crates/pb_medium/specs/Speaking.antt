@@ -1,16 +1,8 @@
 -- What a tap says goes into the trace.
-use Rattle.std.specs.Prelude.{◌≡◌, ℕ, Bool, true, false, List, Option, Some, None, is_some, nat_le, ◌&&◌}
-use Rattle.pb_model.specs.Trace.{Entry, Sent, with_entry}
-use Rattle.pb_model.specs.Step.{sending}
+use Rattle.std.specs.Prelude.{◌≡◌, ℕ, Bool, true, false, List, Option, is_some, nat_le, ◌&&◌}
 use Rattle.pb_model.specs.World.{trace_limit}
-use Rattle.pb_model.specs.Medium as model
 use Rattle.pb_taps.specs.declared.faults.WorldFault.{WorldFault}
 use Rattle.pb_taps.specs.declared.faults.WorldFault.TheVariants as fault
-
--- the entries with what a tap said, if anything
-abbrev pub with_said : ℕ → Option (List ℕ) → ℕ → List model.Tap → List Entry → List Entry
-with_said tap None now ts entries = entries
-with_said tap (Some octets) now ts entries = with_entry (Sent (sending tap octets now ts)) entries
 
 -- whether there is something to say, and no room for it in a trace of some length
 abbrev pub is_full : Option (List ℕ) → ℕ → Bool

@@ -2,6 +2,7 @@ ghost use Rattle.std.specs.Prelude.{◌≡◌, ◌==◌, ◌≤◌, ◌+◌, ◌
 ghost use Rattle.std.specs.List.{position};
 ghost use Rattle.pb_model.specs.Step.{with_noise};
 ghost use Rattle.pb_model.specs.Trace as trace;
+ghost use Rattle.pb_model.specs.World.{clock_limit};
 ghost use Rattle.pb_medium.specs.Entries.{entry_of};
 ghost use Rattle.pb_medium.specs.Noising.{has_noise, has_no_room, RefusesNoise};
 
@@ -19,7 +20,7 @@ pub fn make_noise(
     now: Moment,
     bits: u32,
 ) -> Result<(), WorldFault>
-    requires { (over ≤ length trace.old.items) × (now ≤ 1000000000000) }
+    requires { (over ≤ length trace.old.items) × (now ≤ clock_limit) }
     ensures ok { OnOk result (map entry_of trace.new.items ≡ take over (map entry_of trace.old.items)
         ++ with_noise now (now + bits) (has_noise now (drop over (map entry_of trace.old.items))) (drop over (map entry_of trace.old.items))) }
     ensures some { OnOk result ((bits == 0) ≡ false) }

@@ -1,6 +1,7 @@
 ghost use Rattle.std.specs.Prelude.{◌≡◌, ℕ, ◌-◌, ◌/◌, ◌≤◌, List, map, count_by, length, not, take, if◌then◌else◌};
 ghost use Rattle.std.specs.List.{list_any, list_all};
 ghost use Rattle.std.specs.Option.{option_and_then, option_map};
+ghost use Rattle.pb_timers.specs.Timers as timers;
 ghost use Rattle.pb_telegram.specs.Faults.{is_bad};
 ghost use Rattle.pb_telegram.specs.declared.chars.RxChar.TheVariants.{Good, Bad};
 ghost use Rattle.pb_model.specs.Medium as model;
@@ -17,6 +18,7 @@ use crate::spans::Span;
 use arrayvec::ArrayVec;
 use pb_taps::Tap;
 use pb_telegram::RxChar;
+use pb_timers::CHARACTER_BITS;
 
 /// An entry at a tap: noise, and what other taps send, save what is unheard there.
 fn at_tap(entry: &Entry, tap: usize) -> Option<Span>
@@ -147,10 +149,10 @@ fn characters_of(telegram: &Record, position: usize, octets: &[u8]) -> ArrayVec<
 
 /// How many octets of a telegram went out.
 fn sent_octets(telegram: &Record) -> usize
-    ensures count { take result telegram.now.octets.items ≡ take ((telegram.now.end - telegram.now.begin) / 11) telegram.now.octets.items }
+    ensures count { take result telegram.now.octets.items ≡ take ((telegram.now.end - telegram.now.begin) / timers.bits 1) telegram.now.octets.items }
     ensures bound { result ≤ length telegram.now.octets.items }
 {
-    let sent = telegram.end.saturating_sub(telegram.begin) / 11;
+    let sent = telegram.end.saturating_sub(telegram.begin) / CHARACTER_BITS;
     usize::try_from(sent)
         .unwrap_or(usize::MAX)
         .min(telegram.octets.len())

@@ -2,14 +2,16 @@ ghost use Rattle.std.specs.Prelude.{◌≡◌, ◌==◌, if◌then◌else◌, fa
 ghost use Rattle.pb_model.specs.Medium as model;
 ghost use Rattle.pb_model.specs.Step as step;
 ghost use Rattle.pb_model.specs.Trace as trace;
+ghost use Rattle.pb_model.specs.World.{clock_limit, tap_limit};
 ghost use Rattle.pb_medium.specs.Entries.{entry_of, heard_of, record_of};
-ghost use Rattle.pb_medium.specs.Speaking.{RefusesSaid, with_said, is_full};
+ghost use Rattle.pb_medium.specs.Speaking.{RefusesSaid, is_full};
 ghost use Rattle.pb_taps.specs.Turning.{octets_of};
 
 use crate::entries::{Entry, Heard, Record};
 use crate::tracing::put;
 use arrayvec::ArrayVec;
 use pb_taps::WorldFault;
+use pb_telegram::copy_octets;
 use pb_timers::{Moment, bits};
 use std::alloc::Global;
 
@@ -29,13 +31,13 @@ fn sending(
     now: Moment,
     taps: usize,
 ) -> Record
-    requires { (now ≤ 1000000000000) × (taps ≤ 32) }
+    requires { (now ≤ clock_limit) × (taps ≤ tap_limit) }
     ensures { (ts : List model.Tap) → length ts ≡ taps → record_of result ≡ step.sending tap octets.now.items now ts }
 {
     let begin = now.get();
     Record {
         tap,
-        octets: copied(octets),
+        octets: copy_octets(octets),
         begin,
         end: begin + bits(octets.len()),
         heard: heard_at_first(tap, taps),
@@ -43,17 +45,9 @@ fn sending(
     }
 }
 
-fn copied(octets: &ArrayVec<u8, 255>) -> ArrayVec<u8, 255>
-    ensures { result.items ≡ octets.now.items }
-{
-    let mut copy = ArrayVec::new();
-    copy.try_extend_from_slice(octets).unwrap();
-    copy
-}
-
 /// What a new telegram is to each tap.
 fn heard_at_first(speaker: usize, taps: usize) -> ArrayVec<Heard, 32>
-    requires { taps ≤ 32 }
+    requires { taps ≤ tap_limit }
     ensures { (ts : List model.Tap) → length ts ≡ taps → map heard_of result.items ≡ trace.heard_at_first speaker 0 ts }
 {
     let mut heard = ArrayVec::new();
@@ -82,9 +76,9 @@ pub fn say(
     said: &Option<ArrayVec<u8, 255>>,
     speaker: Speaker,
 ) -> Result<(), WorldFault>
-    requires { (over ≤ length trace.old.items) × (speaker.clock ≤ 1000000000000) × (speaker.taps ≤ 32) }
+    requires { (over ≤ length trace.old.items) × (speaker.clock ≤ clock_limit) × (speaker.taps ≤ tap_limit) }
     ensures ok { (ts : List model.Tap) → length ts ≡ speaker.taps → OnOk result (map entry_of trace.new.items
-        ≡ take over (map entry_of trace.old.items) ++ with_said speaker.tap (octets_of said.now) speaker.clock ts (drop over (map entry_of trace.old.items))) }
+        ≡ take over (map entry_of trace.old.items) ++ step.with_said speaker.tap (octets_of said.now) speaker.clock ts (drop over (map entry_of trace.old.items))) }
     ensures room { OnOk result (is_full (octets_of said.now) (length trace.old.items) ≡ false) }
     ensures err { OnErr result (trace.new.items ≡ trace.old.items) }
     ensures fault { IfErr result (RefusesSaid (octets_of said.now) (length trace.old.items)) }

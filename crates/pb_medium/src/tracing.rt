@@ -1,6 +1,7 @@
 ghost use Rattle.std.specs.Prelude.{◌≡◌, ◌≤◌, ◌<◌, ◌++◌, IfErr, OnOk, OnErr, length, map, take, drop};
 ghost use Rattle.std.specs.List.{insert};
 ghost use Rattle.pb_model.specs.Trace.{with_entry};
+ghost use Rattle.pb_model.specs.World.{trace_limit};
 ghost use Rattle.pb_medium.specs.Tracing.{RefusesEntry};
 ghost use Rattle.pb_medium.specs.Entries.{entry_of};
 
@@ -15,7 +16,7 @@ const TRACE_LIMIT: usize = 100_000;
 pub(crate) fn put(trace: &mut Vec<Entry>, over: usize, entry: Entry) -> Result<(), WorldFault>
     requires { over ≤ length trace.old.items }
     ensures ok { OnOk result (map entry_of trace.new.items ≡ take over (map entry_of trace.old.items) ++ with_entry (entry_of entry) (drop over (map entry_of trace.old.items))) }
-    ensures room { OnOk result (length trace.old.items < 100000) }
+    ensures room { OnOk result (length trace.old.items < trace_limit) }
     ensures err { OnErr result (trace.new.items ≡ trace.old.items) }
     ensures fault { IfErr result (RefusesEntry (length trace.old.items)) }
 {

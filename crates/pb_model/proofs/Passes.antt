@@ -1,5 +1,5 @@
 -- What a pass tells each tap.
-use Rattle.std.proofs.Common.{◌≡◌, ℕ, ◌+◌, ◌<◌, ◌≤◌, List, [], ◌∷◌, ◌++◌, map, Bool, true, if◌then◌else◌, ap, ◌∙◌, subst, arith, Some, None, Ok, zero, suc}
+use Rattle.std.proofs.Common.{◌≡◌, ℕ, ◌+◌, ◌<◌, List, [], ◌∷◌, ◌++◌, map, Bool, true, if◌then◌else◌, ap, ◌∙◌, subst, arith, Some, None, Ok, zero, suc}
 use Rattle.std.specs.Prelude.{slice_get}
 use Rattle.std.proofs.lemmas.Bool.{eqb-false}
 use Rattle.std.proofs.lemmas.Option.{none-some, same_Some}
@@ -8,10 +8,10 @@ use Rattle.pb_model.specs.Trace.{Entry}
 use Rattle.pb_model.specs.Medium.{Tap, sensed, marks_between, new_marks, entry_at}
 use Rattle.pb_model.specs.World.{World, Reply}
 use Rattle.pb_model.specs.Step.{told, pass_faults, step_pass}
-use Rattle.pb_model.specs.Laws.{is_open, Alternates, AllInOrder, IsSound, PassTells}
+use Rattle.pb_model.specs.Laws.{is_open, Alternates, IsSound, PassTells}
 use Rattle.pb_model.proofs.Bursts.{alternates-spans, marks_between-exact, begins-none, ends-none}
 use Rattle.pb_model.proofs.Sensed.{ready-sensed}
-use Rattle.pb_model.proofs.Worlds.{unless-Ok}
+use Rattle.pb_model.proofs.Worlds.{unless-Ok, started-at}
 
 -- a tap that was there has its new marks behind those it had
 told-at : (delay : ℕ) (trace : List Entry) (from to k : ℕ) (ts : List Tap) (i : ℕ) (t : Tap) → slice_get ts i ≡ Some t
@@ -25,11 +25,6 @@ told-at delay trace from to k (x ∷ ts) zero t e =
 told-at delay trace from to k (x ∷ ts) (suc i) t e =
     let place : (k + 1) + i ≡ k + suc i = omega arith in
     told-at delay trace from to (k + 1) ts i t e ∙ ap (λ (n : ℕ). Some (record t { marks = t.marks ++ new_marks delay n t trace from to })) place
-
-started-at : (now : ℕ) (ts : List Tap) (i : ℕ) (t : Tap) → AllInOrder now ts → slice_get ts i ≡ Some t → t.since ≤ now
-started-at now [] i t all e = absurd (none-some t e)
-started-at now (x ∷ xs) zero t all e = subst (λ (y : Tap). y.since ≤ now) (same_Some x t e) all.0
-started-at now (x ∷ xs) (suc i) t all e = started-at now xs i t all.2 e
 
 pub pass_tells : (w next : World) (reply : Reply) (d i : ℕ) (t : Tap) → IsSound w → step_pass w d ≡ Ok (next, reply) → slice_get w.taps i ≡ Some t → t.running ≡ true
     → PassTells w next i t

@@ -44,7 +44,7 @@ count-skip m f fails (x ∷ xs) ys ended =
     let none : one (f x) ≡ 0 = ap one (fails x ended.0 ended.1) in
     sum_by-cons (λ (y : Span). one (f y)) x (xs ++ ys) ∙ (let total : one (f x) + count_by f (xs ++ ys) ≡ count_by f ys = omega (arith, rest, none) in total)
 
-find-same : {X : Type 0} (f g : X → Bool) → ((x : X) → f x ≡ g x) → (xs : List X) → find f xs ≡ find g xs
+pub find-same : {X : Type 0} (f g : X → Bool) → ((x : X) → f x ≡ g x) → (xs : List X) → find f xs ≡ find g xs
 find-same {X} f g same [] = refl
 find-same {X} f g same (x ∷ xs) = ap (λ (b : Bool). cond b (Some x) (find f xs)) (same x) ∙ ap (λ (o : Option X). cond (g x) (Some x) o) (find-same f g same xs)
 

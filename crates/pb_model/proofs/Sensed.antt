@@ -133,7 +133,7 @@ open-part now since span rest =
 -- a telegram that is cut at a moment goes on after it exactly where it did before
 cut-later : (now : ℕ) (r : Record) → nat_lt now (cut_end now r) ≡ nat_lt now r.end
 cut-later now r =
-    let next : now < r.begin + bits ((now - r.begin) / 11 + 1) = omega arith in
+    let next : now < r.begin + bits ((now - r.begin) / bits 1 + 1) = omega arith in
     by_answer (λ b. nat_lt now (cut_end now r) ≡ b) (nat_lt now r.end)
     (λ later. lt-ltb now (cut_end now r) (omega (arith, next, ltb-true now r.end later)))
     (λ over. le-ltb now (cut_end now r) (omega (arith, ltb-false now r.end over)))

@@ -16,8 +16,8 @@ use Rattle.pb_turn.proofs.Keeping.{Sayable, cycles-new, cycles-started, cycles-p
 use Rattle.pb_model.specs.Trace.{Hit, Record, Entry, Sent, Noise, entry_begin, entry_end, goes_before, with_entry, cut_end, cut_at, is_noise_at, noisy_until, begins_from, unheard_at}
 use Rattle.pb_model.specs.Medium.{TapSpec, Tap, reaches, ends_between, entry_at, heard_by}
 use Rattle.pb_model.specs.World as world
-use Rattle.pb_model.specs.World.{World, Event, Turn, Pass, Damage, Start, Stop, Queue, Reply, Fault, NoSuchTap, Running, NotRunning, NothingInAir, ZeroTime, QueueFull, TraceFull, trace_limit, unless, unless_fault, is_in_air_by, new_world, stopped_tap, new_faults}
-use Rattle.pb_model.specs.Step.{sending, with_speech, step_turn, told, pass_faults, step_pass, with_hit, change_first, has_place, step_damage, started_tap, step_start, halted, step_stop, step_queue, with_noise, is_noisy, step_noise, step_unheard, step, world_after, replay}
+use Rattle.pb_model.specs.World.{World, Event, Turn, Pass, Damage, Start, Stop, Queue, Reply, Fault, NoSuchTap, Running, NotRunning, NothingInAir, ZeroTime, QueueFull, TraceFull, trace_limit, unless, unless_fault, is_in_air_by, new_world, stopped_tap, new_faults, queue_limit}
+use Rattle.pb_model.specs.Step.{sending, with_said, step_turn, told, pass_faults, step_pass, with_hit, change_first, has_place, step_damage, started_tap, step_start, halted, step_stop, step_queue, with_noise, is_noisy, step_noise, step_unheard, step, world_after, replay}
 use Rattle.pb_model.specs.Laws.{AllBegun, AllInOrder, InOrder, AllSayable, IsEvent, AreEvents, AllFit, IsSound}
 use Rattle.pb_model.proofs.Cases.{by_test}
 use Rattle.pb_model.proofs.Marked.{in_order-told}
@@ -87,7 +87,7 @@ in_order-set now [] i t started ordered all = tt
 in_order-set now (x ∷ xs) zero t started ordered all = (started, ordered, all.2)
 in_order-set now (x ∷ xs) (suc i) t started ordered all = (all.0, all.1, in_order-set now xs i t started ordered all.2)
 
-started-at : (now : ℕ) (ts : List Tap) (i : ℕ) (t : Tap) → AllInOrder now ts → slice_get ts i ≡ Some t → t.since ≤ now
+pub started-at : (now : ℕ) (ts : List Tap) (i : ℕ) (t : Tap) → AllInOrder now ts → slice_get ts i ≡ Some t → t.since ≤ now
 started-at now [] i t all e = absurd (none-some t e)
 started-at now (x ∷ xs) zero t all e = subst (λ (y : Tap). y.since ≤ now) (same_Some x t e) all.0
 started-at now (x ∷ xs) (suc i) t all e = started-at now xs i t all.2 e
@@ -108,10 +108,10 @@ sayable-told delay trace from to tap (t ∷ ts) all = (all.0, sayable-told delay
 
 -- ---- Turn
 
-begun-with_speech : (w : World) (tap : ℕ) (o : Option (List ℕ)) → IfSome o (λ octets. (0 < length octets) × (length octets ≤ 255)) → AllBegun w.now w.trace
-    → AllBegun w.now (with_speech w tap o)
-begun-with_speech w tap None fits all = all
-begun-with_speech w tap (Some octets) fits all =
+begun-with_said : (w : World) (tap : ℕ) (o : Option (List ℕ)) → IfSome o (λ octets. (0 < length octets) × (length octets ≤ 255)) → AllBegun w.now w.trace
+    → AllBegun w.now (with_said tap o w.now w.taps w.trace)
+begun-with_said w tap None fits all = all
+begun-with_said w tap (Some octets) fits all =
     begun-with_entry w.now (Sent (sending tap octets w.now w.taps)) w.trace (omega arith) (omega (arith, fits.0)) all
 
 sound-turn : (w : World) (tap : ℕ) (o : Option Tap) → slice_get w.taps tap ≡ o → IsSound w → IsSound (world_after w (step_turn w tap o))
@@ -120,13 +120,13 @@ sound-turn w tap (Some t) e sound =
     let turn = turn_of w.params t.station t.marks w.now in
     let has = sayable-at w.taps tap t sound.sayable e in
     world_after-unless IsSound w
-    (record w { trace = with_speech w tap turn.1; taps = slice_set w.taps tap (record t { station = turn.0; marks = [] }) })
+    (record w { trace = with_said tap turn.1 w.now w.taps w.trace; taps = slice_set w.taps tap (record t { station = turn.0; marks = [] }) })
     (record { now = w.now; spoke = turn.1 })
     ((not t.running, NotRunning) ∷ (is_some turn.1 && nat_le trace_limit (length w.trace), TraceFull) ∷ [])
     sound
     (λ _. record {
       no_delay = sound.no_delay;
-      begun = begun-with_speech w tap turn.1 (fits-turn_of w.params t.station t.marks w.now has) sound.begun;
+      begun = begun-with_said w tap turn.1 (fits-turn_of w.params t.station t.marks w.now has) sound.begun;
       sayable = sayable-set w.taps tap (record t { station = turn.0; marks = [] }) (reply-turn_of w.params t.station t.marks w.now has) sound.sayable;
       in_order = in_order-set w.now w.taps tap (record t { station = turn.0; marks = [] }) (started-at w.now w.taps tap t sound.in_order e) (omega arith) sound.in_order;
     })
@@ -195,7 +195,7 @@ sound-queue : (w : World) (tap : ℕ) (r : RequestFields) (o : Option Tap) → s
 sound-queue w tap r None e is sound = sound
 sound-queue w tap r (Some t) e is sound =
     world_after-unless IsSound w (record w { taps = slice_set w.taps tap (record t { station = pushed t.station r }) }) (record { now = w.now; spoke = None })
-    ((not (t.running && t.spec.master), NotRunning) ∷ (nat_le 16 (length (list_for t.station.cycles.queue r)), QueueFull) ∷ [])
+    ((not (t.running && t.spec.master), NotRunning) ∷ (nat_le queue_limit (length (list_for t.station.cycles.queue r)), QueueFull) ∷ [])
     sound
     (λ _. record {
       no_delay = sound.no_delay;
@@ -283,7 +283,7 @@ later-turn w tap None = omega arith
 later-turn w tap (Some t) =
     let turn = turn_of w.params t.station t.marks w.now in
     world_after-unless (λ (x : World). w.now ≤ x.now) w
-    (record w { trace = with_speech w tap turn.1; taps = slice_set w.taps tap (record t { station = turn.0; marks = [] }) })
+    (record w { trace = with_said tap turn.1 w.now w.taps w.trace; taps = slice_set w.taps tap (record t { station = turn.0; marks = [] }) })
     (record { now = w.now; spoke = turn.1 })
     ((not t.running, NotRunning) ∷ (is_some turn.1 && nat_le trace_limit (length w.trace), TraceFull) ∷ [])
     (omega arith) (λ _. omega arith)
@@ -320,7 +320,7 @@ later-queue : (w : World) (tap : ℕ) (r : RequestFields) (o : Option Tap) → w
 later-queue w tap r None = omega arith
 later-queue w tap r (Some t) =
     world_after-unless (λ (x : World). w.now ≤ x.now) w (record w { taps = slice_set w.taps tap (record t { station = pushed t.station r }) }) (record { now = w.now; spoke = None })
-    ((not (t.running && t.spec.master), NotRunning) ∷ (nat_le 16 (length (list_for t.station.cycles.queue r)), QueueFull) ∷ [])
+    ((not (t.running && t.spec.master), NotRunning) ∷ (nat_le queue_limit (length (list_for t.station.cycles.queue r)), QueueFull) ∷ [])
     (omega arith) (λ _. omega arith)
 
 later-noise : (w : World) (bits : ℕ) (noisy : Bool) → w.now ≤ (world_after w (step_noise w bits noisy)).now

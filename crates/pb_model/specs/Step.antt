@@ -1,5 +1,5 @@
 -- The step of the world: an event gives the next world and a reply, or it is refused.
-use Rattle.std.specs.Prelude.{ℕ, ◌+◌, Bool, true, false, if◌then◌else◌, ◌==◌, nat_lt, nat_le, not, ◌&&◌, ◌||◌, List, [], ◌∷◌, ◌++◌, length, map, slice_get, slice_set, find, Option, Some, None, Result, Ok, Err, is_some, is_none, unwrap_or}
+use Rattle.std.specs.Prelude.{◌≡◌, ℕ, ◌+◌, Bool, true, false, if◌then◌else◌, ◌==◌, nat_lt, nat_le, not, ◌&&◌, ◌||◌, List, [], ◌∷◌, ◌++◌, length, map, slice_get, slice_set, find, Option, Some, None, Result, Ok, Err, is_some, is_none, unwrap_or}
 use Rattle.std.specs.List.{list_any}
 use Rattle.pb_timers.specs.Timers.{bits}
 use Rattle.pb_cycles.specs.RequestFields.{RequestFields}
@@ -9,7 +9,7 @@ use Rattle.pb_turn.specs.Turns.{turn_of}
 use Rattle.pb_model.specs.Trace as trace
 use Rattle.pb_model.specs.Trace.{Record, Hit, Entry, Sent, with_entry, heard_at_first, cut_at, is_noise_at, noisy_until, begins_from, unheard_at}
 use Rattle.pb_model.specs.Medium.{Tap, at_tap, contains_moment, new_marks, entry_at}
-use Rattle.pb_model.specs.World.{World, Event, Turn, Pass, Damage, Start, Stop, Queue, Noise, Unheard, Reply, Fault, NoSuchTap, Running, NotRunning, NothingInAir, ZeroTime, TooFar, ClockFull, QueueFull, InboxFull, TraceFull, clock_limit, mark_limit, trace_limit, unless, next_end, is_in_air_by}
+use Rattle.pb_model.specs.World.{World, Event, Turn, Pass, Damage, Start, Stop, Queue, Noise, Unheard, Reply, Fault, NoSuchTap, Running, NotRunning, NothingInAir, ZeroTime, TooFar, ClockFull, QueueFull, InboxFull, TraceFull, clock_limit, mark_limit, trace_limit, unless, next_end, is_in_air_by, queue_limit}
 
 -- ---- Turn
 
@@ -24,15 +24,16 @@ sending tap octets now taps = record {
   heard = heard_at_first tap 0 taps;
 }
 
-abbrev pub with_speech : World → ℕ → Option (List ℕ) → List Entry
-with_speech w tap None = w.trace
-with_speech w tap (Some octets) = with_entry (Sent (sending tap octets w.now w.taps)) w.trace
+-- entries with what a tap said at a moment, if anything
+abbrev pub with_said : {X : Type 0} → ℕ → Option (List ℕ) → ℕ → List X → List Entry → List Entry
+with_said tap None now taps entries = entries
+with_said tap (Some octets) now taps entries = with_entry (Sent (sending tap octets now taps)) entries
 
 -- the world after a tap's station and what it says are known
 abbrev pub after_turn : World → ℕ → Tap → Station × Option (List ℕ) → Result (World × Reply) Fault
 after_turn w tap t turn =
     unless ((not t.running, NotRunning) ∷ (is_some turn.1 && nat_le trace_limit (length w.trace), TraceFull) ∷ []) (
-      record w { trace = with_speech w tap turn.1; taps = slice_set w.taps tap (record t { station = turn.0; marks = [] }) },
+      record w { trace = with_said tap turn.1 w.now w.taps w.trace; taps = slice_set w.taps tap (record t { station = turn.0; marks = [] }) },
       record { now = w.now; spoke = turn.1 },
     )
 
@@ -151,7 +152,7 @@ step_stop w tap (Some t) =
 abbrev pub step_queue : World → ℕ → RequestFields → Option Tap → Result (World × Reply) Fault
 step_queue w tap r None = Err NoSuchTap
 step_queue w tap r (Some t) =
-    unless ((not (t.running && t.spec.master), NotRunning) ∷ (nat_le 16 (length (list_for t.station.cycles.queue r)), QueueFull) ∷ []) (
+    unless ((not (t.running && t.spec.master), NotRunning) ∷ (nat_le queue_limit (length (list_for t.station.cycles.queue r)), QueueFull) ∷ []) (
       record w { taps = slice_set w.taps tap (record t { station = pushed t.station r }) },
       record { now = w.now; spoke = None },
     )
@@ -209,3 +210,8 @@ world_after w (Err fault) = w
 abbrev pub replay : World → List Event → World
 replay w [] = w
 replay w (e ∷ es) = replay (world_after w (step w e)) es
+
+-- events, all of them accepted, lead from one world to another
+abbrev pub RunsTo : World → List Event → World → Type 0
+RunsTo w [] next = w ≡ next
+RunsTo w (e ∷ es) next = (between : World) × (reply : Reply) × (step w e ≡ Ok (between, reply)) × RunsTo between es next

@@ -76,7 +76,7 @@ characters_from tap hits place (octet ∷ octets) =
 
 -- when a telegram ends whose speaker stops at a moment: with the character that is on its way then
 abbrev pub cut_end : ℕ → Record → ℕ
-cut_end now r = min r.end (r.begin + bits ((now - r.begin) / 11 + 1))
+cut_end now r = min r.end (r.begin + bits ((now - r.begin) / bits 1 + 1))
 
 -- an entry after a tap has stopped at a moment; the record keeps all octets that were meant
 abbrev pub cut_at : ℕ → ℕ → Entry → Entry
@@ -105,4 +105,4 @@ unheard_at tap (Sent r) = Sent (record r { heard = slice_set r.heard tap Unheard
 
 -- the characters that went out, as a tap gets them
 abbrev pub characters_at : ℕ → Record → List RxChar
-characters_at tap r = characters_from tap r.hits 0 (take ((r.end - r.begin) / 11) r.octets)
+characters_at tap r = characters_from tap r.hits 0 (take ((r.end - r.begin) / bits 1) r.octets)

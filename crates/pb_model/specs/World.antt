@@ -67,6 +67,10 @@ clock_limit = 1000000000000
 abbrev pub mark_limit : ℕ
 mark_limit = 64
 
+-- how many requests of a priority wait at a station
+abbrev pub queue_limit : ℕ
+queue_limit = 16
+
 abbrev pub trace_limit : ℕ
 trace_limit = 100000
 

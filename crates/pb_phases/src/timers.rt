@@ -16,10 +16,7 @@ use pb_core::{Core, Kept, after, closed, removed};
 use pb_ring::{Gap, Las};
 use pb_rotation::Rotation;
 use pb_timers::{BusParams, Moment};
-use pb_tokenfsm::{AwaitData, Checking, Holding, Phase};
-
-/// How often the token is tried at a successor.
-const TRIES: u8 = 3;
+use pb_tokenfsm::{AwaitData, Checking, Holding, Phase, TRIES};
 
 /// How long the station waits in silence before it claims the token.
 #[tactic(auto, using(crate::proofs::TimeOuts::time_out_bound))]

@@ -1,15 +1,15 @@
 -- Rounds through the GAP.
 use Rattle.std.proofs.Common.{inl, inr, Option, Some, None, ◌≡◌, ℕ, ◌+◌, ◌<◌, ◌≤◌, List, [], ◌∷◌, ◌++◌, Bool, true, false, ◌==◌, ◌&&◌, ◌||◌, refl, ap, sym, ◌∙◌, subst, arith, map, length, append_assoc}
-use Rattle.std.specs.Prelude.{filter, nat_lt, nat_le, unwrap_or}
+use Rattle.std.specs.Prelude.{All, filter, get_or, nat_lt, nat_le, unwrap_or}
 use Rattle.std.specs.List.{range_with_len}
 use Rattle.std.proofs.lemmas.Bool.{cases_Bool, both_ways, and_parts, and_right, ltb-true, leb-true, eq-eqb, or_left, or_right}
 use Rattle.std.proofs.lemmas.Bool.Decides.{nat_tests}
-use Rattle.std.proofs.lemmas.List.Elements.{filter-append}
+use Rattle.std.proofs.lemmas.List.Elements.{All-nil, All-cons, All-head, All-tail, All-append, All-weaker, filter-append}
 use Rattle.pb_ring.specs.declared.gaps.Round.{Round}
 use Rattle.pb_ring.specs.declared.gaps.Round.TheVariants.{Open, Closed}
 use Rattle.pb_ring.specs.AddressSets.{is_member, is_between, from_behind, first_of, last_of, AscendsFrom, IsAscending}
 use Rattle.pb_ring.specs.Gap.{gap_range, last_asked, left_to_ask, next_asked, round_after}
-use Rattle.pb_ring.specs.Laws.{Look, Asks, Closes, look_of, asked_in_round, closed_at_end, round_with, round_of_looks, StandsForLooks, answers, round_at_end, AllOf, InTurn}
+use Rattle.pb_ring.specs.Laws.{Look, Asks, Closes, look_of, asked_in_round, closed_at_end, round_with, round_of_looks, StandsForLooks, answers, round_at_end, InTurn}
 use Rattle.pb_ring.proofs.SetLemmas.{last_of-append}
 use Rattle.pb_ring.proofs.NeighbourLemmas.{ascends-run, ascends-filter, member-filter}
 
@@ -55,28 +55,21 @@ asked-last round looks stands = ap last_asked stands ∙ asked-by looks (closed_
 
 -- ---- lists in cyclic order
 
-all-append : (P : ℕ → Type 0) (xs ys : List ℕ) → AllOf P xs → AllOf P ys → AllOf P (xs ++ ys)
-all-append P [] ys h k = k
-all-append P (x ∷ xs) ys h k = (h.0, all-append P xs ys h.1 k)
+all-at : (P : ℕ → Type 0) (xs : List ℕ) (a : ℕ) (ys : List ℕ) → All P (xs ++ a ∷ ys) → P a
+all-at P [] a ys h = All-head P a ys h
+all-at P (x ∷ xs) a ys h = all-at P xs a ys (All-tail P x (xs ++ a ∷ ys) h)
 
-all-weaker : (P Q : ℕ → Type 0) (xs : List ℕ) → ((x : ℕ) → P x → Q x) → AllOf P xs → AllOf Q xs
-all-weaker P Q [] f h = tt
-all-weaker P Q (x ∷ xs) f h = (f x h.0, all-weaker P Q xs f h.1)
+all-above : (low : ℕ) (xs : List ℕ) → AscendsFrom low xs → All (λ x. low ≤ x) xs
+all-above low [] up = All-nil (λ x. low ≤ x)
+all-above low (x ∷ xs) up =
+    All-cons (λ y. low ≤ y) x xs up.0 (All-weaker (λ y. x + 1 ≤ y) (λ y. low ≤ y) (λ y h. omega (arith, up.0, h)) xs (all-above (x + 1) xs up.1))
 
-all-at : (P : ℕ → Type 0) (xs : List ℕ) (a : ℕ) (ys : List ℕ) → AllOf P (xs ++ a ∷ ys) → P a
-all-at P [] a ys h = h.0
-all-at P (x ∷ xs) a ys h = all-at P xs a ys h.1
-
-all-above : (low : ℕ) (xs : List ℕ) → AscendsFrom low xs → AllOf (λ x. low ≤ x) xs
-all-above low [] up = tt
-all-above low (x ∷ xs) up = (up.0, all-weaker (λ y. x + 1 ≤ y) (λ y. low ≤ y) xs (λ y h. omega (arith, up.0, h)) (all-above (x + 1) xs up.1))
-
-all-kept : (p : ℕ → Bool) (P : ℕ → Type 0) (xs : List ℕ) → ((x : ℕ) → p x ≡ true → is_member xs x ≡ true → P x) → AllOf P (filter p xs)
-all-kept p P [] f = tt
+all-kept : (p : ℕ → Bool) (P : ℕ → Type 0) (xs : List ℕ) → ((x : ℕ) → p x ≡ true → is_member xs x ≡ true → P x) → All P (filter p xs)
+all-kept p P [] f = All-nil P
 all-kept p P (x ∷ xs) f =
-    let rest : AllOf P (filter p xs) = all-kept p P xs (λ y pass in_it. f y pass (or_right (x == y) (is_member xs y) in_it)) in
+    let rest : All P (filter p xs) = all-kept p P xs (λ y pass in_it. f y pass (or_right (x == y) (is_member xs y) in_it)) in
     elim (cases_Bool (p x)) [
-      | inl pass ↦ rw pass (f x pass (or_left (x == x) (is_member xs x) (eq-eqb x x refl)), rest)
+      | inl pass ↦ rw pass (All-cons P x (filter p xs) (f x pass (or_left (x == x) (is_member xs x) (eq-eqb x x refl))) rest)
       | inr fail ↦ rw fail rest
     ]
 
@@ -109,22 +102,20 @@ turn-low ts x y h k = (up ts x y h k, down ts x y h k)
     down : (ts x y : ℕ) → x + 1 ≤ y → y < ts → is_between y ts x ≡ false
     down ts x y h k = grind (arith, nat_tests)
 
-in_turn-low : (ts low : ℕ) (xs : List ℕ) → AscendsFrom low xs → AllOf (λ y. y < ts) xs → InTurn ts xs
+in_turn-low : (ts low : ℕ) (xs : List ℕ) → AscendsFrom low xs → All (λ y. y < ts) xs → InTurn ts xs
 in_turn-low ts low [] up below = tt
 in_turn-low ts low (x ∷ xs) up below =
-    (both xs (all-above (x + 1) xs up.1) below.1, in_turn-low ts (x + 1) xs up.1 below.1)
-  where
-    both : (ys : List ℕ) → AllOf (λ y. x + 1 ≤ y) ys → AllOf (λ y. y < ts) ys → AllOf (λ y. (is_between x ts y ≡ true) × (is_between y ts x ≡ false)) ys
-    both [] h k = tt
-    both (y ∷ ys) h k = (turn-low ts x y h.0 k.0, both ys h.1 k.1)
+    let rest : All (λ y. y < ts) xs = All-tail (λ y. y < ts) x xs below in
+    let above : All (λ y. x + 1 ≤ y) xs = all-above (x + 1) xs up.1 in
+    (λ k d there. turn-low ts x (get_or xs k d) (above k d there) (rest k d there), in_turn-low ts (x + 1) xs up.1 rest)
 
-in_turn-both : (ts low : ℕ) (xs ys : List ℕ) → ts < low → AscendsFrom low xs → AllOf (λ y. y < ts) ys → InTurn ts ys → InTurn ts (xs ++ ys)
+in_turn-both : (ts low : ℕ) (xs ys : List ℕ) → ts < low → AscendsFrom low xs → All (λ y. y < ts) ys → InTurn ts ys → InTurn ts (xs ++ ys)
 in_turn-both ts low [] ys above up below turn = turn
 in_turn-both ts low (x ∷ xs) ys above up below turn =
     let high : ts < x = omega (arith, above, up.0) in (
-      all-append (λ y. (is_between x ts y ≡ true) × (is_between y ts x ≡ false)) xs ys
-          (all-weaker (λ y. x + 1 ≤ y) (λ y. (is_between x ts y ≡ true) × (is_between y ts x ≡ false)) xs (λ y h. turn-up ts x y high h) (all-above (x + 1) xs up.1))
-          (all-weaker (λ y. y < ts) (λ y. (is_between x ts y ≡ true) × (is_between y ts x ≡ false)) ys (λ y h. turn-over ts x y high h) below),
+      All-append (λ y. (is_between x ts y ≡ true) × (is_between y ts x ≡ false)) xs ys
+          (All-weaker (λ y. x + 1 ≤ y) (λ y. (is_between x ts y ≡ true) × (is_between y ts x ≡ false)) (λ y h. turn-up ts x y high h) xs (all-above (x + 1) xs up.1))
+          (All-weaker (λ y. y < ts) (λ y. (is_between x ts y ≡ true) × (is_between y ts x ≡ false)) (λ y h. turn-over ts x y high h) ys below),
       in_turn-both ts (x + 1) xs ys (omega (arith, high)) up.1 below turn,
     )
 
@@ -138,7 +129,7 @@ ascends-above ts low (x ∷ xs) up =
 
 pub in_turn : (ts : ℕ) (xs : List ℕ) → IsAscending xs → is_member xs ts ≡ false → InTurn ts (from_behind ts xs)
 in_turn ts xs up out =
-    let below : AllOf (λ y. y < ts) (filter (λ x. nat_le x ts) xs) =
+    let below : All (λ y. y < ts) (filter (λ x. nat_le x ts) xs) =
     all-kept (λ x. nat_le x ts) (λ y. y < ts) xs
     (λ x low in_it. let le : x ≤ ts = leb-true x ts low in let other : x ≡ ts → ⊥ = λ same. both_ways (is_member xs ts) out (ap (is_member xs) (sym same) ∙ in_it) in omega (arith, le, other)) in
     in_turn-both ts (ts + 1) (filter (λ x. nat_lt ts x) xs) (filter (λ x. nat_le x ts) xs) (omega arith) (ascends-above ts 0 xs up) below
@@ -149,15 +140,15 @@ in_turn ts xs up out =
 not_itself : (a ts : ℕ) → is_between a ts a ≡ false
 not_itself a ts = grind (arith, nat_tests)
 
-keep_all : (p : ℕ → Bool) (xs : List ℕ) → AllOf (λ x. p x ≡ true) xs → filter p xs ≡ xs
+keep_all : (p : ℕ → Bool) (xs : List ℕ) → All (λ x. p x ≡ true) xs → filter p xs ≡ xs
 keep_all p [] h = refl
-keep_all p (x ∷ xs) h = let here : p x ≡ true = h.0 in rw here (ap (λ (ys : List ℕ). x ∷ ys) (keep_all p xs h.1))
+keep_all p (x ∷ xs) h = let here : p x ≡ true = All-head (λ y. p y ≡ true) x xs h in rw here (ap (λ (ys : List ℕ). x ∷ ys) (keep_all p xs (All-tail (λ y. p y ≡ true) x xs h)))
 
 pub left-behind : (ts a : ℕ) (done rest : List ℕ) → InTurn ts (done ++ a ∷ rest) → filter (λ x. is_between a ts x) (done ++ a ∷ rest) ≡ rest
 left-behind ts a [] rest turn =
     let itself : is_between a ts a ≡ false = not_itself a ts in
     rw itself (keep_all (λ x. is_between a ts x) rest
-    (all-weaker (λ y. (is_between a ts y ≡ true) × (is_between y ts a ≡ false)) (λ y. is_between a ts y ≡ true) rest (λ y h. h.0) turn.0))
+    (All-weaker (λ y. (is_between a ts y ≡ true) × (is_between y ts a ≡ false)) (λ y. is_between a ts y ≡ true) (λ y h. h.0) rest turn.0))
 left-behind ts a (x ∷ done) rest turn =
     let here : is_between a ts x ≡ false = (all-at (λ y. (is_between x ts y ≡ true) × (is_between y ts x ≡ false)) done a rest turn.0).1 in
     rw here (left-behind ts a done rest turn.1)
@@ -209,14 +200,11 @@ asks-gap ts ns hsa a asked e =
 
 -- ---- a GAP
 
-own_apart : (ts ns : ℕ) → is_between ts ns ts ≡ false
-own_apart ts ns = grind (arith, nat_tests)
-
 others_between : (ts ns x : ℕ) → is_between ts ns x ≡ true → is_between ts ts x ≡ true
 others_between ts ns x e = grind (arith, nat_tests)
 
 gap-out : (ts ns hsa : ℕ) → is_member (gap_range ts ns hsa) ts ≡ false
-gap-out ts ns hsa = member-filter (λ x. is_between ts ns x) ts (range_with_len 0 (hsa + 1)) ∙ and_right (is_member (range_with_len 0 (hsa + 1)) ts) (is_between ts ns ts) (own_apart ts ns)
+gap-out ts ns hsa = member-filter (λ x. is_between ts ns x) ts (range_with_len 0 (hsa + 1)) ∙ and_right (is_member (range_with_len 0 (hsa + 1)) ts) (is_between ts ns ts) (not_itself ts ns)
 
 pub gap-in_turn : (ts ns hsa : ℕ) → InTurn ts (from_behind ts (gap_range ts ns hsa))
 gap-in_turn ts ns hsa = in_turn ts (gap_range ts ns hsa) (ascends-run (λ x. is_between ts ns x) 0 (hsa + 1)) (gap-out ts ns hsa)

@@ -1,9 +1,12 @@
 -- What the whole list says of one more item.
-use Rattle.std.proofs.Common.{inl, inr, Option, Some, None, ◌≡◌, ℕ, ◌+◌, ◌<◌, List, [], ◌∷◌, ◌++◌, Bool, true, false, ◌==◌, ◌&&◌, ◌||◌, refl, ap, sym, ◌∙◌, arith, map, if◌then◌else◌}
+use Rattle.std.proofs.Common.{inl, inr, Option, Some, None, ◌≡◌, ℕ, ◌+◌, ◌<◌, List, [], ◌∷◌, ◌++◌, Bool, true, false, ◌==◌, ◌&&◌, ◌||◌, refl, ap, sym, subst, ◌∙◌, ◌-◌, ◌≤◌, arith, cond, drop, length, length-append, drop_of_length-le, map, reverse, if◌then◌else◌}
 use Rattle.std.specs.Prelude.{filter, not, nat_lt, count_by, unwrap_or, min}
-use Rattle.std.specs.List.{list_any}
+use Rattle.std.specs.List.{after_last, prefix_len, suffix_len}
 use Rattle.std.specs.Option.{option_or, option_map}
 use Rattle.std.proofs.lemmas.Grind.{fold-append}
+use Rattle.std.proofs.lemmas.List.{reverse-append, drop-append-le, length-reverse}
+use Rattle.std.proofs.lemmas.List.Sums.{prefix_len-le-length}
+use Rattle.std.proofs.Math.Bool.{and-true}
 use Rattle.std.proofs.lemmas.Bool.{cases_Bool, and_right}
 use Rattle.pb_ring.specs.declared.stages.HeardToken.{HeardToken}
 use Rattle.pb_ring.specs.declared.stages.Place.{Place}
@@ -11,8 +14,8 @@ use Rattle.pb_ring.specs.declared.stages.Stage.{Stage}
 use Rattle.pb_ring.specs.declared.stages.Stage.TheVariants.{Complete}
 use Rattle.pb_ring.specs.AddressSets.{addresses, is_member, is_between, removes, with_address, without_address}
 use Rattle.pb_ring.specs.Las.{is_repeated, own_of, corrected, skips_after, place_after, stage_heard, stage_entered, stage_removed, stage_readied}
-use Rattle.pb_ring.specs.LasList.{Item, Token, Enters, Leaves, Joins, token_of, last_token, repeats_token, without_retries, set_of, Piece, closed_pieces, open_piece, first_repeated, last_rotation, own_next, own_after, verdict, last_verdict, members_after, is_about, skips, after_last, skipped_by, place_at, complete_with}
-use Rattle.pb_ring.proofs.SetLemmas.{filter-addresses, filter-filter, with_address-addresses}
+use Rattle.pb_ring.specs.LasList.{Item, Token, Enters, Leaves, Joins, token_of, last_token, repeats_token, without_retries, set_of, Piece, closed_pieces, open_piece, first_repeated, last_rotation, own_next, own_after, verdict, last_verdict, members_after, is_about, skips, skipped_by, place_at, complete_with}
+use Rattle.pb_ring.proofs.SetLemmas.{filter-addresses, filter-filter, option_or-assoc, option_or-none, with_address-addresses}
 
 -- ---- retries
 
@@ -97,37 +100,39 @@ pub own_after-more : (own : Option ℕ) (is : List Item) (i : Item) → own_afte
 own_after-more own [] i = refl
 own_after-more own (j ∷ is) i = own_after-more (own_next own j) is i
 
-or_none : (o : Option Bool) → o ≡ option_or o None
-or_none None = refl
-or_none (Some b) = refl
-
-or_assoc : (a b c : Option Bool) → option_or (option_or a b) c ≡ option_or a (option_or b c)
-or_assoc None b c = refl
-or_assoc (Some x) b c = refl
-
 pub last_verdict-more : (own : Option ℕ) (is : List Item) (i : Item) (a : ℕ)
     → last_verdict own (is ++ i ∷ []) a ≡ option_or (verdict (own_after own is) i a) (last_verdict own is a)
-last_verdict-more own [] i a = or_none (verdict own i a)
+last_verdict-more own [] i a = option_or-none (verdict own i a)
 last_verdict-more own (j ∷ is) i a =
     ap (λ (o : Option Bool). option_or o (verdict own j a)) (last_verdict-more (own_next own j) is i a)
-    ∙ or_assoc (verdict (own_after (own_next own j) is) i a) (last_verdict (own_next own j) is a) (verdict own j a)
+    ∙ option_or-assoc (verdict (own_after (own_next own j) is) i a) (last_verdict (own_next own j) is a) (verdict own j a)
 
 -- ---- tokens that skip
 
-any-more : (test : Item → Bool) (is : List Item) (i : Item) → list_any test (is ++ i ∷ []) ≡ (list_any test is || test i)
-any-more test [] i = elim (test i) as (λ b. (b || false) ≡ b) [ true ↦ refl | false ↦ refl ]
-any-more test (j ∷ is) i = elim (test j) as (λ b. (b || list_any test (is ++ i ∷ [])) ≡ ((b || list_any test is) || test i)) [ true ↦ refl | false ↦ any-more test is i ]
+suffix-more : (test : Item → Bool) (is : List Item) (i : Item) → suffix_len test (is ++ i ∷ []) ≡ cond (test i) (1 + suffix_len test is) 0
+suffix-more test is i = ap (prefix_len test) (reverse-append is (i ∷ []))
 
-pub after_last-more : (test : Item → Bool) (is : List Item) (i : Item) → after_last test (is ++ i ∷ []) ≡ (if test i then [] else after_last test is ++ i ∷ [])
-after_last-more test [] i = refl
-after_last-more test (j ∷ is) i =
-    rw (any-more test is i, after_last-more test is i)
-    (elim (list_any test is) as (λ b. (if b || test i then (if test i then [] else after_last test is ++ i ∷ []) else (if test j then is ++ i ∷ [] else j ∷ is ++ i ∷ []))
-    ≡ (if test i then [] else (if b then after_last test is else (if test j then is else j ∷ is)) ++ i ∷ [])) [
-      | true ↦ refl
-      | false ↦ (elim (test i) as (λ d. (if d then (if d then [] else after_last test is ++ i ∷ []) else (if test j then is ++ i ∷ [] else j ∷ is ++ i ∷ [])) ≡ (if d then [] else (if test j then is else j ∷ is) ++ i ∷ []))
-          [ true ↦ refl | false ↦ elim (test j) as (λ e. (if e then is ++ i ∷ [] else j ∷ is ++ i ∷ []) ≡ (if e then is else j ∷ is) ++ i ∷ []) [ true ↦ refl | false ↦ refl ] ])
-    ])
+suffix-fits : (test : Item → Bool) (is : List Item) → suffix_len test is ≤ length is
+suffix-fits test is = subst (λ n. suffix_len test is ≤ n) (length-reverse is) (prefix_len-le-length test (reverse is))
+
+-- an item at which the test fails comes behind
+after_last-more : (test : Item → Bool) (is : List Item) (i : Item) → test i ≡ false → after_last test (is ++ i ∷ []) ≡ after_last test is ++ i ∷ []
+after_last-more test is i fails =
+    let fail : Item → Bool = λ j. not (test j) in
+    let more : suffix_len fail (is ++ i ∷ []) ≡ 1 + suffix_len fail is
+    = subst (λ b. suffix_len fail (is ++ i ∷ []) ≡ cond (not b) (1 + suffix_len fail is) 0) fails (suffix-more fail is i) in
+    let fits : suffix_len fail is ≤ length is = suffix-fits fail is in
+    let longer : length (is ++ i ∷ []) ≡ length is + 1 = length-append is (i ∷ []) in
+    let same : length (is ++ i ∷ []) - suffix_len fail (is ++ i ∷ []) ≡ length is - suffix_len fail is = omega arith in
+    ap (λ (k : ℕ). drop k (is ++ i ∷ [])) same ∙ drop-append-le _ is (i ∷ []) (omega arith)
+
+-- behind one at which it holds there is nothing
+after_last-ends : (test : Item → Bool) (is : List Item) (i : Item) → test i ≡ true → after_last test (is ++ i ∷ []) ≡ []
+after_last-ends test is i holds =
+    let fail : Item → Bool = λ j. not (test j) in
+    let none : suffix_len fail (is ++ i ∷ []) ≡ 0
+    = subst (λ b. suffix_len fail (is ++ i ∷ []) ≡ cond (not b) (1 + suffix_len fail is) 0) holds (suffix-more fail is i) in
+    drop_of_length-le (is ++ i ∷ []) (omega arith)
 
 count-more : (test : Item → Bool) (is : List Item) (i : Item) → count_by test (is ++ i ∷ []) ≡ count_by test is + (if test i then 1 else 0)
 count-more test is i = fold-append (λ (n : ℕ) (j : Item). n + (if test j then 1 else 0)) 0 is (i ∷ [])
@@ -157,11 +162,7 @@ heard_verdict : (source destination goes : Bool) (o : Option Bool) (b : Bool)
 heard_verdict true destination goes o b = refl
 heard_verdict false true goes o b = refl
 heard_verdict false false true o b = and_right (unwrap_or o b) (not true) refl
-heard_verdict false false false o b = and_true (unwrap_or o b)
-  where
-    and_true : (t : Bool) → (t && true) ≡ t
-    and_true true = refl
-    and_true false = refl
+heard_verdict false false false o b = and-true (unwrap_or o b)
 
 entered_verdict : (same : Bool) (o : Option Bool) (b : Bool) → (same || unwrap_or o b) ≡ unwrap_or (option_or (if same then Some true else None) o) b
 entered_verdict true o b = refl
@@ -169,11 +170,7 @@ entered_verdict false o b = refl
 
 removed_verdict : (same : Bool) (o : Option Bool) (b : Bool) → (unwrap_or o b && not same) ≡ unwrap_or (option_or (if same then Some false else None) o) b
 removed_verdict true o b = and_right (unwrap_or o b) (not true) refl
-removed_verdict false o b = and_true (unwrap_or o b)
-  where
-    and_true : (t : Bool) → (t && true) ≡ t
-    and_true true = refl
-    and_true false = refl
+removed_verdict false o b = and-true (unwrap_or o b)
 
 -- the members after one more item, by what it says of each address
 members_after-more : (own : Option ℕ) (first : List ℕ) (is : List Item) (i : Item) (test : ℕ → Bool)
@@ -216,11 +213,11 @@ counted : (n k : ℕ) → min 255 (min 255 n + k) ≡ min 255 (n + k)
 counted n k = omega arith
 
 skipped_by-about : (ts : ℕ) (is : List Item) (i : Item) → is_about ts i ≡ true → skipped_by ts (is ++ i ∷ []) ≡ 0
-skipped_by-about ts is i about = rw (after_last-more (is_about ts) is i, about) refl
+skipped_by-about ts is i about = ap (λ (xs : List Item). min 255 (count_by (skips ts) xs)) (after_last-ends (is_about ts) is i about)
 
 skipped_by-other : (ts : ℕ) (is : List Item) (i : Item) → is_about ts i ≡ false → skipped_by ts (is ++ i ∷ []) ≡ min 255 (skipped_by ts is + (if skips ts i then 1 else 0))
 skipped_by-other ts is i other =
-    ap (λ (xs : List Item). min 255 (count_by (skips ts) xs)) (after_last-more (is_about ts) is i ∙ ap (λ (b : Bool). if b then [] else after_last (is_about ts) is ++ i ∷ []) other)
+    ap (λ (xs : List Item). min 255 (count_by (skips ts) xs)) (after_last-more (is_about ts) is i other)
     ∙ ap (min 255) (count-more (skips ts) (after_last (is_about ts) is) i)
     ∙ sym (counted (count_by (skips ts) (after_last (is_about ts) is)) (if skips ts i then 1 else 0))
 

@@ -8,7 +8,8 @@ use Rattle.std.proofs.lemmas.Bool.Decides.{nat_tests}
 use Rattle.pb_ring.specs.AddressSets.{addresses, is_member, is_between, first_of, last_of, next_address, previous_address, AscendsFrom, IsAscending}
 use Rattle.pb_ring.specs.Las.{LasTable, members_of}
 use Rattle.pb_ring.specs.LasList.{Item, Piece, without_retries, closed_pieces, first_repeated, stage_learnt, stage_of_list, StandsFor}
-use Rattle.pb_ring.proofs.SetLemmas.{addresses-run, none-addresses, first_of-append, last_of-append}
+use Rattle.pb_ring.specs.SameWords.{addresses-run}
+use Rattle.pb_ring.proofs.SetLemmas.{none-addresses, first_of-append, last_of-append}
 
 -- ---- sets are in order
 

@@ -7,11 +7,11 @@ use Rattle.std.proofs.lemmas.Bool.{and_parts, and_from, and_right, eqb-true, lt-
 use Rattle.std.proofs.lemmas.Bool.Decides.{nat_tests}
 use Rattle.std.proofs.Common.{inl, inr}
 use Rattle.pb_ring.specs.AddressSets.{addresses, is_member, with_address, is_same, first_of, last_of}
+use Rattle.pb_ring.specs.SameWords.{addresses-run}
 
--- the addresses as a run of numbers whose length is a variable
-pub addresses-run : (n : ℕ) × (n ≡ 127) × (addresses ≡ range_with_len 0 n)
-unfolding addresses
-addresses-run = (127, refl, refl)
+and_holds : (b t : Bool) → t ≡ true → (b && t) ≡ b
+and_holds true t e = e
+and_holds false t e = refl
 
 -- ---- filters of a run
 
@@ -133,15 +133,11 @@ filter-front : (f : ℕ → Bool) (s j n : ℕ) → j ≤ n → filter (λ x. f 
 filter-front f s zero n h = filter-none_within (λ x. f x && nat_lt x (s + 0)) s n (λ x low high. and_right (f x) (nat_lt x (s + 0)) (le-ltb x (s + 0) (omega arith)))
 filter-front f s (suc j) zero h = absurd (omega arith)
 filter-front f s (suc j) (suc n) h =
-    let here : (f s && nat_lt s (s + suc j)) ≡ f s = inside (f s) (nat_lt s (s + suc j)) (lt-ltb s (s + suc j) (omega arith)) in
+    let here : (f s && nat_lt s (s + suc j)) ≡ f s = and_holds (f s) (nat_lt s (s + suc j)) (lt-ltb s (s + suc j) (omega arith)) in
     let sum : s + suc j ≡ s + 1 + j = omega arith in
     let rest : filter (λ x. f x && nat_lt x (s + suc j)) (range_with_len (s + 1) n) ≡ filter f (range_with_len (s + 1) j) =
     subst (λ (e : ℕ). filter (λ x. f x && nat_lt x e) (range_with_len (s + 1) n) ≡ filter f (range_with_len (s + 1) j)) (sym sum) (filter-front f (s + 1) j n (omega arith)) in
     cc
-  where
-    inside : (b t : Bool) → t ≡ true → (b && t) ≡ b
-    inside true t e = e
-    inside false t e = refl
 
 pub filter-first : (f : ℕ → Bool) (a : ℕ) → a ≤ 127 → filter (λ x. f x && nat_lt x a) addresses ≡ filter f (range_with_len 0 a)
 filter-first f a fits =
@@ -156,13 +152,9 @@ filter-upto f a fits =
     same_test : (x a : ℕ) → nat_le x a ≡ nat_lt x (a + 1)
     same_test x a = grind (arith, nat_tests)
 
-and-true : (b t : Bool) → t ≡ true → (b && t) ≡ b
-and-true true t e = e
-and-true false t e = refl
-
 -- the highest address leaves nothing out
 pub upto-highest : (b : Bool) (x : ℕ) → x < 127 → (b && nat_le x 126) ≡ b
-upto-highest b x low = and-true b (nat_le x 126) (le-leb x 126 (omega arith))
+upto-highest b x low = and_holds b (nat_le x 126) (le-leb x 126 (omega arith))
 
 -- ---- the first and the last of a filtered run
 
@@ -170,11 +162,11 @@ pub first_of-append : (xs ys : List ℕ) → first_of (xs ++ ys) ≡ option_or (
 first_of-append [] ys = refl
 first_of-append (x ∷ xs) ys = refl
 
-option_or-assoc : (a b c : Option ℕ) → option_or (option_or a b) c ≡ option_or a (option_or b c)
+pub option_or-assoc : {X : Type 0} (a b c : Option X) → option_or (option_or a b) c ≡ option_or a (option_or b c)
 option_or-assoc None b c = refl
 option_or-assoc (Some x) b c = refl
 
-option_or-none : (a : Option ℕ) → a ≡ option_or a None
+pub option_or-none : {X : Type 0} (a : Option X) → a ≡ option_or a None
 option_or-none None = refl
 option_or-none (Some x) = refl
 

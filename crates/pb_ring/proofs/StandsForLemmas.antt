@@ -14,6 +14,9 @@ use Rattle.pb_ring.specs.LasList.{Item, Token, Enters, Leaves, Joins, token_of, 
 use Rattle.pb_ring.proofs.SetLemmas.{filter-addresses, is_member-addresses, with_address-addresses, none-addresses}
 use Rattle.pb_ring.proofs.ListLemmas.{last_token-more, without_retries-more, later, piece_closed, piece_opened, open_piece-more, closed_pieces-more, first_repeated-more, last_rotation-more, AreStations, stage_step, complete_with-more}
 
+same_either_way : (a b : ℕ) → (a == b) ≡ (b == a)
+same_either_way a b = grind (arith, nat_tests)
+
 -- ---- sets of sources
 
 set_of-more : (sources : List ℕ) (sa : ℕ) → sa < 127 → with_address sa (set_of sources) ≡ set_of (sources ++ sa ∷ [])
@@ -21,9 +24,6 @@ set_of-more sources sa station =
     with_address-addresses (is_member sources) sa station
     ∙ filter-addresses (λ a. a == sa || is_member sources a) (is_member (sources ++ sa ∷ [])) (λ a low. sym (is_member-more sources sa a))
   where
-    same_either_way : (a b : ℕ) → (a == b) ≡ (b == a)
-    same_either_way a b = grind (arith, nat_tests)
-
     or_last : (p q r : Bool) → (p || (q || r)) ≡ (q || (p || r))
     or_last true true r = refl
     or_last true false r = refl
@@ -150,6 +150,3 @@ claimed-stands ts station =
     table refl (ap (λ (xs : List ℕ). Complete xs (Some (record { address = ts; skipped = 0 })))
     (ap (with_address ts) (sym (none-addresses (λ a. false) (λ a. refl))) ∙ with_address-addresses (λ a. false) ts station
     ∙ filter-addresses (λ a. a == ts || false) (λ a. is_member (ts ∷ []) a) (λ a low. ap (λ (b : Bool). b || false) (same_either_way a ts))))
-  where
-    same_either_way : (a b : ℕ) → (a == b) ≡ (b == a)
-    same_either_way a b = grind (arith, nat_tests)

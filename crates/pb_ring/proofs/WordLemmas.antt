@@ -4,6 +4,7 @@ use Rattle.std.specs.Prelude.{filter, not, nat_le, nat_lt, min}
 use Rattle.std.specs.Option.{option_or}
 use Rattle.std.proofs.lemmas.Bool.Decides.{nat_tests}
 use Rattle.std.specs.Int.{bit_at}
+use Rattle.std.proofs.Math.Bool.{and-true}
 use Rattle.std.proofs.lemmas.Bool.{and_right, and_from, and_left, lt-ltb, le-ltb, le-leb, leb-true, ltb-true, cases_Bool, eq-eqb, ne_eqb, cases_eq}
 use Rattle.std.proofs.lemmas.Nat.{or_lt, one_shl}
 use Rattle.std.proofs.lemmas.Nat.Bits.{bit_at-zero, bit_at_set_same, bit_at_set_other, bit_at_clear_same, bit_at_clear_other, bit_at-lt, bit_at_and, bit_at_not}
@@ -32,10 +33,6 @@ listed-set n k fits =
       | inr other ↦ rw (bit_at_set_other w128 n k (omega arith) x other, ne_eqb x k other) refl
     ])
     ∙ sym (with_address-addresses (λ x. bit_at n x == 1) k fits)
-
-and-true : (b : Bool) → (b && true) ≡ b
-and-true true = refl
-and-true false = refl
 
 pub listed-clear : (n k : ℕ) → k < 127 → listed (bit_and n (2 ^ 128 - 1 - 1 * 2 ^ k % 2 ^ 128)) ≡ without_address k (listed n)
 listed-clear n k fits =
@@ -202,27 +199,24 @@ IsSetBelow p bits a = listed bits ≡ filter (λ x. p x && nat_lt x a) addresses
 pub set_below-none : (p : ℕ → Bool) → IsSetBelow p 0 0
 set_below-none p = listed-zero ∙ sym (filter-addresses (λ x. p x && nat_lt x 0) (λ x. false) (λ x h. and_right (p x) (nat_lt x 0) (le-ltb x 0 (omega arith))) ∙ filter-none addresses)
 
+below_next : (x a : ℕ) → (x ≡ a → ⊥) → nat_lt x a ≡ nat_lt x (a + 1)
+below_next x a other = grind (arith, nat_tests)
+
 pub set_below-set : (p : ℕ → Bool) (bits a : ℕ) → a < 127 → p a ≡ true → IsSetBelow p bits a → IsSetBelow p (bit_or bits (1 * 2 ^ a % 2 ^ 128)) (a + 1)
 set_below-set p bits a fits holds before =
     listed-set bits a fits ∙ ap (with_address a) before ∙ with_address-addresses (λ x. p x && nat_lt x a) a fits
     ∙ filter-addresses (λ x. x == a || (p x && nat_lt x a)) (λ x. p x && nat_lt x (a + 1)) (λ x h. elim (cases_eq x a) [
       | inl same ↦ (let pass : p x ≡ true = ap p same ∙ holds in rw (eq-eqb x a same, pass, lt-ltb x (a + 1) (omega arith)) refl)
-      | inr other ↦ rw (ne_eqb x a other) (ap (λ (b : Bool). p x && b) (same_test x a other))
+      | inr other ↦ rw (ne_eqb x a other) (ap (λ (b : Bool). p x && b) (below_next x a other))
     ])
-  where
-    same_test : (x a : ℕ) → (x ≡ a → ⊥) → nat_lt x a ≡ nat_lt x (a + 1)
-    same_test x a other = grind (arith, nat_tests)
 
 pub set_below-passed : (p : ℕ → Bool) (bits a : ℕ) → p a ≡ false → IsSetBelow p bits a → IsSetBelow p bits (a + 1)
 set_below-passed p bits a fails before =
     before
     ∙ filter-addresses (λ x. p x && nat_lt x a) (λ x. p x && nat_lt x (a + 1)) (λ x h. elim (cases_eq x a) [
       | inl same ↦ (let none : p x ≡ false = ap p same ∙ fails in and_left (p x) (nat_lt x a) none ∙ sym (and_left (p x) (nat_lt x (a + 1)) none))
-      | inr other ↦ ap (λ (b : Bool). p x && b) (same_test x a other)
+      | inr other ↦ ap (λ (b : Bool). p x && b) (below_next x a other)
     ])
-  where
-    same_test : (x a : ℕ) → (x ≡ a → ⊥) → nat_lt x a ≡ nat_lt x (a + 1)
-    same_test x a other = grind (arith, nat_tests)
 
 pub set_below-upto : (p : ℕ → Bool) (bits a highest : ℕ) → a ≡ highest + 1 → IsSetBelow p bits a → listed bits ≡ filter (λ x. p x && nat_le x highest) addresses
 set_below-upto p bits a highest end before =

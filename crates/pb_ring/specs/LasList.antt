@@ -1,6 +1,6 @@
 -- The list of active stations, by the whole list of what a station has heard and done.
 use Rattle.std.specs.Prelude.{◌≡◌, ℕ, ◌==◌, nat_lt, Bool, true, false, ◌||◌, if◌then◌else◌, List, [], ◌∷◌, ◌++◌, filter, count_by, Option, Some, None, unwrap_or, min}
-use Rattle.std.specs.List.{list_any}
+use Rattle.std.specs.List.{after_last}
 use Rattle.std.specs.Option.{option_or}
 use Rattle.pb_ring.specs.declared.stages.HeardToken.{HeardToken}
 use Rattle.pb_ring.specs.declared.stages.Place.{Place}
@@ -126,11 +126,7 @@ skips ts (Enters a) = false
 skips ts (Leaves a) = false
 skips ts (Joins b) = false
 
--- the items behind the last one at which a test holds; all of them where it holds at none
-abbrev pub after_last : (Item → Bool) → List Item → List Item
-after_last test [] = []
-after_last test (i ∷ is) = if list_any test is then after_last test is else if test i then is else i ∷ is
-
+-- the tokens behind the last item about a station that skipped it, of which 255 are counted at most
 abbrev pub skipped_by : ℕ → List Item → ℕ
 skipped_by ts is = min 255 (count_by (skips ts) (after_last (is_about ts) is))
 

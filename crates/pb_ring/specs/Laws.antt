@@ -1,5 +1,5 @@
 -- What the laws of lists and rounds speak of.
-use Rattle.std.specs.Prelude.{◌≡◌, ℕ, true, false, List, [], ◌∷◌, ◌++◌, Option, Some, None}
+use Rattle.std.specs.Prelude.{◌≡◌, ℕ, All, true, false, List, [], ◌∷◌, ◌++◌, Option, Some, None}
 use Rattle.pb_ring.specs.declared.gaps.Round.{Round}
 use Rattle.pb_ring.specs.declared.gaps.Round.TheVariants.{Open, Closed}
 use Rattle.pb_ring.specs.AddressSets.{is_between, last_of}
@@ -56,12 +56,7 @@ abbrev pub round_at_end : ℕ → ℕ → ℕ → Round → List ℕ → Round
 round_at_end ts ns hsa round [] = round
 round_at_end ts ns hsa round (now ∷ more) = round_at_end ts ns hsa (round_after (next_asked ts ns hsa (last_asked round)) now) more
 
--- something holds of each address of a list
-abbrev pub AllOf : (ℕ → Type 0) → List ℕ → Type 0
-AllOf P [] = Unit {0}
-AllOf P (x ∷ xs) = P x × AllOf P xs
-
 -- Addresses stand in cyclic order on the way to a station: each of those behind one lies between it and the station, and it not between them and the station.
 abbrev pub InTurn : ℕ → List ℕ → Type 0
 InTurn ts [] = Unit {0}
-InTurn ts (x ∷ xs) = AllOf (λ y. (is_between x ts y ≡ true) × (is_between y ts x ≡ false)) xs × InTurn ts xs
+InTurn ts (x ∷ xs) = All (λ y. (is_between x ts y ≡ true) × (is_between y ts x ≡ false)) xs × InTurn ts xs

@@ -44,7 +44,7 @@ bits_of-addresses n w width run fits =
     let whole : n / 1 ≡ n = omega arith in
     rw run (all ∙ (rw whole (omega (arith, within))))
 
-addresses-run : (n : ℕ) × (n ≡ 127) × (addresses ≡ range_with_len 0 n)
+pub addresses-run : (n : ℕ) × (n ≡ 127) × (addresses ≡ range_with_len 0 n)
 unfolding addresses
 addresses-run = (127, refl, refl)
 

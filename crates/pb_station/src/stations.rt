@@ -11,6 +11,7 @@ use pb_core::{Address, Core, Cycles, Kept, Past, copy_outcome, push};
 use pb_cycles::{Outcome, Queue, Request};
 use pb_ring::{Gap, Las};
 use pb_rotation::Rotation;
+use pb_telegram::copy_octets;
 use pb_timers::{BusParams, Moment};
 use pb_tokenfsm::{Listening, Offline, PassiveIdle, Phase};
 use std::alloc::Global;
@@ -88,7 +89,7 @@ fn started(core: &Core, params: &BusParams, master: bool, now: Moment) -> Core
     } else {
         Phase::PassiveIdle(PassiveIdle)
     };
-    let reply = copy_data(core.kept.cycles.responder.data());
+    let reply = copy_octets(core.kept.cycles.responder.data());
     let new = new_core(core.kept.address, params, reply);
     Core {
         phase,
@@ -97,16 +98,6 @@ fn started(core: &Core, params: &BusParams, master: bool, now: Moment) -> Core
             ..new.kept
         },
     }
-}
-
-/// The same octets.
-fn copy_data(octets: &[u8]) -> ArrayVec<u8, 246>
-    requires { length octets.now ≤ 246 }
-    ensures { result.items ≡ octets.now }
-{
-    let mut copy = ArrayVec::new();
-    copy.try_extend_from_slice(octets).unwrap();
-    copy
 }
 
 /// A core whose station stops: it says nothing more.
@@ -148,7 +139,7 @@ impl Station {
           station = turn.new_station params address reply.items;
         }) (λ _. ⊥) }
     {
-        let data = copy_data(&reply);
+        let data = copy_octets(&reply);
         let core = new_core(Address::new(address), &params, data);
         Ok(Station {
             tap,
@@ -265,7 +256,7 @@ impl Station {
                 tap: self.tap,
                 params: self.params,
                 master: self.master,
-                reply_data: copy_data(&self.reply_data),
+                reply_data: copy_octets(&self.reply_data),
                 core: spoken.after,
             },
             speak: spoken.octets,

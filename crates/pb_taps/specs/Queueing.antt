@@ -2,6 +2,7 @@
 use Rattle.std.specs.Prelude.{◌≡◌, ℕ, Bool, true, false, ◌&&◌, nat_le, length, List, Some, None, slice_get, slice_set}
 use Rattle.pb_cycles.specs.RequestFields.{RequestFields}
 use Rattle.pb_turn.specs.Stations.{pushed, list_for}
+use Rattle.pb_model.specs.World.{queue_limit}
 use Rattle.pb_taps.specs.declared.faults.WorldFault.{WorldFault}
 use Rattle.pb_taps.specs.declared.faults.WorldFault.TheVariants as fault
 use Rattle.pb_taps.specs.declared.taps.Tap.{Tap}
@@ -16,7 +17,7 @@ takes_requests t = t.running && t.station.master
 
 -- whether the list of a request has no room at a tap
 abbrev pub has_no_room : Tap → RequestFields → Bool
-has_no_room t r = nat_le 16 (length (list_for t.station.station.cycles.queue r))
+has_no_room t r = nat_le queue_limit (length (list_for t.station.station.cycles.queue r))
 
 abbrev pub IsQueued : List Tap → ℕ → RequestFields → List Tap → Type 0
 IsQueued taps tap r next = (t : Tap) × (slice_get taps tap ≡ Some t) × (takes_requests t ≡ true) × (has_no_room t r ≡ false) × (next ≡ slice_set taps tap (queued_tap t r))

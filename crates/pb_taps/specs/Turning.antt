@@ -20,8 +20,8 @@ Turns t now turn = (turn_of t.station.params t.station.station t.marks now ≡ (
 abbrev pub TurnsAt : List Tap → ℕ → ℕ → Turn → Type 0
 TurnsAt taps tap now turn = (t : Tap) × (slice_get taps tap ≡ Some t) × (t.running ≡ true) × Turns t now turn
 
--- a position without a tap, or with one that doesn't run
-abbrev pub RefusesTurn : List Tap → ℕ → WorldFault → Type 0
-RefusesTurn taps tap fault.NoSuchTap = slice_get taps tap ≡ None
-RefusesTurn taps tap fault.NotRunning = (t : Tap) × (slice_get taps tap ≡ Some t) × (t.running ≡ false)
-RefusesTurn taps tap other = ⊥
+-- why what only a running tap does is refused: no tap is at the position, or it doesn't run
+abbrev pub RefusesStopped : List Tap → ℕ → WorldFault → Type 0
+RefusesStopped taps tap fault.NoSuchTap = slice_get taps tap ≡ None
+RefusesStopped taps tap fault.NotRunning = (t : Tap) × (slice_get taps tap ≡ Some t) × (t.running ≡ false)
+RefusesStopped taps tap other = ⊥

@@ -15,17 +15,19 @@ impl Model for Inbox {
     ghost use Rattle.std.specs.Prelude.{◌≤◌, List, length, map};
     ghost use Rattle.std.specs.Vec.{vec_capacity};
     ghost use Rattle.pb_turn.specs.Marks as model;
+    ghost use Rattle.pb_model.specs.World.{mark_limit};
     ghost use Rattle.pb_station.specs.MarkViews.{mark_of};
 
     ghost Value = { List model.Mark };
 
     ghost view = { λ b. map mark_of b.marks.items };
 
-    ghost invariant = { λ b. 64 ≤ vec_capacity b.marks };
+    ghost invariant = { λ b. mark_limit ≤ vec_capacity b.marks };
 }
 
 impl Inbox {
     ghost use Rattle.std.specs.Prelude.{◌≡◌, ◌<◌, ◌++◌, [], ◌∷◌, IfOk, length, map};
+    ghost use Rattle.pb_model.specs.World.{mark_limit};
     ghost use Rattle.pb_station.specs.MarkViews.{mark_of};
 
     /// An inbox without marks, with room for all that it may have. Its fault: memory was refused.
@@ -45,7 +47,7 @@ impl Inbox {
 
     /// One more mark, behind the others.
     pub fn push(&mut self, mark: Mark)
-        requires { length self.old < 64 }
+        requires { length self.old < mark_limit }
         ensures { self.new ≡ self.old ++ mark_of mark ∷ [] }
     {
         self.marks.push_reserved(mark);

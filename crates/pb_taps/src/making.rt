@@ -15,8 +15,8 @@ ghost use Rattle.pb_taps.specs.Taps.{is_master, spec_of, seat_of, tap_of, AreSea
 use crate::faults::NewFault;
 use crate::inboxes::Inbox;
 use crate::taps::{Kind, Tap, TapSpec, is_master};
-use arrayvec::ArrayVec;
 use pb_station::Station;
+use pb_telegram::copy_octets;
 use pb_timers::BusParams;
 use std::alloc::Global;
 
@@ -126,17 +126,7 @@ fn new_station(
         *params,
         spec.address,
         is_master(spec.kind),
-        copied(&spec.reply),
+        copy_octets(&spec.reply),
     )?;
     Ok(station)
-}
-
-/// The same octets.
-fn copied(octets: &ArrayVec<u8, 246>) -> ArrayVec<u8, 246>
-    ensures same { result.items ≡ octets.now.items }
-    ensures fits { Fits octets.now.items }
-{
-    let mut copy = ArrayVec::new();
-    copy.try_extend_from_slice(octets).unwrap();
-    copy
 }

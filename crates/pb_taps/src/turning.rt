@@ -1,7 +1,8 @@
 ghost use Rattle.std.specs.Prelude.{◌≡◌, ◌≤◌, ◌<◌, [], MatchResult, Some, slice_get, slice_set, length, map};
 ghost use Rattle.pb_model.specs.Laws.{AllInOrder, InOrder};
+ghost use Rattle.pb_model.specs.World.{clock_limit};
 ghost use Rattle.pb_taps.specs.Taps.{tap_of};
-ghost use Rattle.pb_taps.specs.Turning.{Turns, TurnsAt, RefusesTurn};
+ghost use Rattle.pb_taps.specs.Turning.{Turns, TurnsAt, RefusesStopped};
 ghost use Rattle.pb_taps.specs.declared.taps.Tap as declared;
 
 use crate::faults::WorldFault;
@@ -11,7 +12,7 @@ use pb_timers::Moment;
 
 /// The turn of a tap's station, with the marks that it has not read.
 fn turn(tap: &Tap, now: Moment) -> Turn
-    requires clock { now ≤ 1000000000000 }
+    requires clock { now ≤ clock_limit }
     requires order { InOrder 0 tap.now.marks now }
     ensures { Turns tap.now now result }
 {
@@ -20,9 +21,9 @@ fn turn(tap: &Tap, now: Moment) -> Turn
 
 /// The turn of the station at a tap. Faults, the first that applies: `NoSuchTap`; `NotRunning`.
 pub fn turn_at(taps: &[Tap], tap: usize, now: Moment) -> Result<Turn, WorldFault>
-    requires clock { now ≤ 1000000000000 }
+    requires clock { now ≤ clock_limit }
     requires order { AllInOrder now (map tap_of taps.now) }
-    ensures { MatchResult result (TurnsAt taps.now tap now) (RefusesTurn taps.now tap) }
+    ensures { MatchResult result (TurnsAt taps.now tap now) (RefusesStopped taps.now tap) }
 {
     let Some(tap) = taps.get(tap) else {
         return Err(WorldFault::NoSuchTap);

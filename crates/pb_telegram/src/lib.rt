@@ -8,6 +8,7 @@
 
 mod chars;
 mod control;
+mod copying;
 mod faults;
 mod laws;
 mod parsing;
@@ -16,6 +17,7 @@ mod writing;
 
 pub use chars::RxChar;
 pub use control::{Fc, fcs};
+pub use copying::copy_octets;
 pub use faults::TelegramFault;
 pub use laws::{
     first_fault_comes_first, no_spelling_begins_another, one_telegram_for_octets,

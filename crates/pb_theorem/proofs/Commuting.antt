@@ -1,12 +1,12 @@
 -- Turns of two taps in one instant, in either order.
 use Rattle.std.proofs.Common.{◌≡◌, ◌≢◌, ◌∙◌, ap, sym, subst, refl, arith, ℕ, zero, suc, ◌+◌, ◌<◌, ◌≤◌, ◌==◌, ◌||◌, ◌&&◌, nat_lt, nat_le, not, List, [], ◌∷◌, length, Bool, true, false, if◌then◌else◌, Option, Some, None, Ok, Result}
 use Rattle.std.specs.Prelude.{slice_get, slice_set, is_some}
-use Rattle.std.proofs.lemmas.Bool.{and_parts, ltb-true, ltb-false, lt-ltb, le-ltb, leb-false, lt-leb, eq-eqb, eqb-true}
+use Rattle.std.proofs.lemmas.Bool.{not-false, and_parts, ltb-true, ltb-false, lt-ltb, le-ltb, leb-false, lt-leb, eq-eqb, eqb-true}
 use Rattle.pb_turn.specs.Turns.{turn_of}
 use Rattle.pb_model.specs.Trace.{Own, Pending, Entry, Sent, entry_begin, rank, goes_before, with_entry, heard_at_first}
 use Rattle.pb_model.specs.Medium.{Tap}
 use Rattle.pb_model.specs.World.{World, Turn, Reply, Fault, NotRunning, TraceFull, trace_limit, unless}
-use Rattle.pb_model.specs.Step.{sending, with_speech, step_turn, step}
+use Rattle.pb_model.specs.Step.{sending, with_said, step_turn, step}
 use Rattle.pb_model.proofs.Cases.{by_test}
 use Rattle.pb_model.proofs.Worlds.{unless-Ok}
 use Rattle.pb_theorem.specs.Commuting.{BothTurn}
@@ -124,16 +124,16 @@ entry-longer e (x ∷ es) =
 
 -- ---- what two taps say
 
--- the trace where a tap has said something, if anything, with these taps
-abbrev said : World → List Tap → List Entry → ℕ → Option (List ℕ) → List Entry
-said w taps es tap octets = with_speech (record w { taps = taps; trace = es }) tap octets
+said-set : (now : ℕ) (taps : List Tap) (es : List Entry) (i k : ℕ) (x : Tap) (o : Option (List ℕ)) → with_said i o now (slice_set taps k x) es ≡ with_said i o now taps es
+said-set now taps es i k x None = refl
+said-set now taps es i k x (Some octets) =
+    ap (λ hs. with_entry (Sent (record (sending i octets now taps) { heard = hs })) es) (heard-set i 0 taps k x)
 
-said-set : (w : World) (taps : List Tap) (es : List Entry) (i k : ℕ) (x : Tap) (o : Option (List ℕ)) → said w (slice_set taps k x) es i o ≡ said w taps es i o
-said-set w taps es i k x None = refl
-said-set w taps es i k x (Some octets) =
-    ap (λ hs. with_entry (Sent (record (sending i octets w.now taps) { heard = hs })) es) (heard-set i 0 taps k x)
+-- the trace where a tap of a world has said something, if anything
+abbrev said : World → ℕ → Option (List ℕ) → List Entry
+said w tap octets = with_said tap octets w.now w.taps w.trace
 
-said-commute : (w : World) (i j : ℕ) (a b : Option (List ℕ)) → i ≢ j → said w w.taps (said w w.taps w.trace j b) i a ≡ said w w.taps (said w w.taps w.trace i a) j b
+said-commute : (w : World) (i j : ℕ) (a b : Option (List ℕ)) → i ≢ j → with_said i a w.now w.taps (said w j b) ≡ with_said j b w.now w.taps (said w i a)
 said-commute w i j None None other = refl
 said-commute w i j None (Some b) other = refl
 said-commute w i j (Some a) None other = refl
@@ -151,7 +151,7 @@ abbrev says : World → Tap → Option (List ℕ)
 says w t = (turn_of w.params t.station t.marks w.now).1
 
 abbrev world_turned : World → ℕ → Tap → World
-world_turned w i t = record w { trace = with_speech w i (says w t); taps = slice_set w.taps i (turned w t) }
+world_turned w i t = record w { trace = said w i (says w t); taps = slice_set w.taps i (turned w t) }
 
 abbrev has_no_room : Option (List ℕ) → List Entry → Bool
 has_no_room o es = is_some o && nat_le trace_limit (length es)
@@ -168,10 +168,6 @@ record Accepted (w : World) (i : ℕ) (next : World) (reply : Reply) : Type 0 wh
 accepted : (w : World) (i : ℕ) (next : World) (reply : Reply) → step w (Turn i) ≡ Ok (next, reply) → Accepted w i next reply
 accepted w i next reply = by (slice_get w.taps i) refl
   where
-    not-down : (b : Bool) → not b ≡ false → b ≡ true
-    not-down true e = refl
-    not-down false e = absurd (let wrong : true ≡ false = e in cc)
-
     by : (o : Option Tap) → slice_get w.taps i ≡ o → step_turn w i o ≡ Ok (next, reply) → Accepted w i next reply
     by None at ok = absurd cc
     by (Some t) at ok =
@@ -180,7 +176,7 @@ accepted w i next reply = by (slice_get w.taps i) refl
         record {
           tap = t;
           at = at;
-          runs = not-down t.running is.0.0;
+          runs = not-false t.running is.0.0;
           room = is.0.1.0;
           world = ap (λ x. x.0) is.1;
           answer = ap (λ x. x.1) is.1;
@@ -194,14 +190,14 @@ accepts w i t at runs room =
     ap (step_turn w i) at ∙ ap (λ b. ending b (has_no_room (says w t) w.trace)) runs ∙ ap (ending true) room
 
 -- room for one more leaves room where less has been said
-room-before : (w : World) (i : ℕ) (a b : Option (List ℕ)) → has_no_room b (with_speech w i a) ≡ false → has_no_room b w.trace ≡ false
+room-before : (w : World) (i : ℕ) (a b : Option (List ℕ)) → has_no_room b (said w i a) ≡ false → has_no_room b w.trace ≡ false
 room-before w i a None room = refl
 room-before w i None (Some b) room = room
 room-before w i (Some a) (Some b) room =
     let e : Entry = Sent (sending i a w.now w.taps) in
     lt-leb trace_limit (length w.trace) (omega (arith, leb-false trace_limit (length (with_entry e w.trace)) room, entry-longer e w.trace))
 
-room-after : (w : World) (i j : ℕ) (a b : Option (List ℕ)) → has_no_room a w.trace ≡ false → has_no_room b (with_speech w i a) ≡ false → has_no_room a (with_speech w j b) ≡ false
+room-after : (w : World) (i j : ℕ) (a b : Option (List ℕ)) → has_no_room a w.trace ≡ false → has_no_room b (said w i a) ≡ false → has_no_room a (said w j b) ≡ false
 room-after w i j None b one two = refl
 room-after w i j (Some a) None one two = one
 room-after w i j (Some a) (Some b) one two =
@@ -218,11 +214,11 @@ turns-commute w after i j first second other (between, ok, okay) =
     let there = sym (get-other w.taps i j (turned w t) other) ∙ two.at in
     let swapped : j ≢ i = λ same. other (sym same) in
     let here = get-other w.taps j i (turned w u) swapped ∙ one.at in
-    let traces = said-set w w.taps (said w w.taps w.trace j (says w u)) i j (turned w u) (says w t) ∙ said-commute w i j (says w t) (says w u) other
-    ∙ sym (said-set w w.taps (said w w.taps w.trace i (says w t)) j i (turned w t) (says w u)) in
+    let traces = said-set w.now w.taps (said w j (says w u)) i j (turned w u) (says w t) ∙ said-commute w i j (says w t) (says w u) other
+    ∙ sym (said-set w.now w.taps (said w i (says w t)) j i (turned w t) (says w u)) in
     let same : world_turned (world_turned w j u) i t ≡ world_turned (world_turned w i t) j u
     = ap (λ es. record w { trace = es; taps = slice_set (slice_set w.taps j (turned w u)) i (turned w t) }) traces
-    ∙ ap (λ ts. record w { trace = with_speech (world_turned w i t) j (says w u); taps = ts }) (set-other w.taps j i (turned w u) (turned w t) swapped) in (
+    ∙ ap (λ ts. record w { trace = said (world_turned w i t) j (says w u); taps = ts }) (set-other w.taps j i (turned w u) (turned w t) swapped) in (
       world_turned w j u,
       accepts w j u there two.runs (room-before w i (says w t) (says w u) two.room) ∙ ap (λ r. Ok (world_turned w j u, r)) two.answer,
       accepts (world_turned w j u) i t here one.runs (room-after w i j (says w t) (says w u) one.room two.room)

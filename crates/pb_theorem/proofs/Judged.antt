@@ -2,6 +2,7 @@
 use Rattle.std.proofs.Common.{◌≡◌, ◌∙◌, ap, sym, subst, refl, arith, ℕ, ◌+◌, ◌-◌, ◌<◌, ◌≤◌, ◌==◌, ◌||◌, ◌&&◌, nat_lt, nat_le, not, List, [], ◌∷◌, ◌++◌, append_assoc, Bool, true, false, if◌then◌else◌, Option, Some, None}
 use Rattle.std.specs.Prelude.{slice_get, max}
 use Rattle.std.specs.List.{list_any}
+use Rattle.std.proofs.Math.Bool.{or-false}
 use Rattle.std.proofs.lemmas.Bool.{ltb-true, ltb-false, lt-ltb, le-ltb, leb-true, lt-leb, le-leb}
 use Rattle.pb_timers.specs.Timers.{Params, tto}
 use Rattle.pb_model.specs.Trace.{Record, Entry, Sent, Noise, entry_begin, entry_end}
@@ -36,10 +37,6 @@ silent-there delay from to tap trace none = ap (λ d. is_silent d tap trace from
 or-assoc : (a b c : Bool) → ((a || b) || c) ≡ (a || (b || c))
 or-assoc true b c = refl
 or-assoc false b c = refl
-
-or-false : (a : Bool) → (a || false) ≡ a
-or-false true = refl
-or-false false = refl
 
 any-append : (from to : ℕ) (xs ys : List Entry) → any_between from to (xs ++ ys) ≡ (any_between from to xs || any_between from to ys)
 any-append from to [] ys = refl

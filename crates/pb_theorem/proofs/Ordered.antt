@@ -10,12 +10,11 @@ use Rattle.pb_turn.specs.Turns.{turn_of}
 use Rattle.pb_model.specs.Trace.{Hit, Record, Entry, Sent, Noise, entry_begin, rank, goes_before, with_entry, cut_end, cut_at, is_noise_at, noisy_until, begins_from, unheard_at}
 use Rattle.pb_model.specs.Medium.{TapSpec, Tap, reaches, ends_between, entry_at, heard_by}
 use Rattle.pb_model.specs.World as world
-use Rattle.pb_model.specs.World.{World, Event, Turn, Pass, Damage, Start, Stop, Queue, Reply, Fault, NoSuchTap, Running, NotRunning, NothingInAir, ZeroTime, QueueFull, TraceFull, trace_limit, is_in_air_by, new_world, stopped_tap, new_faults}
-use Rattle.pb_model.specs.Step.{sending, with_speech, step_turn, told, pass_faults, step_pass, with_hit, change_first, has_place, step_damage, started_tap, step_start, halted, step_stop, step_queue, with_noise, is_noisy, step_noise, step_unheard, step, world_after}
+use Rattle.pb_model.specs.World.{World, Event, Turn, Pass, Damage, Start, Stop, Queue, Reply, Fault, NoSuchTap, Running, NotRunning, NothingInAir, ZeroTime, QueueFull, TraceFull, trace_limit, is_in_air_by, new_world, stopped_tap, new_faults, queue_limit}
+use Rattle.pb_model.specs.Step.{sending, with_said, step_turn, told, pass_faults, step_pass, with_hit, change_first, has_place, step_damage, started_tap, step_start, halted, step_stop, step_queue, with_noise, is_noisy, step_noise, step_unheard, step, world_after, RunsTo}
 use Rattle.pb_model.specs.Laws.{AllBegun, AllFit, AreEvents, IsSound}
 use Rattle.pb_model.proofs.Cases.{by_test}
 use Rattle.pb_model.proofs.Worlds.{world_after-unless, sound-step, sound-new_world, unless-Ok}
-use Rattle.pb_theorem.specs.Headline.{LeadsTo}
 use Rattle.pb_theorem.specs.Judging.{IsOrderedFrom, IsOrdered, StandsFrom, Stands}
 
 -- ---- a new entry
@@ -40,9 +39,9 @@ stands-with_entry from e (x ∷ xs) late (here, rest) =
     by_test (λ (es : List Entry). StandsFrom from es) (goes_before e x) (e ∷ x ∷ xs) (x ∷ with_entry e xs)
     (λ goes. (late, (goes-early e x goes, rest))) (λ stays. (here, stands-with_entry (entry_begin x) e xs (stays-late e x stays) rest))
 
-stands-with_speech : (w : World) (tap : ℕ) (o : Option (List ℕ)) → StandsFrom 0 w.trace → StandsFrom 0 (with_speech w tap o)
-stands-with_speech w tap None stands = stands
-stands-with_speech w tap (Some octets) stands = stands-with_entry 0 (Sent (sending tap octets w.now w.taps)) w.trace (omega arith) stands
+stands-with_said : (w : World) (tap : ℕ) (o : Option (List ℕ)) → StandsFrom 0 w.trace → StandsFrom 0 (with_said tap o w.now w.taps w.trace)
+stands-with_said w tap None stands = stands
+stands-with_said w tap (Some octets) stands = stands-with_entry 0 (Sent (sending tap octets w.now w.taps)) w.trace (omega arith) stands
 
 -- ---- a change that leaves each entry its begin
 
@@ -89,10 +88,10 @@ stands-turn w tap None stands = stands
 stands-turn w tap (Some t) stands =
     let turn = turn_of w.params t.station t.marks w.now in
     world_after-unless Stands w
-    (record w { trace = with_speech w tap turn.1; taps = slice_set w.taps tap (record t { station = turn.0; marks = [] }) })
+    (record w { trace = with_said tap turn.1 w.now w.taps w.trace; taps = slice_set w.taps tap (record t { station = turn.0; marks = [] }) })
     (record { now = w.now; spoke = turn.1 })
     ((not t.running, NotRunning) ∷ (is_some turn.1 && nat_le trace_limit (length w.trace), TraceFull) ∷ [])
-    stands (λ _. stands-with_speech w tap turn.1 stands)
+    stands (λ _. stands-with_said w tap turn.1 stands)
 
 stands-pass : (w : World) (d : ℕ) → Stands w → Stands (world_after w (step_pass w d))
 stands-pass w d stands =
@@ -126,7 +125,7 @@ stands-queue : (w : World) (tap : ℕ) (r : RequestFields) (o : Option Tap) → 
 stands-queue w tap r None stands = stands
 stands-queue w tap r (Some t) stands =
     world_after-unless Stands w (record w { taps = slice_set w.taps tap (record t { station = pushed t.station r }) }) (record { now = w.now; spoke = None })
-    ((not (t.running && t.spec.master), NotRunning) ∷ (nat_le 16 (length (list_for t.station.cycles.queue r)), QueueFull) ∷ []) stands (λ _. stands)
+    ((not (t.running && t.spec.master), NotRunning) ∷ (nat_le queue_limit (length (list_for t.station.cycles.queue r)), QueueFull) ∷ []) stands (λ _. stands)
 
 stands-with_noise : (now end : ℕ) (noisy : Bool) (trace : List Entry) → StandsFrom 0 trace → StandsFrom 0 (with_noise now end noisy trace)
 stands-with_noise now end true trace stands = stands-change_first (is_noise_at now) (noisy_until end) (same-noisy_until end) 0 trace stands
@@ -157,12 +156,12 @@ stands-step w (world.Unheard tap speaker) stands = stands-unheard w tap speaker 
 
 -- ---- lists of events
 
-pub stands-after : (events : List Event) (w next : World) → LeadsTo w events next → Stands w → Stands next
+pub stands-after : (events : List Event) (w next : World) → RunsTo w events next → Stands w → Stands next
 stands-after [] w next leads stands = subst Stands leads stands
 stands-after (e ∷ es) w next (between, reply, done, leads) stands =
     stands-after es between next leads (subst Stands (ap (world_after w) done) (stands-step w e stands))
 
-pub sound-after : (events : List Event) (w next : World) → AreEvents events → LeadsTo w events next → IsSound w → IsSound next
+pub sound-after : (events : List Event) (w next : World) → AreEvents events → RunsTo w events next → IsSound w → IsSound next
 sound-after [] w next are leads sound = subst IsSound leads sound
 sound-after (e ∷ es) w next are (between, reply, done, leads) sound =
     sound-after es between next are.1 leads (subst IsSound (ap (world_after w) done) (sound-step w e are.0 sound))
@@ -181,11 +180,11 @@ pub is-ordered : (w : World) → IsSound w → Stands w → IsOrdered w.trace
 is-ordered w sound stands = ordered-by 0 w.now w.trace stands sound.begun
 
 -- accepted events lead from a new world to one whose trace stands by begin
-pub leads-in-order : (p : Params) (specs : List TapSpec) (events : List Event) (new w : World) → new_world p specs ≡ Ok new → LeadsTo new events w → Stands w
+pub leads-in-order : (p : Params) (specs : List TapSpec) (events : List Event) (new w : World) → new_world p specs ≡ Ok new → RunsTo new events w → Stands w
 leads-in-order p specs events new w made leads = stands-after events new w leads (stands-new p specs new made)
 
 -- where their requests are proper, its trace is in order
 pub is-ordered-after : (p : Params) (specs : List TapSpec) (events : List Event) (new w : World) → p.ttd ≡ 0 → AllFit specs → AreEvents events
-    → new_world p specs ≡ Ok new → LeadsTo new events w → IsOrdered w.trace
+    → new_world p specs ≡ Ok new → RunsTo new events w → IsOrdered w.trace
 is-ordered-after p specs events new w none fit are made leads =
     is-ordered w (sound-after events new w are leads (sound-new_world p specs new none fit made)) (leads-in-order p specs events new w made leads)

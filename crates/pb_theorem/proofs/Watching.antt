@@ -2,6 +2,7 @@
 use Rattle.std.proofs.Common.{◌≡◌, ◌∙◌, ap, sym, subst, refl, arith, ℕ, ◌+◌, ◌<◌, ◌≤◌, ◌==◌, ◌||◌, ◌&&◌, nat_le, not, List, [], ◌∷◌, ◌++◌, map, length, Bool, true, false, if◌then◌else◌, Option, Some, None, Result, Ok}
 use Rattle.std.specs.Prelude.{slice_get, slice_set, is_some, is_none, find, IfSome}
 use Rattle.std.specs.List.{list_any}
+use Rattle.std.proofs.Math.Bool.{or-false}
 use Rattle.std.proofs.lemmas.Bool.{eqb-false}
 use Rattle.std.proofs.lemmas.Bool.Decides.{nat_tests}
 use Rattle.pb_cycles.specs.RequestFields.{RequestFields}
@@ -9,14 +10,14 @@ use Rattle.pb_turn.specs.Stations.{list_for, pushed}
 use Rattle.pb_turn.specs.Turns.{turn_of}
 use Rattle.pb_model.specs.Trace.{cut_at, begins_from, unheard_at}
 use Rattle.pb_model.specs.Medium.{Tap, entry_at}
-use Rattle.pb_model.specs.World.{World, Event, Turn, Pass, Damage, Start, Stop, Queue, Noise, Unheard, Reply, Fault, NoSuchTap, Running, NotRunning, NothingInAir, ZeroTime, QueueFull, TraceFull, trace_limit, next_end, is_in_air_by}
-use Rattle.pb_model.specs.Step.{sending, with_speech, step_turn, told, pass_faults, step_pass, with_hit, change_first, has_place, step_damage, started_tap, step_start, halted, step_stop, step_queue, with_noise, is_noisy, step_noise, step_unheard, step, world_after}
+use Rattle.pb_model.specs.World.{World, Event, Turn, Pass, Damage, Start, Stop, Queue, Noise, Unheard, Reply, Fault, NoSuchTap, Running, NotRunning, NothingInAir, ZeroTime, QueueFull, TraceFull, trace_limit, next_end, is_in_air_by, queue_limit}
+use Rattle.pb_model.specs.Step.{sending, with_said, step_turn, told, pass_faults, step_pass, with_hit, change_first, has_place, step_damage, started_tap, step_start, halted, step_stop, step_queue, with_noise, is_noisy, step_noise, step_unheard, step, world_after}
 use Rattle.pb_model.specs.Laws.{IsSound}
 use Rattle.pb_model.proofs.Cases.{by_test}
 use Rattle.pb_model.proofs.Worlds.{unless-Ok, later-replay}
 use Rattle.pb_theorem.specs.Premises.{Waited, Broken, Course, has_waited, waited_by, meets, two_have_waited, has_namesakes, loses, comes_late, first_number, broken_by, broken_or, followed}
 use Rattle.pb_theorem.specs.Quiet.{quiet_at}
-use Rattle.pb_theorem.specs.Watching.{Watched, passes_busy, meets_last, new_meet, last_of, watched_after, StandsFor}
+use Rattle.pb_theorem.specs.Watching.{Watched, passes_busy, meets_last, new_meet, last_waited, watched_after, StandsFor}
 use Rattle.pb_theorem.proofs.Quiets.{quiet-speech, quiet-damaged, quiet-unheard, quiet-cut, quiet-noise, quiet-passed}
 use Rattle.std.proofs.Math.Bool.{or-true}
 
@@ -26,7 +27,7 @@ use Rattle.std.proofs.Math.Bool.{or-true}
 abbrev AsQuiet : World → World × Reply → Type 0
 AsQuiet w x = quiet_at x.0.now x.0.trace ≡ quiet_at w.now w.trace
 
-quiet-spoken : (w : World) (tap : ℕ) (o : Option (List ℕ)) → quiet_at w.now (with_speech w tap o) ≡ quiet_at w.now w.trace
+quiet-spoken : (w : World) (tap : ℕ) (o : Option (List ℕ)) → quiet_at w.now (with_said tap o w.now w.taps w.trace) ≡ quiet_at w.now w.trace
 quiet-spoken w tap None = refl
 quiet-spoken w tap (Some octets) = quiet-speech w.now (sending tap octets w.now w.taps) w.trace refl
 
@@ -34,7 +35,7 @@ quiet-turn : (w next : World) (tap : ℕ) (reply : Reply) (o : Option Tap) → s
 quiet-turn w next tap reply None ok = absurd cc
 quiet-turn w next tap reply (Some t) ok =
     let turn = turn_of w.params t.station t.marks w.now in
-    let made : World × Reply = (record w { trace = with_speech w tap turn.1; taps = slice_set w.taps tap (record t { station = turn.0; marks = [] }) }, record { now = w.now; spoke = turn.1 }) in
+    let made : World × Reply = (record w { trace = with_said tap turn.1 w.now w.taps w.trace; taps = slice_set w.taps tap (record t { station = turn.0; marks = [] }) }, record { now = w.now; spoke = turn.1 }) in
     let is = unless-Ok ((not t.running, NotRunning) ∷ (is_some turn.1 && nat_le trace_limit (length w.trace), TraceFull) ∷ []) made (next, reply) ok in
     subst (AsQuiet w) is.1 (quiet-spoken w tap turn.1)
 
@@ -75,7 +76,7 @@ quiet-queue : (w next : World) (tap : ℕ) (r : RequestFields) (reply : Reply) (
 quiet-queue w next tap r reply None ok = absurd cc
 quiet-queue w next tap r reply (Some t) ok =
     let made : World × Reply = (record w { taps = slice_set w.taps tap (record t { station = pushed t.station r }) }, record { now = w.now; spoke = None }) in
-    let is = unless-Ok ((not (t.running && t.spec.master), NotRunning) ∷ (nat_le 16 (length (list_for t.station.cycles.queue r)), QueueFull) ∷ []) made (next, reply) ok in
+    let is = unless-Ok ((not (t.running && t.spec.master), NotRunning) ∷ (nat_le queue_limit (length (list_for t.station.cycles.queue r)), QueueFull) ∷ []) made (next, reply) ok in
     subst (AsQuiet w) is.1 refl
 
 quiet-noisy : (w next : World) (bits : ℕ) (noisy : Bool) (reply : Reply) → step_noise w bits noisy ≡ Ok (next, reply) → AsQuiet w (next, reply)
@@ -131,17 +132,13 @@ or-none : (a b : Bool) → a ≡ false → (a || b) ≡ b
 or-none true b e = absurd cc
 or-none false b e = refl
 
-none-or : (a : Bool) → (a || false) ≡ a
-none-or true = refl
-none-or false = refl
-
 -- whether two meet is decided by those that have waited out now and the last one before
 two-meet : (delay now : ℕ) (new old : List Waited) (last : Option Waited) → AllNew now 0 new
     → ((one : Waited) → now ≤ one.moment → list_any (meets delay one) old ≡ meets_last delay one last)
     → two_have_waited delay new (new ++ old) ≡ new_meet delay new last
 two-meet delay now [] old last all decides = refl
 two-meet delay now (one ∷ []) old last all decides =
-    none-or (meets delay one one || list_any (meets delay one) old)
+    or-false (meets delay one one || list_any (meets delay one) old)
     ∙ or-none (meets delay one one) (list_any (meets delay one) old) (meets-itself delay one)
     ∙ decides one (omega (arith, all.1))
 two-meet delay now (one ∷ other ∷ more) old last all decides =
@@ -162,7 +159,7 @@ meets-both delay one new last before later apart met = grind (arith, nat_tests)
 next-decides : (delay : ℕ) (new : Waited) (last : Option Waited) (old : List Waited) → IfSome last (λ l. l.moment ≤ new.moment) → meets_last delay new last ≡ false
     → ((one : Waited) → new.moment ≤ one.moment → list_any (meets delay one) old ≡ meets_last delay one last)
     → (one : Waited) → new.moment ≤ one.moment → list_any (meets delay one) (new ∷ old) ≡ meets delay one new
-next-decides delay new None old before apart decides one later = ap (λ (b : Bool). meets delay one new || b) (decides one later) ∙ none-or (meets delay one new)
+next-decides delay new None old before apart decides one later = ap (λ (b : Bool). meets delay one new || b) (decides one later) ∙ or-false (meets delay one new)
 next-decides delay new (Some last) old before apart decides one later =
     ap (λ (b : Bool). meets delay one new || b) (decides one later)
     ∙ absorbed (meets delay one new) (meets delay one last) (meets-both delay one new last before later apart)
@@ -185,7 +182,7 @@ broken-same : (o : Option Broken) (clock : ℕ) (a b c d e : Bool) → (o ≡ No
 broken-same None clock a b c d e same = ap (λ (x : Bool). broken_or None clock (first_number a b c x)) (same refl)
 broken-same (Some before) clock a b c d e same = refl
 
-last-before : (now next : ℕ) (new : List Waited) (last : Option Waited) → now ≤ next → AllNew next 0 new → IfSome last (λ l. l.moment ≤ now) → IfSome (last_of new last) (λ l. l.moment ≤ next)
+last-before : (now next : ℕ) (new : List Waited) (last : Option Waited) → now ≤ next → AllNew next 0 new → IfSome last (λ l. l.moment ≤ now) → IfSome (last_waited new last) (λ l. l.moment ≤ next)
 last-before now next [] None later all before = tt
 last-before now next [] (Some l) later all before = omega (arith, before)
 last-before now next (one ∷ more) last later all before = omega (arith, all.1)
@@ -196,7 +193,7 @@ last-next now next last later before = last-before now next [] last later tt bef
 last-decides : (now next : ℕ) (new old : List Waited) (last : Option Waited) → now ≤ next → AllNew next 0 new → IfSome last (λ l. l.moment ≤ now)
     → new_meet 0 new last ≡ false
     → ((one : Waited) → now ≤ one.moment → list_any (meets 0 one) old ≡ meets_last 0 one last)
-    → (one : Waited) → next ≤ one.moment → list_any (meets 0 one) (new ++ old) ≡ meets_last 0 one (last_of new last)
+    → (one : Waited) → next ≤ one.moment → list_any (meets 0 one) (new ++ old) ≡ meets_last 0 one (last_waited new last)
 last-decides now next [] old last later all before apart decides one from = decides one (omega arith)
 last-decides now next (new ∷ []) old last later all before apart decides one from =
     next-decides 0 new last old (last-next now new.moment last (omega (arith, all.1)) before) apart (λ x at. decides x (omega (arith, all.1))) one (omega (arith, all.1))

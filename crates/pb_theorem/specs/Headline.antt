@@ -5,7 +5,7 @@ use Rattle.pb_timers.specs.ParamRules.{IsValid}
 use Rattle.pb_turn.specs.Phases.{may_initiate, is_offline}
 use Rattle.pb_model.specs.Medium.{TapSpec, Tap}
 use Rattle.pb_model.specs.World.{World, Event, Reply, new_world}
-use Rattle.pb_model.specs.Step.{step}
+use Rattle.pb_model.specs.Step.{step, RunsTo}
 use Rattle.pb_model.specs.Laws.{AllFit, AreEvents}
 use Rattle.pb_theorem.specs.Activity.{is_silent}
 use Rattle.pb_theorem.specs.Legality.{first_illegal}
@@ -24,29 +24,24 @@ abbrev pub specs_of : World → List TapSpec
 specs_of w = map (λ t. t.spec) w.taps
 
 -- what the theorem says of a world
-pub record HasOneHolder (w : World) : Type 0 where
+pub record HasAtMostOneHolder (w : World) : Type 0 where
   pub at_most_one : (i j : ℕ) → MayInitiate w i → MayInitiate w j → i ≡ j
   pub is_named : (i : ℕ) → MayInitiate w i → named w.params (specs_of w) w.trace w.now ≡ Some i
   pub legal : first_illegal w.params (specs_of w) w.trace ≡ None
 
--- accepted events lead from a world to another
-abbrev pub LeadsTo : World → List Event → World → Type 0
-LeadsTo w [] next = w ≡ next
-LeadsTo w (e ∷ es) next = (between : World) × (reply : Reply) × (step w e ≡ Ok (between, reply)) × LeadsTo between es next
-
 -- The headline: for every list of events that keeps the premises, at every moment at most one station may initiate, the trace alone names it, and each initiator telegram is legal after the one before it. Every moment is the end of a list.
 abbrev pub TokenTheorem : Type 0
 TokenTheorem = (p : Params) (specs : List TapSpec) (events : List Event) (new w : World) → IsValid p → AllFit specs → AreEvents events
-    → new_world p specs ≡ Ok new → LeadsTo new events w → first_broken new events ≡ None → HasOneHolder w
+    → new_world p specs ≡ Ok new → RunsTo new events w → first_broken new events ≡ None → HasAtMostOneHolder w
 
--- events that lose no telegram, and let no turn come late
-abbrev pub NoneLate : World → List Event → Type 0
-NoneLate w [] = Unit {0}
-NoneLate w (e ∷ es) = (loses e ≡ true → ⊥) × (comes_late w e ≡ true → ⊥) × ((next : World) (reply : Reply) → step w e ≡ Ok (next, reply) → NoneLate next es)
+-- events of which none loses a telegram or lets a turn come late
+abbrev pub NoneLosesOrComesLate : World → List Event → Type 0
+NoneLosesOrComesLate w [] = Unit {0}
+NoneLosesOrComesLate w (e ∷ es) = (loses e ≡ true → ⊥) × (comes_late w e ≡ true → ⊥) × ((next : World) (reply : Reply) → step w e ≡ Ok (next, reply) → NoneLosesOrComesLate next es)
 
 -- The silence bound: a running master that isn't offline is never left without activity for longer than its time-out and the lag. For a bus without delay: with one, activity counts when it is sent, and the bound is a delay longer.
 abbrev pub SilenceBound : Type 0
 SilenceBound = (p : Params) (specs : List TapSpec) (events : List Event) (new w : World) (i m : ℕ) (t : Tap) → IsValid p → AllFit specs → AreEvents events
-    → new_world p specs ≡ Ok new → LeadsTo new events w → NoneLate new events
+    → new_world p specs ≡ Ok new → RunsTo new events w → NoneLosesOrComesLate new events
     → slice_get w.taps i ≡ Some t → t.running ≡ true → t.spec.master ≡ true → (is_offline t.station.phase ≡ true → ⊥)
     → t.since ≤ m → m < w.now → is_silent p.ttd i w.trace m w.now ≡ true → w.now ≤ m + (tto p t.spec.address + p.lag)

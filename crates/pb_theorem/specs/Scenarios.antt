@@ -35,12 +35,12 @@ named_throughout w (e ∷ es) = holder_is_named w && named_throughout (world_aft
 pub record Verdict : Type 0 where
   pub premise : Option Broken
   pub illegal : Option ℕ
-  pub told : Bool
+  pub holders_named : Bool
 
 abbrev pub judged : World → List Event → Verdict
 judged w events =
     let last = replay w events in
-    record { premise = first_broken w events; illegal = first_illegal last.params (specs_of last) last.trace; told = named_throughout w events }
+    record { premise = first_broken w events; illegal = first_illegal last.params (specs_of last) last.trace; holders_named = named_throughout w events }
 
 abbrev pub verdict_from : Result World NewFault → List Event → Option Verdict
 verdict_from (Ok w) events = Some (judged w events)
@@ -53,11 +53,11 @@ abbrev pub verdict_of : List TapSpec → List Event → Option Verdict
 verdict_of specs events = verdict_on example_bus specs events
 
 abbrev pub kept : Option Verdict
-kept = Some (record { premise = None; illegal = None; told = true })
+kept = Some (record { premise = None; illegal = None; holders_named = true })
 
 -- a premise breaks, at a moment
 abbrev pub breaks : (number clock : ℕ) → Option ℕ → Bool → Option Verdict
-breaks number clock illegal told = Some (record { premise = Some (record { number = number; clock = clock }); illegal = illegal; told = told })
+breaks number clock illegal holders_named = Some (record { premise = Some (record { number = number; clock = clock }); illegal = illegal; holders_named = holders_named })
 
 -- ---- other buses and stations
 

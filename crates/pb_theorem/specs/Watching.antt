@@ -32,9 +32,9 @@ new_meet delay [] last = false
 new_meet delay (one ∷ []) last = meets_last delay one last
 new_meet delay (one ∷ other ∷ more) last = true
 
-abbrev pub last_of : List Waited → Option Waited → Option Waited
-last_of [] last = last
-last_of (one ∷ more) last = Some one
+abbrev pub last_waited : List Waited → Option Waited → Option Waited
+last_waited [] last = last
+last_waited (one ∷ more) last = Some one
 
 -- what follows an event that leads from one world to the next
 abbrev pub watched_after : Watched → World → Event → World → Watched
@@ -42,7 +42,7 @@ watched_after v w e next =
     let new = waited_by next 0 next.taps in
     record {
       quiet = if passes_busy w e then next.now else v.quiet;
-      waited = last_of new v.waited;
+      waited = last_waited new v.waited;
       broken = broken_or v.broken next.now (first_number (has_namesakes next.taps) (loses e) (comes_late w e) (new_meet next.params.ttd new v.waited));
     }
 

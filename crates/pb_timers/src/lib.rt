@@ -8,7 +8,7 @@ mod durations;
 mod moments;
 mod params;
 
-pub use durations::bits;
+pub use durations::{CHARACTER_BITS, bits};
 pub use moments::{ClockFull, Moment};
 pub use params::{BusParams, ParamFault};
 

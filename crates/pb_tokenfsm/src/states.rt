@@ -13,7 +13,7 @@ use pb_telegram::{Telegram, write};
 use pb_timers::Moment;
 
 /// How often the token is tried at a successor.
-const TRIES: u8 = 3;
+pub const TRIES: u8 = 3;
 
 /// The token has been passed, and the station waits for a sign that it was taken.
 #[derive(Debug, Drop)]

@@ -1,6 +1,6 @@
 -- What the laws of a turn speak of.
-use Rattle.std.specs.Prelude.{◌≡◌, ℕ, ◌+◌, ◌<◌, ◌≤◌, Bool, true, false, ◌&&◌, ◌||◌, List, [], slice_index, length, All, Option, IfSome, IsSome, None}
-use Rattle.pb_telegram.specs.Faults.{is_token, has_control, da_place}
+use Rattle.std.specs.Prelude.{◌≡◌, ℕ, ◌+◌, ◌<◌, ◌≤◌, Bool, true, false, ◌&&◌, ◌||◌, List, [], length, All, Option, IfSome, IsSome, None}
+use Rattle.pb_telegram.specs.Faults.{is_token, has_control}
 use Rattle.pb_timers.specs.Timers.{Params}
 use Rattle.pb_cycles.specs.Fields.{Fields}
 use Rattle.pb_cycles.specs.Initiating.{retry_of}
@@ -8,6 +8,7 @@ use Rattle.pb_cycles.specs.Messages.{has_bit, address_in, frame_octets, reply_oc
 use Rattle.pb_cycles.specs.RequestFields.{RequestFields}
 use Rattle.pb_cycles.specs.Requests.{IsAddressed}
 use Rattle.pb_cycles.specs.declared.initiators.OpenRequest.{OpenRequest}
+use Rattle.pb_turn.specs.Arrivals.{fields_of}
 use Rattle.pb_turn.specs.Phases.{Phase, Offline, PassiveIdle, Listening, Idle, Claim, Use, AwaitData, AwaitStatus, Pass, Checking}
 use Rattle.pb_turn.specs.Stations.{Station, Cycles, Reply, due_of, speaks_at}
 
@@ -64,7 +65,7 @@ status_reply_of p s at f fc joins = record {
 
 -- octets that only the station with the token may send: those of a token, or of a request
 abbrev pub are_initiator : List ℕ → Bool
-are_initiator xs = is_token xs || (has_control xs && has_bit (slice_index xs (da_place xs + 2)) 6)
+are_initiator xs = is_token xs || (has_control xs && has_bit (fields_of xs).fc 6)
 
 -- octets of a telegram that a station without the token may say
 pub record IsReply (octets : List ℕ) : Type 0 where

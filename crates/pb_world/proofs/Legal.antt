@@ -1,5 +1,5 @@
 -- One step of the pass over a trace, and the addresses of taps.
-use Rattle.std.proofs.Common.{◌≡◌, ◌∙◌, ap, sym, refl, arith, ℕ, zero, suc, ◌+◌, ◌≤◌, length, drop, List, [], ◌∷◌, map, true, false, if◌then◌else◌, Option, Some, None, Ok}
+use Rattle.std.proofs.Common.{◌≡◌, ◌∙◌, ap, sym, refl, arith, ℕ, zero, suc, ◌+◌, ◌≤◌, length, drop, List, [], ◌∷◌, map, true, false, if◌then◌else◌, Option, Some, None}
 use Rattle.std.specs.Prelude.{slice_get}
 use Rattle.std.specs.Option.{option_map}
 use Rattle.std.proofs.lemmas.Option.{slice_get-map}
@@ -11,11 +11,6 @@ use Rattle.pb_timers.specs.Timers.{Params}
 use Rattle.pb_model.specs.Trace.{Entry}
 use Rattle.pb_model.specs.Medium as model
 use Rattle.pb_theorem.specs.Judging.{Ends, LastInitiator, with_end, last_after, may_come, judged_from}
-use Rattle.pb_model.specs.World.{World, Event, new_world}
-use Rattle.pb_theorem.specs.Headline.{LeadsTo}
-use Rattle.pb_theorem.specs.Judging.{Stands}
-use Rattle.pb_theorem.proofs.Ordered.{leads-in-order}
-use Rattle.pb_bus.specs.Worlds.{RunsTo}
 use Rattle.pb_theorem.specs.Legality.{address_in, address_at}
 use Rattle.pb_taps.specs.declared.taps.Tap.{Tap}
 use Rattle.pb_world.specs.Judging.{specs_at}
@@ -53,12 +48,3 @@ offers-none a da sa is same = sym (ap (λ b. if b then None else Some da) (eq-eq
 -- nothing is left behind the end of a list
 pub nothing-left : {X Y : Type 0} (f : X → Y) (xs : List X) (i : ℕ) → length xs ≤ i → drop i (map f xs) ≡ []
 nothing-left f xs i behind = drop_all i (map f xs) (omega (arith, length-map xs f, behind))
-
--- events that lead to a world lead to it by the definitions of the theorem
-leads-so : (events : List Event) (w next : World) → RunsTo w events next → LeadsTo w events next
-leads-so [] w next runs = runs
-leads-so (e ∷ es) w next (between, reply, done, rest) = (between, reply, done, leads-so es between next rest)
-
--- the trace of a world that events have led to from a new one stands by begin
-pub runs-in-order : (p : Params) (specs : List model.TapSpec) (events : List Event) (new w : World) → new_world p specs ≡ Ok new → RunsTo new events w → Stands w
-runs-in-order p specs events new w made runs = leads-in-order p specs events new w made (leads-so events new w runs)

@@ -18,7 +18,7 @@ use Rattle.pb_model.proofs.Cases.{by_test}
 use Rattle.pb_theorem.specs.Activity.{is_silent}
 use Rattle.pb_theorem.specs.Premises.{Waited, Broken, Course, is_overdue, is_late, runs_at, has_namesakes, has_waited, waited_by, loses, comes_late, first_number, broken_or, followed, course_of}
 use Rattle.pb_theorem.specs.Quiet.{quiet_at}
-use Rattle.pb_theorem.specs.Watching.{Watched, passes_busy, new_meet, last_of, watched_after, StandsFor}
+use Rattle.pb_theorem.specs.Watching.{Watched, passes_busy, new_meet, last_waited, watched_after, StandsFor}
 use Rattle.pb_theorem.proofs.Quiets.{silent-quiet}
 use Rattle.pb_theorem.proofs.Watching.{quiet-step, stands-followed}
 use Rattle.pb_medium.specs.Airs.{IsCut}
@@ -174,7 +174,7 @@ met-of now [] last all = refl
 met-of now (one ∷ []) last all = ap (λ (n : ℕ). new_meet 0 (record { tap = one.tap; moment = n } ∷ []) last) (sym all.0)
 met-of now (one ∷ other ∷ more) last all = refl
 
-last-is : (now : ℕ) (new : List Waited) (last : Option Waited) → AllAt now new → last_by now (waiting_of new) last ≡ last_of new last
+last-is : (now : ℕ) (new : List Waited) (last : Option Waited) → AllAt now new → last_by now (waiting_of new) last ≡ last_waited new last
 last-is now [] last all = refl
 last-is now (one ∷ []) last all = ap (λ (n : ℕ). Some (record { tap = one.tap; moment = n })) (sym all.0)
 last-is now (one ∷ other ∷ more) last all = ap (λ (n : ℕ). Some (record { tap = one.tap; moment = n })) (sym all.0)
@@ -182,7 +182,7 @@ last-is now (one ∷ other ∷ more) last all = ap (λ (n : ℕ). Some (record {
 pub met-now : (w : World) (last : Option Waited) → met_by w.now (waiting_of (waited_by w 0 w.taps)) last ≡ new_meet 0 (waited_by w 0 w.taps) last
 met-now w last = met-of w.now (waited_by w 0 w.taps) last (all-at w 0 w.taps)
 
-pub last-now : (w : World) (last : Option Waited) → last_by w.now (waiting_of (waited_by w 0 w.taps)) last ≡ last_of (waited_by w 0 w.taps) last
+pub last-now : (w : World) (last : Option Waited) → last_by w.now (waiting_of (waited_by w 0 w.taps)) last ≡ last_waited (waited_by w 0 w.taps) last
 last-now w last = last-is w.now (waited_by w 0 w.taps) last (all-at w 0 w.taps)
 
 -- ---- one of the taps by its place
@@ -228,7 +228,7 @@ pub after-is : (v : Watched) (w next : World) (e : Event) (quiet : ℕ) (waited 
 after-is v w next e quiet waited broken busy namesakes lost late met number waiting sound isbusy islost islate isquiet iswaiting iswaited ismet isnamesakes isnumber isbroken =
     let new = waited_by next 0 next.taps in
     let same_quiet : quiet ≡ (if passes_busy w e then next.now else v.quiet) = isquiet ∙ ap (λ (b : Bool). if b then next.now else v.quiet) isbusy in
-    let same_waited : waited ≡ last_of new v.waited = iswaited ∙ ap (λ (o : Option (ℕ × Bool)). last_by next.now o v.waited) iswaiting ∙ last-now next v.waited in
+    let same_waited : waited ≡ last_waited new v.waited = iswaited ∙ ap (λ (o : Option (ℕ × Bool)). last_by next.now o v.waited) iswaiting ∙ last-now next v.waited in
     let same_met : met ≡ new_meet next.params.ttd new v.waited =
     ismet ∙ ap (λ (o : Option (ℕ × Bool)). met_by next.now o v.waited) iswaiting ∙ met-now next v.waited ∙ ap (λ (d : ℕ). new_meet d new v.waited) (sym sound.no_delay) in
     let same_number : number ≡ first_number (has_namesakes next.taps) (loses e) (comes_late w e) (new_meet next.params.ttd new v.waited) =
@@ -238,7 +238,7 @@ after-is v w next e quiet waited broken busy namesakes lost late met number wait
     isbroken ∙ ap (λ (o : Option ℕ). broken_or v.broken next.now o) same_number in
     let first : ℕ → Watched = λ n. record { quiet = n; waited = waited; broken = broken } in
     let second : Option Waited → Watched = λ o. record { quiet = (if passes_busy w e then next.now else v.quiet); waited = o; broken = broken } in
-    let third : Option Broken → Watched = λ o. record { quiet = (if passes_busy w e then next.now else v.quiet); waited = last_of new v.waited; broken = o } in
+    let third : Option Broken → Watched = λ o. record { quiet = (if passes_busy w e then next.now else v.quiet); waited = last_waited new v.waited; broken = o } in
     ap first same_quiet ∙ ap second same_waited ∙ ap third same_broken
 
 pub goes-on : (v after : Watched) (w next : World) (e : Event) (reply : Reply) → IsSound w → IsSound next → step w e ≡ Ok (next, reply) → after ≡ watched_after v w e next

@@ -1,8 +1,7 @@
 -- A run goes on by one event.
 use Rattle.std.proofs.Common.{◌≡◌, sym, subst, refl, ◌++◌, List, [], ◌∷◌, Ok}
 use Rattle.pb_model.specs.World.{World, Event, Reply}
-use Rattle.pb_model.specs.Step.{step}
-use Rattle.pb_bus.specs.Worlds.{RunsTo}
+use Rattle.pb_model.specs.Step.{step, RunsTo}
 
 pub runs-on : (w between next : World) (events : List Event) (e : Event) (reply : Reply) → RunsTo w events between → step between e ≡ Ok (next, reply)
     → RunsTo w (events ++ e ∷ []) next

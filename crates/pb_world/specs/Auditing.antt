@@ -9,7 +9,8 @@ use Rattle.pb_theorem.specs.Legality.{first_illegal}
 use Rattle.pb_theorem.specs.Premises.{first_broken}
 use Rattle.pb_taps.specs.Faults.{RefusesNew}
 use Rattle.pb_world.specs.Premises.{broken_of}
-use Rattle.pb_bus.specs.Worlds.{RunsTo, StopsAt}
+use Rattle.pb_model.specs.Step.{RunsTo}
+use Rattle.pb_bus.specs.Worlds.{StopsAt}
 use Rattle.pb_world.specs.declared.findings.Audit.{Audit}
 use Rattle.pb_world.specs.declared.findings.AuditFault.{AuditFault}
 use Rattle.pb_world.specs.declared.findings.AuditFault.TheVariants as audit

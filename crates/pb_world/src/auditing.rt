@@ -6,7 +6,8 @@ ghost use Rattle.pb_bus.specs.Buses.{world_of, IsBlank, IsKept};
 ghost use Rattle.pb_taps.specs.Events.{event_of};
 ghost use Rattle.pb_world.specs.Premises.{broken_of};
 ghost use Rattle.pb_taps.specs.Taps.{spec_of};
-ghost use Rattle.pb_bus.specs.Worlds.{RunsTo, StopsAt};
+ghost use Rattle.pb_bus.specs.Worlds.{StopsAt};
+ghost use Rattle.pb_model.specs.Step.{RunsTo};
 
 use crate::findings::{Audit, AuditFault};
 use crate::legality::first_illegal;

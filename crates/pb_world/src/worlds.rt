@@ -1,6 +1,7 @@
 ghost use Rattle.std.specs.Prelude.{◌≡◌, OnOk, IfErr, map};
 ghost use Rattle.pb_taps.specs.Events.{event_of};
-ghost use Rattle.pb_bus.specs.Worlds.{RunsTo, StopsAt};
+ghost use Rattle.pb_bus.specs.Worlds.{StopsAt};
+ghost use Rattle.pb_model.specs.Step.{RunsTo};
 
 use pb_bus::{Bus, new_bus};
 use pb_medium::Entry;

@@ -1,6 +1,7 @@
 -- The first full tap is the one at the position, or is among those behind it.
 use Rattle.std.proofs.Common.{◌≤◌, ◌<◌, ◌+◌, ◌∙◌, ap, sym, map, length, drop, arith, length-append}
 use Rattle.std.proofs.lemmas.List.{length-map}
+use Rattle.pb_model.specs.World.{mark_limit}
 use Rattle.pb_model.specs.Step as step
 use Rattle.pb_medium.specs.Entries.{entry_of}
 use Rattle.pb_station.specs.MarkViews.{mark_of}
@@ -16,7 +17,7 @@ returns-then-marks-news_count-gt-MARK_LIMIT c =
     let at = c.loop-position.position in
     let x = c.index-taps-position.result in
     let more = news at_once at (tap_of x) trace c.args.from c.args.to in
-    let full : 64 < length (with_news at_once at (tap_of x) trace c.args.from c.args.to).marks =
+    let full : mark_limit < length (with_news at_once at (tap_of x) trace c.args.from c.args.to).marks =
     omega (arith, c.news_count.ensures.count, length-append x.marks more, ap length c.marks.ensures, length-map c.marks.result.now mark_of) in
     sym (c.loop-position.invariant
     ∙ ap (step.first_full at) (from-position tap_of at_once trace c.args.from c.args.to c.args.taps.now at x c.loop-position-test.true c.index-taps-position.is)
@@ -29,7 +30,7 @@ loop-position-preserved c =
     let at = c.loop-position.position in
     let x = c.index-taps-position.result in
     let more = news at_once at (tap_of x) trace c.args.from c.args.to in
-    let fits : length (with_news at_once at (tap_of x) trace c.args.from c.args.to).marks ≤ 64 =
+    let fits : length (with_news at_once at (tap_of x) trace c.args.from c.args.to).marks ≤ mark_limit =
     omega (arith, c.news_count.ensures.count, length-append x.marks more, ap length c.marks.ensures, length-map c.marks.result.now mark_of) in
     c.loop-position.invariant
     ∙ ap (step.first_full at) (from-position tap_of at_once trace c.args.from c.args.to c.args.taps.now at x c.loop-position-test.true c.index-taps-position.is)

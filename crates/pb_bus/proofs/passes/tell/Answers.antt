@@ -1,6 +1,7 @@
 -- A pass tells a tap.
 use Rattle.std.proofs.Common.{◌≡◌, ℕ, ◌≤◌, ◌<◌, ◌+◌, List, [], ◌++◌, ◌∷◌, Bool, true, false, ◌∙◌, refl, ap, sym, map, length, arith, length-append, append_assoc}
 use Rattle.std.proofs.lemmas.List.{append-nil}
+use Rattle.pb_model.specs.World.{mark_limit}
 use Rattle.pb_telegram.specs.declared.chars.RxChar.{RxChar}
 use Rattle.pb_turn.specs.Marks.{Mark, End}
 use Rattle.pb_model.specs.Trace.{Entry}
@@ -27,7 +28,7 @@ ends-as-before : (position : ℕ) (old now : Tap) (trace : List Entry) (from to 
 ends-as-before position old now trace from to begins marks b = b.end ∙ ap (λ (t : Tap). burst_ends (sensed at_once position t.since trace) to) b.is
 
 room-for-end : (position : ℕ) (old now : Tap) (trace : List Entry) (from to : ℕ) (begins : Bool) (marks : List Mark) → Begun position old now trace from to begins marks
-    → (length old.marks + length (news at_once position (tap_of old) trace from to) ≤ 64) → length now.marks < 64
+    → (length old.marks + length (news at_once position (tap_of old) trace from to) ≤ mark_limit) → length now.marks < mark_limit
 room-for-end position old now trace from to begins marks b room =
     let fits = room-running at_once position (tap_of old) trace from to begins true (length old.marks) b.runs b.begin (ends-as-before position old now trace from to begins marks b) room in
     omega (arith, fits, ap (λ (t : Tap). length t.marks) b.is, ap (λ (ms : List Mark). length ms) b.told, length-append old.marks (begin_news begins from to))

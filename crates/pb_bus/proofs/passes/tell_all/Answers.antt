@@ -2,6 +2,7 @@
 use Rattle.std.proofs.Common.{◌≡◌, ◌≤◌, ◌+◌, ◌∙◌, ap, sym, subst, map, length, arith, get_or}
 use Rattle.std.proofs.Math.Seq.{map-set_same}
 use Rattle.std.proofs.lemmas.List.{length-map}
+use Rattle.pb_model.specs.World.{mark_limit}
 use Rattle.pb_model.specs.Medium as model
 use Rattle.pb_medium.specs.Entries.{entry_of}
 use Rattle.pb_bus.specs.Passes.{news, with_news, told_news}
@@ -21,7 +22,7 @@ tell-requires c =
     let is : tap_of (get_or c.loop-position.taps at x) ≡ get_or taps at (tap_of x) =
     changed-at tap_of new c.args.taps.now c.loop-position.taps at x c.loop-position.invariant.told
     (told-length at_once trace c.args.from c.args.to 0 taps ∙ long) c.loop-position-test.true in
-    subst (λ (t : model.Tap). length t.marks + length (news at_once at t trace c.args.from c.args.to) ≤ 64) (sym is)
+    subst (λ (t : model.Tap). length t.marks + length (news at_once at t trace c.args.from c.args.to) ≤ mark_limit) (sym is)
     (room-for-news at_once trace c.args.from c.args.to taps at (tap_of x) c.requires (omega (arith, long, c.loop-position-test.true)))
 
 pub loop-position-preserved : goal.loop-position-preserved

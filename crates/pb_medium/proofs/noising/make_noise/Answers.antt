@@ -8,6 +8,7 @@ use Rattle.pb_model.specs.Trace.{is_noise_at, noisy_until, Noise, with_entry}
 use Rattle.pb_medium.specs.Entries.{entry_of}
 use Rattle.pb_medium.specs.Noising.{has_noise, has_no_room, RefusesNoise}
 use Rattle.pb_medium.specs.Tracing.{RefusesEntry}
+use Rattle.pb_model.specs.World.{trace_limit}
 use Rattle.pb_taps.specs.declared.faults.WorldFault.{WorldFault}
 use Rattle.pb_taps.specs.declared.faults.WorldFault.TheVariants as fault
 use Rattle.pb_taps.proofs.Behind.{on-ok, if-err}
@@ -16,8 +17,8 @@ use Rattle.pb_medium.proofs.noising.make_noise.Goals as goal
 
 -- new noise is refused as any new entry is
 refused : (bits : ℕ) (noisy : Bool) (n : ℕ) (reason : WorldFault) → (bits == 0) ≡ false → noisy ≡ false → RefusesEntry n reason → RefusesNoise bits noisy n reason
-refused bits noisy n fault.TraceFull some silent full = (some, ap (λ b. has_no_room b n) silent ∙ le-leb 100000 n full)
-refused bits noisy n fault.NoMemory some silent room = (some, ap (λ b. has_no_room b n) silent ∙ lt-leb 100000 n room, silent)
+refused bits noisy n fault.TraceFull some silent full = (some, ap (λ b. has_no_room b n) silent ∙ le-leb trace_limit n full)
+refused bits noisy n fault.NoMemory some silent room = (some, ap (λ b. has_no_room b n) silent ∙ lt-leb trace_limit n room, silent)
 refused bits noisy n other some silent wrong = absurd wrong
 
 pub returns-in-Some-clause-ok : goal.returns-in-Some-clause-ok

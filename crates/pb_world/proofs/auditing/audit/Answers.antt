@@ -8,7 +8,7 @@ use Rattle.pb_medium.specs.Entries.{entry_of}
 use Rattle.pb_taps.specs.Events.{event_of}
 use Rattle.pb_world.specs.Judging.{specs_at}
 use Rattle.pb_taps.specs.Taps.{spec_of}
-use Rattle.pb_world.proofs.Legal.{runs-in-order}
+use Rattle.pb_theorem.proofs.Ordered.{leads-in-order}
 use Rattle.pb_world.proofs.auditing.audit.Goals as goal
 
 pub returns-in-Ok-first_broken-clause-ok : goal.returns-in-Ok-first_broken-clause-ok
@@ -18,7 +18,7 @@ returns-in-Ok-first_broken-clause-ok c =
     let sound = c.in-Ok-first_broken.ensures.kept.sound in
     let made = c.in-Ok.ensures.ok in
     let runs = c.in-Ok-first_broken.ensures.runs in
-    let stands = runs-in-order c.args.params (map spec_of c.args.specs.now) (map event_of c.args.events.now) new w made runs in
+    let stands = leads-in-order c.args.params (map spec_of c.args.specs.now) (map event_of c.args.events.now) new w made runs in
     let taps = c.deref.ensures.value in
     let trace = c.deref-in-Ok-first_broken.ensures.value in
     let illegal = c.first_illegal.ensures sound.no_delay (subst (λ es. IsOrdered (map entry_of es)) (sym trace) (is-ordered w sound stands))

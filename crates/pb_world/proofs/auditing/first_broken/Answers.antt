@@ -5,7 +5,7 @@ use Rattle.pb_theorem.specs.Watching.{StandsFor}
 use Rattle.pb_bus.specs.Buses.{world_of}
 use Rattle.pb_taps.specs.Events.{event_of}
 use Rattle.pb_world.specs.Premises.{watched_of, course_at}
-use Rattle.pb_bus.specs.Worlds.{RunsTo}
+use Rattle.pb_model.specs.Step.{RunsTo}
 use Rattle.pb_taps.proofs.Items.{passed-at}
 use Rattle.pb_world.proofs.Premising.{course-more, world-followed}
 use Rattle.pb_world.proofs.Running.{runs-on}

@@ -5,7 +5,7 @@ use Rattle.pb_theorem.specs.Watching.{StandsFor}
 use Rattle.pb_bus.specs.Buses.{world_of, IsKept}
 use Rattle.pb_taps.specs.Events.{event_of}
 use Rattle.pb_world.specs.Premises.{watched_of, course_at}
-use Rattle.pb_bus.specs.Worlds.{RunsTo}
+use Rattle.pb_model.specs.Step.{RunsTo}
 use Rattle.pb_world.proofs.auditing.first_broken.Given as goal
 
 -- the watch stands for the course of the events so far

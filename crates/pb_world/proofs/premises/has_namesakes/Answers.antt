@@ -1,5 +1,6 @@
 use Rattle.std.proofs.Common.{◌≡◌, ◌∙◌, ap, sym, subst, arith, ℕ, ◌+◌, ◌-◌, ◌<◌, ◌&&◌, ◌||◌, Bool, List, ◌∷◌, map, length, false, true, refl, slice_set, replicate}
 use Rattle.std.specs.Prelude.{drop, get_or}
+use Rattle.std.proofs.lemmas.Bool.{and_left}
 use Rattle.std.proofs.lemmas.List.{drop_all, length-map, length-set}
 use Rattle.pb_theorem.specs.Premises.{has_namesakes}
 use Rattle.pb_taps.specs.Taps.{tap_of}
@@ -34,9 +35,6 @@ returns-then-running_at-address c =
     sym (namesakes-behind (map tap_of taps) (place - 1)
     (namesake-noted table _ (drop place (map tap_of taps)) (tap_of t) left (omega (arith, c.address.ensures.value, c.address.ensures.bound)) c.loop-place.invariant.noted c.if-tap.true taken))
 
-stopped : (running taken : Bool) → running ≡ false → (running && taken) ≡ false
-stopped running taken is = ap (λ (b : Bool). b && taken) is
-
 untaken : (running taken : Bool) → running ≡ true → taken ≡ false → (running && taken) ≡ false
 untaken running taken runs is = ap (λ (b : Bool). b && taken) runs ∙ is
 
@@ -52,7 +50,7 @@ loop-place-preserved c =
     let small : (tap_of t).spec.address < 127 = omega (arith, c.address.ensures.value, c.address.ensures.bound) in
     let free : (t.running && get_or table c.from-address.result false) ≡ false = elim c.else-tap.branch [
       | else-tap-via-then-tap+else-running_at-address w ↦ untaken t.running (get_or table c.from-address.result false) w.if-tap.true w.if-running_at-address.false
-      | else-tap-via-else-tap w ↦ stopped t.running (get_or table c.from-address.result false) w.if-tap.false
+      | else-tap-via-else-tap w ↦ and_left t.running (get_or table c.from-address.result false) w.if-tap.false
     ] in
     record {
       none = no-namesake table _ rest (tap_of t) left small c.loop-place.invariant.noted

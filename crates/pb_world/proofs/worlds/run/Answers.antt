@@ -1,8 +1,7 @@
 use Rattle.std.proofs.Common.{◌≡◌, sym, subst, Ok}
 use Rattle.pb_model.specs.World.{Event}
-use Rattle.pb_model.specs.Step.{step}
+use Rattle.pb_model.specs.Step.{step, RunsTo}
 use Rattle.pb_taps.specs.Events.{event_of, reply_of}
-use Rattle.pb_bus.specs.Worlds.{RunsTo}
 use Rattle.pb_taps.proofs.Items.{passed-at}
 use Rattle.pb_world.proofs.Running.{runs-on}
 use Rattle.pb_world.proofs.worlds.run.Goals as goal

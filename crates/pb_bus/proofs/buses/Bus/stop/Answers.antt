@@ -12,7 +12,8 @@ use Rattle.pb_bus.specs.Buses.{world_of, IsKept}
 use Rattle.pb_medium.specs.Entries.{entry_of}
 use Rattle.pb_taps.specs.Events.{reply_of}
 use Rattle.pb_taps.specs.Faults.{Refuses}
-use Rattle.pb_bus.specs.Stopping.{halted_tap, IsStopped, RefusesStop}
+use Rattle.pb_taps.specs.Turning.{RefusesStopped}
+use Rattle.pb_bus.specs.Stopping.{halted_tap, IsStopped}
 use Rattle.pb_taps.specs.Taps.{tap_of, seat_of, AreSeated}
 use Rattle.pb_bus.specs.declared.buses.Bus.{Bus}
 use Rattle.pb_taps.specs.declared.faults.WorldFault.{WorldFault}
@@ -23,7 +24,7 @@ use Rattle.pb_taps.proofs.Seats.{same-seats}
 use Rattle.pb_bus.proofs.Stepping.{in-err, sound-after, stop-done, stop-missing, stop-stopped, cut-with, from-cut}
 use Rattle.pb_bus.proofs.buses.Bus.stop.Goals as goal
 
-refused : (b : Bus) (i : ℕ) (reason : WorldFault) → RefusesStop b.taps.items i reason → Refuses (world_of b) (Stop i) (step_stop (world_of b) i (slice_get (world_of b).taps i)) reason
+refused : (b : Bus) (i : ℕ) (reason : WorldFault) → RefusesStopped b.taps.items i reason → Refuses (world_of b) (Stop i) (step_stop (world_of b) i (slice_get (world_of b).taps i)) reason
 refused b i fault.NoSuchTap missing = stop-missing (world_of b) i (slice_get-map tap_of b.taps.items i ∙ ap (option_map tap_of) missing)
 refused b i fault.NotRunning (t, at, down) = stop-stopped (world_of b) i (tap_of t) (slice_get-map tap_of b.taps.items i ∙ ap (option_map tap_of) at) down
 refused b i other wrong = absurd wrong
@@ -60,7 +61,7 @@ returns-in_err-stop_recent-clause-follows c =
       ap (λ es. record w { trace = es; taps = map tap_of (take bus.taps.len (c.stop_recent.new.taps ++ drop (length c.stop_recent.new.taps) bus.taps.items)) })
           (ap (map entry_of) trace-back ∙ kept.0 ∙ ap (map entry_of) entries)
           ∙ ap (λ ts. record w { taps = map tap_of ts }) (taps-back ∙ kept.1 ∙ items),
-      refused bus c.args.tap reason (subst (λ ts. RefusesStop ts c.args.tap reason) items c.in_err-stop_recent.ensures.fault),
+      refused bus c.args.tap reason (subst (λ ts. RefusesStopped ts c.args.tap reason) items c.in_err-stop_recent.ensures.fault),
     )
 
 pub returns-clause-follows : goal.returns-clause-follows

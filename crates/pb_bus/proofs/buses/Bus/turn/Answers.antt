@@ -4,6 +4,7 @@ use Rattle.std.specs.Option.{option_map}
 use Rattle.std.proofs.lemmas.List.{length-map, length-set, map-set}
 use Rattle.std.proofs.lemmas.Option.{slice_get-map, slice_get_within}
 use Rattle.pb_model.specs.Laws.{AllInOrder}
+use Rattle.pb_model.specs.Step.{with_said}
 use Rattle.pb_model.specs.World.{Turn}
 use Rattle.pb_turn.specs.Turns.{turn_of}
 use Rattle.pb_medium.specs.Airs.{IsCut}
@@ -11,7 +12,7 @@ use Rattle.pb_bus.specs.Buses.{world_of}
 use Rattle.pb_medium.specs.Entries.{entry_of}
 use Rattle.pb_taps.specs.Taps.{tap_of, seat_of, AreSeated}
 use Rattle.pb_taps.specs.Turning.{octets_of}
-use Rattle.pb_medium.specs.Speaking.{with_said, is_full, RefusesSaid}
+use Rattle.pb_medium.specs.Speaking.{is_full, RefusesSaid}
 use Rattle.pb_taps.proofs.Behind.{written-back}
 use Rattle.pb_taps.proofs.Seats.{seat-of-tap, same-seats}
 use Rattle.pb_taps.proofs.Turned.{turned-seat, turned-tap}
