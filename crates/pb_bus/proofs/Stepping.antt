@@ -4,7 +4,7 @@ use Rattle.std.specs.Prelude.{take, drop, find, is_none, nat_le, slice_get, slic
 use Rattle.std.proofs.lemmas.List.{take-append-drop, length-take-le}
 use Rattle.std.proofs.Math.Seq.{take-append_seam, drop-append_seam}
 use Rattle.std.proofs.lemmas.Option.{slice_get-get_or}
-use Rattle.pb_cycles.specs.RequestFields.{RequestFields}
+use Rattle.pb_messages.specs.RequestFields.{RequestFields}
 use Rattle.pb_turn.specs.Stations.{Station, list_for, pushed}
 use Rattle.pb_model.specs.Trace.{Hit, Record, cut_end, cut_at, Entry, Sent, Noise, entry_begin, goes_before, with_entry, is_noise_at, noisy_until, begins_from, unheard_at}
 use Rattle.pb_model.specs.Medium.{Tap, entry_at, ends_between, reaches, heard_by}

@@ -3,9 +3,9 @@ use Rattle.std.proofs.Common.{◌≡◌, ◌∙◌, ap, sym, refl, ℕ, Bool, tr
 use Rattle.std.specs.Option.{option_map}
 use Rattle.std.specs.Prelude.{is_some, ◌+◌}
 use Rattle.pb_timers.specs.Timers.{Params}
+use Rattle.pb_messages.specs.declared.messages.Message.{Message}
 use Rattle.pb_cycles.specs.Initiating.{outcome_of, closed_by}
 use Rattle.pb_cycles.specs.declared.initiators.OpenRequest.{OpenRequest}
-use Rattle.pb_cycles.specs.declared.messages.Message.{Message}
 use Rattle.pb_cycles.specs.declared.outcomes.Outcome.{Outcome}
 use Rattle.pb_turn.specs.Hearing.{asked_station, outcome_at, cycle_closed, data_told, no_reply}
 use Rattle.pb_turn.specs.Phases.{Use}

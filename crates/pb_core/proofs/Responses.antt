@@ -2,11 +2,11 @@
 use Rattle.std.proofs.Common.{◌≡◌, ◌∙◌, ap, refl, ℕ, ◌+◌, true, false, List, Option, Some, None}
 use Rattle.std.specs.Option.{option_map, option_or}
 use Rattle.pb_timers.specs.Timers.{Params}
-use Rattle.pb_cycles.specs.Messages.{message_of, reply_octets}
+use Rattle.pb_messages.specs.Messages.{message_of, reply_octets}
+use Rattle.pb_messages.specs.declared.messages.Message.{Message}
+use Rattle.pb_messages.specs.declared.messages.Reply.{Reply}
 use Rattle.pb_cycles.specs.Responding.{reply_to_message, after_message}
 use Rattle.pb_cycles.specs.Tables.{ResponderTable}
-use Rattle.pb_cycles.specs.declared.messages.Message.{Message}
-use Rattle.pb_cycles.specs.declared.messages.Reply.{Reply}
 use Rattle.pb_telegram.specs.declared.telegrams.Telegram.{Telegram}
 use Rattle.pb_telegram.specs.declared.telegrams.Telegram.TheVariants.{Short, Var, Fixed8, Token, Ack}
 use Rattle.pb_turn.specs.Hearing.{in_ring, passive, idle_hears, passive_hears}

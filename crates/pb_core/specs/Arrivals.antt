@@ -1,6 +1,6 @@
 -- What a whole telegram, or none, brings.
 use Rattle.std.specs.Prelude.{Bool, true, false, [], Option, Some, None}
-use Rattle.pb_cycles.specs.Messages.{has_bit}
+use Rattle.pb_messages.specs.Messages.{has_bit}
 use Rattle.pb_telegram.specs.declared.telegrams.Telegram.{Telegram}
 use Rattle.pb_telegram.specs.declared.telegrams.Telegram.TheVariants as telegram
 use Rattle.pb_turn.specs.Arrivals.{Arrival, Token, Framed, Acknowledgement, NoTelegram}

@@ -1,8 +1,8 @@
 //! What a station keeps of its message cycles.
 
 ghost use Rattle.std.specs.Prelude.{◌≡◌, ◌≤◌, ◌<◌, length, is_some, Some, None, OnOk, OnErr, MatchResult};
+ghost use Rattle.pb_messages.specs.Messages.{message_of};
 ghost use Rattle.pb_cycles.specs.Initiating.{outcome_of};
-ghost use Rattle.pb_cycles.specs.Messages.{message_of};
 ghost use Rattle.pb_turn.specs.Stations.{new_cycles, queued, list_for};
 ghost use Rattle.pb_turn.specs.Hearing.{outcome_at, cycle_closed};
 ghost use Rattle.pb_core.specs.Cycles.{cycles_of};

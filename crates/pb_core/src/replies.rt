@@ -1,7 +1,7 @@
 ghost use Rattle.std.specs.Prelude.{◌≡◌, ◌≤◌, [], ◌+◌, ◌*◌, false};
 ghost use Rattle.std.specs.Option.{option_map};
 ghost use Rattle.pb_telegram.specs.Grammar.{spelling};
-ghost use Rattle.pb_cycles.specs.Messages.{frame_octets, address_in, message_of};
+ghost use Rattle.pb_messages.specs.Messages.{frame_octets, address_in, message_of};
 ghost use Rattle.pb_turn.specs.Hearing.{asks_status};
 ghost use Rattle.pb_core.specs.Clocks.{last_turn};
 ghost use Rattle.pb_turn.specs.Phases.{Phase};

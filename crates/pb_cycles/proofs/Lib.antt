@@ -3,6 +3,4 @@ pub mod Hearing
 pub mod Linking
 pub mod Meaning
 pub mod NewestActs
-pub mod SaidOctets
-pub mod Waiting
 pub mod RequestBits

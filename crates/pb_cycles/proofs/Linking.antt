@@ -3,27 +3,27 @@ use Rattle.std.proofs.Common.{◌≡◌, ◌∙◌, sym, subst, refl, ap, ℕ, �
 use Rattle.std.proofs.lemmas.Bool.{eq-eqb, both_ways, cases_Bool}
 use Rattle.std.proofs.lemmas.List.{get_or-set_same, get_or-replicate, length-set}
 use Rattle.std.proofs.lemmas.List.Elements.{All-append}
+use Rattle.pb_messages.specs.Fields.{Fields}
+use Rattle.pb_messages.specs.Messages.{has_bit, address_in, heard_as}
+use Rattle.pb_messages.specs.RequestFields.{RequestFields}
+use Rattle.pb_messages.specs.Requests.{is_answered, asked_by, code_of}
+use Rattle.pb_messages.specs.declared.messages.Message.{Message}
+use Rattle.pb_messages.specs.declared.messages.Message.TheVariants.{Framed}
+use Rattle.pb_messages.specs.declared.messages.Reply.{Reply}
+use Rattle.pb_messages.specs.declared.services.Asked.{Asked}
+use Rattle.pb_messages.specs.declared.services.Asked.TheVariants.{Send}
+use Rattle.pb_messages.specs.declared.services.Service.{Service}
+use Rattle.pb_messages.specs.declared.services.Service.TheVariants.{Sda, Sdn, Srd}
 use Rattle.pb_cycles.specs.Counts.{count_bits, count_after, count_at}
-use Rattle.pb_cycles.specs.Fields.{Fields}
 use Rattle.pb_cycles.specs.Initiating.{with_request, without_request, retry_of, retried, silence_outcome, after_silence, closed_by, outcome_of}
 use Rattle.pb_cycles.specs.Link.{Link, Fate, RequestLost, ReplyLost, Delivered, Cycle, arrive, unanswered, resend, retry, conclude, receive, sendings, cycle, cycles, IsCallTo, ExecutesOnce}
-use Rattle.pb_cycles.specs.Messages.{has_bit, address_in, heard_as}
-use Rattle.pb_cycles.specs.RequestFields.{RequestFields}
-use Rattle.pb_cycles.specs.Requests.{is_answered, asked_by, code_of}
 use Rattle.pb_cycles.specs.Responding.{same_bit, is_repeat, executed, once, reply_once, kept_reply, service_reply, after_service, reply_to_service, after_asked, reply_to_asked, after_message, reply_to_message}
 use Rattle.pb_cycles.specs.Tables.{InitiatorTable, ResponderTable}
 use Rattle.pb_cycles.specs.declared.counts.FrameCount.{FrameCount}
 use Rattle.pb_cycles.specs.declared.counts.FrameCount.TheVariants.{First, Clear, Set}
 use Rattle.pb_cycles.specs.declared.initiators.OpenRequest.{OpenRequest}
-use Rattle.pb_cycles.specs.declared.messages.Message.{Message}
-use Rattle.pb_cycles.specs.declared.messages.Message.TheVariants.{Framed}
-use Rattle.pb_cycles.specs.declared.messages.Reply.{Reply}
 use Rattle.pb_cycles.specs.declared.outcomes.Outcome.{Outcome}
 use Rattle.pb_cycles.specs.declared.responders.Kept.{Kept}
-use Rattle.pb_cycles.specs.declared.services.Asked.{Asked}
-use Rattle.pb_cycles.specs.declared.services.Asked.TheVariants.{Send}
-use Rattle.pb_cycles.specs.declared.services.Service.{Service}
-use Rattle.pb_cycles.specs.declared.services.Service.TheVariants.{Sda, Sdn, Srd}
 
 -- ---- a call at the responder
 

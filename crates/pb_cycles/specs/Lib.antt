@@ -1,13 +1,8 @@
 pub mod Acts
 pub mod Calls
 pub mod Counts
-pub mod Fields
 pub mod Initiating
 pub mod Link
-pub mod Messages
 pub mod Outcomes
-pub mod Queued
-pub mod RequestFields
-pub mod Requests
 pub mod Responding
 pub mod Tables

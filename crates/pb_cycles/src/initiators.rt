@@ -1,17 +1,14 @@
 ghost use Rattle.std.specs.Prelude.{◌≡◌, ◌≤◌, if◌then◌else◌, is_some, Some, None, replicate, option_map, IfSome};
 ghost use Rattle.pb_telegram.specs.Grammar.{spelling};
 ghost use Rattle.pb_telegram.specs.Initiators as telegram;
-ghost use Rattle.pb_cycles.specs.Messages.{frame_octets, message_of};
+ghost use Rattle.pb_messages.specs.Messages.{frame_octets, message_of};
+ghost use Rattle.pb_messages.specs.declared.messages.Message.TheVariants.{Framed};
 ghost use Rattle.pb_cycles.specs.Initiating.{first_sending, after_request, retry_of, after_retry, outcome_of, after_outcome};
 ghost use Rattle.pb_cycles.specs.declared.counts.FrameCount.TheVariants.{First};
-ghost use Rattle.pb_cycles.specs.declared.messages.Message.TheVariants.{Framed};
 
 use crate::counts::FrameCount;
-use crate::frames::Frame;
-use crate::messages::Message;
 use crate::outcomes::{Outcome, reply_outcome};
-use crate::requests::Request;
-use arrayvec::ArrayVec;
+use pb_messages::{Frame, Message, Request};
 use pb_telegram::Telegram;
 use std::marker::Model;
 

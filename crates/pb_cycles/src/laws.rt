@@ -1,42 +1,22 @@
-ghost use Rattle.std.specs.Prelude.{◌≡◌, ℕ, ◌+◌, ◌≤◌, List, [], ◌∷◌, ◌++◌, Some, None, Option, Bool, replicate, IsTrue, IsFalse, All, length, reverse};
-ghost use Rattle.pb_telegram.specs.Grammar.{spelling};
-ghost use Rattle.pb_telegram.specs.declared.telegrams.Telegram.{Telegram};
+ghost use Rattle.std.specs.Prelude.{◌≡◌, ℕ, ◌+◌, ◌≤◌, List, [], ◌∷◌, ◌++◌, Some, None, Option, Bool, replicate, IsTrue, IsFalse, All, reverse};
+ghost use Rattle.pb_messages.specs.Fields.{Fields};
+ghost use Rattle.pb_messages.specs.RequestFields.{RequestFields};
+ghost use Rattle.pb_messages.specs.Messages.{has_bit, heard_as};
+ghost use Rattle.pb_messages.specs.Requests.{is_answered, IsAddressed};
+ghost use Rattle.pb_messages.specs.declared.messages.Message.{Message};
+ghost use Rattle.pb_messages.specs.declared.services.Service.{Service};
+ghost use Rattle.pb_messages.specs.declared.services.Service.TheVariants.{Sda, Srd};
 ghost use Rattle.pb_cycles.specs.Acts.{Act, Resent, Closed, sending_act, number_to, kth_bits, open_in, InitiatorStandsFor};
 ghost use Rattle.pb_cycles.specs.Calls.{Heard, ResponderStandsFor};
-ghost use Rattle.pb_cycles.specs.Fields.{Fields};
 ghost use Rattle.pb_cycles.specs.Initiating.{bits_for, first_sending, after_request, retry_of, after_retry, outcome_of, after_outcome};
 ghost use Rattle.pb_cycles.specs.Link.{Link, Fate, Cycle, IsCallTo, ExecutesOnce, cycles};
-ghost use Rattle.pb_cycles.specs.RequestFields.{RequestFields};
-ghost use Rattle.pb_cycles.specs.Messages.{has_bit, frame_octets, heard_as, message_in, message_of, reply_octets};
 ghost use Rattle.pb_cycles.specs.Outcomes.{code_outcome, reply_outcome};
-ghost use Rattle.pb_cycles.specs.Queued.{Use, accepted, taken, waiting};
-ghost use Rattle.pb_cycles.specs.Requests.{is_answered, IsAddressed};
 ghost use Rattle.pb_cycles.specs.Responding.{after_message, service_reply};
 ghost use Rattle.pb_cycles.specs.Tables.{InitiatorTable, ResponderTable};
 ghost use Rattle.pb_cycles.specs.declared.counts.FrameCount.TheVariants.{First};
 ghost use Rattle.pb_cycles.specs.declared.initiators.OpenRequest.{OpenRequest};
-ghost use Rattle.pb_cycles.specs.declared.messages.Message.{Message};
-ghost use Rattle.pb_cycles.specs.declared.messages.Message.TheVariants.{Framed};
-ghost use Rattle.pb_cycles.specs.declared.messages.Reply.TheVariants.{Answer, Acknowledge};
 ghost use Rattle.pb_cycles.specs.declared.outcomes.Outcome.{Outcome};
 ghost use Rattle.pb_cycles.specs.declared.outcomes.Outcome.TheVariants.{Acked, Data, NoResource};
-ghost use Rattle.pb_cycles.specs.declared.services.Service.{Service};
-ghost use Rattle.pb_cycles.specs.declared.services.Service.TheVariants.{Sda, Srd};
-
-/// What the octets of a telegram say is what the telegram says; and what is sent as the octets of a
-/// request or reply is heard as it was sent.
-pub fn octets_say_what_the_telegram_says()
-    ensures telegram { (t : Telegram) → message_in (spelling t) ≡ message_of t }
-    ensures frame { (f : Fields) → length f.unit ≤ 246 → message_in (frame_octets f) ≡ Framed f }
-    ensures reply { (f : Fields) → length f.unit ≤ 246 → message_in (reply_octets (Answer f)) ≡ heard_as (Answer f) }
-    ensures acknowledgement { message_in (reply_octets Acknowledge) ≡ heard_as Acknowledge }
-{}
-
-/// A list of a queue is first in first out: whatever is put in and taken out, what was accepted is what
-/// was taken, in order, followed by what waits.
-pub fn a_queue_is_first_in_first_out()
-    ensures { (uses : List Use) → accepted [] uses ≡ taken [] uses ++ waiting [] uses }
-{}
 
 /// What each function code of a reply means, with the data of the reply: OK and NR acknowledge; UE, RR
 /// and RS have no resource; DL, DH, RDL and RDH bring data; no other code is known.

@@ -1,11 +1,10 @@
 ghost use Rattle.std.specs.Prelude.{◌≡◌, ◌≤◌, length, option_map};
-ghost use Rattle.pb_cycles.specs.Messages.{message_of};
+ghost use Rattle.pb_messages.specs.Messages.{message_of};
 ghost use Rattle.pb_cycles.specs.Outcomes.{code_outcome, is_reply_between, reply_outcome, status_reply};
 
-use crate::frames::{Frame, copy_unit};
-use crate::messages::Message;
 use arrayvec::ArrayVec;
-use pb_telegram::{Fc, Telegram};
+use pb_messages::{Frame, Message};
+use pb_telegram::{Fc, Telegram, copy_octets};
 
 /// What came of a request (IEC 61158-4-3, confirmation of a data link service).
 #[derive(Debug, PartialEq, Eq, Drop)]
@@ -27,7 +26,7 @@ impl Outcome {
     {
         match self {
             Outcome::Acked => Outcome::Acked,
-            Outcome::Data(unit) => Outcome::Data(copy_unit(unit)),
+            Outcome::Data(unit) => Outcome::Data(copy_octets(unit)),
             Outcome::NoResource => Outcome::NoResource,
             Outcome::NoAnswer => Outcome::NoAnswer,
         }
@@ -42,7 +41,7 @@ fn code_outcome(code: u8, unit: &[u8]) -> Option<Outcome>
     match code {
         0 | 9 => Some(Outcome::Acked),
         1 | 2 | 3 => Some(Outcome::NoResource),
-        8 | 10 | 12 | 13 => Some(Outcome::Data(copy_unit(unit))),
+        8 | 10 | 12 | 13 => Some(Outcome::Data(copy_octets(unit))),
         _ => None,
     }
 }

@@ -1,13 +1,11 @@
 ghost use Rattle.std.specs.Prelude.{◌≡◌, ◌≤◌, ◌<◌, ◌^◌, length, Some, None, option_map};
 ghost use Rattle.pb_telegram.specs.Grammar.{spelling};
-ghost use Rattle.pb_cycles.specs.Messages.{reply_octets, heard_as, message_of};
+ghost use Rattle.pb_messages.specs.Messages.{reply_octets, heard_as, message_of};
 ghost use Rattle.pb_cycles.specs.Responding.{reply_frame, data_reply, service_reply, is_repeat, counted, once, reply_once, after_service, reply_to_service, after_framed, reply_to_framed, after_message, reply_to_message};
 
-use crate::frames::{Frame, copy_unit};
-use crate::messages::{Message, Reply};
-use crate::services::{Asked, Service};
 use arrayvec::ArrayVec;
-use pb_telegram::{Fc, Telegram};
+use pb_messages::{Asked, Frame, Message, Reply, Service};
+use pb_telegram::{Fc, Telegram, copy_octets};
 use std::marker::Model;
 
 /// What a responder keeps of the last SDA or SRD.
@@ -62,7 +60,7 @@ fn reply_frame(ts: u8, station_type: u8, request: &Frame, code: u8, unit: &[u8])
     ensures { result ≡ reply_frame ts station_type request.now code unit.now }
 {
     let fc = 16 * station_type + code;
-    Reply::Answer(Frame::new(request.sa() % 128, ts, fc, copy_unit(unit)))
+    Reply::Answer(Frame::new(request.sa() % 128, ts, fc, copy_octets(unit)))
 }
 
 /// The reply to an SRD: the reply data with the priority of the request, or none.
@@ -135,7 +133,7 @@ impl Responder {
             executed,
         } = self;
         Responder {
-            reply: copy_unit(reply),
+            reply: copy_octets(reply),
             kept: kept.as_ref().map(Kept::copy),
             executed: *executed,
         }

@@ -1,6 +1,5 @@
 mod cycles;
 mod first_half;
-mod queues;
 mod second_half;
 mod sequences;
 

@@ -8,7 +8,7 @@ use Rattle.pb_refusals.specs.FirstFault.{first_fault, NoneHolds}
 use Rattle.pb_refusals.proofs.FirstFaults.{none_holds}
 use Rattle.pb_timers.specs.Timers.{Params}
 use Rattle.pb_turn.specs.Laws.{IsRequest}
-use Rattle.pb_cycles.specs.RequestFields.{RequestFields}
+use Rattle.pb_messages.specs.RequestFields.{RequestFields}
 use Rattle.pb_turn.specs.Stations.{started, list_for, pushed}
 use Rattle.pb_turn.specs.Turns.{turn_of}
 use Rattle.pb_turn.proofs.Initiating.{fits-turn_of, reply-turn_of}

@@ -1,8 +1,8 @@
 -- Worked scenarios: events, and what they lead to.
 use Rattle.std.specs.Prelude.{ℕ, true, false, List, [], ◌∷◌, map, Option, Some, None, Result, Ok, Err}
-use Rattle.pb_cycles.specs.RequestFields.{RequestFields}
+use Rattle.pb_messages.specs.RequestFields.{RequestFields}
+use Rattle.pb_messages.specs.declared.services.Service.TheVariants.{Srd}
 use Rattle.pb_cycles.specs.declared.outcomes.Outcome.{Outcome}
-use Rattle.pb_cycles.specs.declared.services.Service.TheVariants.{Srd}
 use Rattle.pb_timers.specs.Timers.{Params}
 use Rattle.pb_turn.specs.Phases.{Phase, Checking, Use}
 use Rattle.pb_model.specs.Trace as trace

@@ -2,7 +2,7 @@
 use Rattle.std.proofs.Common.{◌≡◌, ◌∙◌, ap, sym, subst, ℕ, Bool, if◌then◌else◌, List, Option, Some, None}
 use Rattle.std.specs.Prelude.{is_some, IsSome}
 use Rattle.pb_timers.specs.Timers.{Params}
-use Rattle.pb_cycles.specs.RequestFields.{RequestFields}
+use Rattle.pb_messages.specs.RequestFields.{RequestFields}
 use Rattle.pb_turn.specs.Stations.{Station}
 use Rattle.pb_turn.specs.Turns.{says_in_use, says_high, says_low, says_no_request, says_request, high_request, low_request, high_taken, low_taken}
 

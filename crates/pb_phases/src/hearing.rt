@@ -3,8 +3,8 @@
 ghost use Rattle.std.specs.Prelude.{◌≡◌, ◌≤◌, ◌<◌, true, false, ◌+◌, max, if◌then◌else◌, Some, None};
 ghost use Rattle.std.specs.Option.{option_map};
 ghost use Rattle.pb_ring.specs.Las.{is_complete};
+ghost use Rattle.pb_messages.specs.Messages.{message_of};
 ghost use Rattle.pb_cycles.specs.Initiating.{outcome_of};
-ghost use Rattle.pb_cycles.specs.Messages.{message_of};
 ghost use Rattle.pb_turn.specs.Arrivals.{Framed};
 ghost use Rattle.pb_turn.specs.Phases as turn;
 ghost use Rattle.pb_turn.specs.Hearing.{doubled_by, listening_hears, is_taken_from, own_token, foreign_token, token_in_idle, idle_hears, passive_hears, holder_hears, no_reply, data_told, awaiting_data_hears, status_told, awaiting_status_hears, with_token, lost, tells_ready, phase_ended, ended};

@@ -6,15 +6,15 @@ use Rattle.pb_timers.specs.Timers.{Params}
 use Rattle.pb_ring.specs.Gap.{last_asked, next_asked, round_after}
 use Rattle.pb_ring.specs.Las.{place_of, skips_of}
 use Rattle.pb_rotation.specs.Rotation.{Receipt, used}
-use Rattle.pb_cycles.specs.Fields.{Fields}
+use Rattle.pb_messages.specs.Fields.{Fields}
+use Rattle.pb_messages.specs.Messages.{has_bit}
+use Rattle.pb_messages.specs.RequestFields.{RequestFields}
+use Rattle.pb_messages.specs.Requests.{is_answered}
+use Rattle.pb_messages.specs.declared.messages.Message.{Message}
+use Rattle.pb_messages.specs.declared.messages.Message.TheVariants as message
 use Rattle.pb_cycles.specs.Initiating.{retry_of, outcome_of}
-use Rattle.pb_cycles.specs.Messages.{has_bit}
-use Rattle.pb_cycles.specs.RequestFields.{RequestFields}
-use Rattle.pb_cycles.specs.Requests.{is_answered}
-use Rattle.pb_cycles.specs.declared.messages.Message.{Message}
 use Rattle.pb_cycles.specs.declared.outcomes.Outcome.{Outcome}
 use Rattle.pb_cycles.specs.Outcomes.{status_reply}
-use Rattle.pb_cycles.specs.declared.messages.Message.TheVariants as message
 use Rattle.pb_turn.specs.Arrivals.{Arrival, Token, Framed, Acknowledgement, NoTelegram, arrival_of}
 use Rattle.pb_turn.specs.Hearing.{not_answered, data_told, awaiting_data_hears, passive_hears, phase_timed_out, timed_out, after_timer, tries_limit, taking, is_taken_from, skips_limit, own_token, foreign_token, idle_hears, listening_hears, holder_hears, status_told, awaiting_status_hears, with_token, lost, phase_ended, heard, after_mark}
 use Rattle.pb_turn.specs.Marks.{Mark, Begin, End, moment_of}

@@ -1,6 +1,6 @@
 -- A request that is to wait at a tap.
 use Rattle.std.specs.Prelude.{◌≡◌, ℕ, Bool, true, false, ◌&&◌, nat_le, length, List, Some, None, slice_get, slice_set}
-use Rattle.pb_cycles.specs.RequestFields.{RequestFields}
+use Rattle.pb_messages.specs.RequestFields.{RequestFields}
 use Rattle.pb_turn.specs.Stations.{pushed, list_for}
 use Rattle.pb_model.specs.World.{queue_limit}
 use Rattle.pb_taps.specs.declared.faults.WorldFault.{WorldFault}

@@ -4,7 +4,7 @@ use Rattle.std.specs.Prelude.{slice_get, slice_set, is_some, is_none, find}
 use Rattle.std.specs.List.{list_any}
 use Rattle.std.proofs.lemmas.Bool.{and_parts, ltb-true, ltb-false, eqb-true}
 use Rattle.pb_timers.specs.Timers.{Params}
-use Rattle.pb_cycles.specs.RequestFields.{RequestFields}
+use Rattle.pb_messages.specs.RequestFields.{RequestFields}
 use Rattle.pb_turn.specs.Stations.{list_for, pushed}
 use Rattle.pb_turn.specs.Turns.{turn_of}
 use Rattle.pb_model.specs.Trace.{Hit, Record, Entry, Sent, Noise, entry_begin, rank, goes_before, with_entry, cut_end, cut_at, is_noise_at, noisy_until, begins_from, unheard_at}

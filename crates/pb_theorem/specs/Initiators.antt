@@ -1,7 +1,7 @@
 -- Initiator records: telegrams that only the station with the token may send.
 use Rattle.std.specs.Prelude.{ℕ, Bool, true, false, ◌==◌, nat_le, if◌then◌else◌, ◌&&◌, List, [], ◌∷◌, map, Option, Some, None}
 use Rattle.pb_telegram.specs.declared.chars.RxChar.TheVariants.{Good}
-use Rattle.pb_cycles.specs.Messages.{has_bit}
+use Rattle.pb_messages.specs.Messages.{has_bit}
 use Rattle.pb_turn.specs.Arrivals.{Arrival, Token, Framed, Acknowledgement, NoTelegram, arrival_of}
 use Rattle.pb_model.specs.Trace.{Record, Entry, Sent, Noise}
 

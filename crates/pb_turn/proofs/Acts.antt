@@ -5,18 +5,18 @@ use Rattle.std.specs.List.{after_last}
 use Rattle.std.proofs.lemmas.Bool.{eqb-false}
 use Rattle.std.proofs.lemmas.List.{get_or-replicate}
 use Rattle.std.proofs.lemmas.Option.{none-some}
+use Rattle.pb_messages.specs.Fields.{Fields}
+use Rattle.pb_messages.specs.RequestFields.{RequestFields}
+use Rattle.pb_messages.specs.Requests.{is_answered}
+use Rattle.pb_messages.specs.declared.messages.Message.{Message}
 use Rattle.pb_cycles.proofs.Acting.{closed}
 use Rattle.pb_cycles.proofs.NewestActs.{reverse-more, after_last-more, count_by-more}
 use Rattle.pb_cycles.specs.Acts.{Act, Told, Opened, Resent, Closed, sending_act, is_opening_to, is_unanswered_at, number_to, count_of, open_in, retries_in, InitiatorStandsFor}
-use Rattle.pb_cycles.specs.Fields.{Fields}
 use Rattle.pb_cycles.specs.Initiating.{retry_of, after_retry, message_outcome, closed_by, outcome_of, after_outcome, after_silence, after_request, first_sending}
-use Rattle.pb_cycles.specs.RequestFields.{RequestFields}
-use Rattle.pb_cycles.specs.Requests.{is_answered}
 use Rattle.pb_cycles.specs.Tables.{InitiatorTable}
 use Rattle.pb_cycles.specs.declared.counts.FrameCount.{FrameCount}
 use Rattle.pb_cycles.specs.declared.counts.FrameCount.TheVariants.{First}
 use Rattle.pb_cycles.specs.declared.initiators.OpenRequest.{OpenRequest}
-use Rattle.pb_cycles.specs.declared.messages.Message.{Message}
 use Rattle.pb_cycles.specs.declared.outcomes.Outcome.{Outcome}
 use Rattle.pb_turn.specs.Hearing.{asked_station}
 use Rattle.pb_turn.specs.Laws.{IsOpenRequest}

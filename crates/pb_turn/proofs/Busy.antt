@@ -4,15 +4,15 @@ use Rattle.std.specs.Prelude.{is_some, nat_le, nat_lt, max}
 use Rattle.pb_timers.specs.Timers.{Params}
 use Rattle.pb_ring.specs.Gap.{next_asked, last_asked, round_after}
 use Rattle.pb_ring.specs.Las.{place_of, skips_of}
-use Rattle.pb_cycles.specs.Messages.{has_bit}
-use Rattle.pb_cycles.specs.Fields.{Fields}
+use Rattle.pb_messages.specs.Messages.{has_bit}
+use Rattle.pb_messages.specs.Fields.{Fields}
+use Rattle.pb_messages.specs.RequestFields.{RequestFields}
+use Rattle.pb_messages.specs.Requests.{is_answered}
+use Rattle.pb_messages.specs.declared.messages.Message.{Message}
+use Rattle.pb_messages.specs.declared.messages.Message.TheVariants as message
 use Rattle.pb_cycles.specs.Initiating.{retry_of, outcome_of}
 use Rattle.pb_cycles.specs.Outcomes.{status_reply}
-use Rattle.pb_cycles.specs.RequestFields.{RequestFields}
-use Rattle.pb_cycles.specs.Requests.{is_answered}
-use Rattle.pb_cycles.specs.declared.messages.Message.{Message}
 use Rattle.pb_cycles.specs.declared.outcomes.Outcome.{Outcome}
-use Rattle.pb_cycles.specs.declared.messages.Message.TheVariants as message
 use Rattle.pb_turn.specs.Arrivals.{Arrival, Token, Framed, Acknowledgement, NoTelegram, arrival_of}
 use Rattle.pb_turn.specs.Hearing.{not_answered, passive_hears, data_told, awaiting_data_hears, timed_out, after_timer, phase_timed_out, phase_begun, listening_hears, taking, is_taken_from, skips_limit, token_in_idle, idle_hears, holder_hears, status_told, awaiting_status_hears, with_token, lost, phase_ended, heard, after_mark}
 use Rattle.pb_turn.specs.Laws.{IsSilentWhileBusy}

@@ -5,16 +5,16 @@ use Rattle.pb_timers.specs.Timers.{Params}
 use Rattle.pb_ring.specs.Gap.{next_asked, last_asked, round_after}
 use Rattle.pb_ring.specs.Las as las
 use Rattle.pb_ring.specs.Las.{place_of, skips_of}
-use Rattle.pb_cycles.specs.Fields.{Fields}
+use Rattle.pb_messages.specs.Fields.{Fields}
+use Rattle.pb_messages.specs.Messages.{has_bit}
+use Rattle.pb_messages.specs.RequestFields.{RequestFields}
+use Rattle.pb_messages.specs.Requests.{is_answered}
+use Rattle.pb_messages.specs.declared.messages.Message.{Message}
+use Rattle.pb_messages.specs.declared.messages.Message.TheVariants as message
 use Rattle.pb_cycles.specs.Initiating.{first_sending, after_request, retry_of, outcome_of}
-use Rattle.pb_cycles.specs.Messages.{has_bit}
-use Rattle.pb_cycles.specs.RequestFields.{RequestFields}
-use Rattle.pb_cycles.specs.Requests.{is_answered}
 use Rattle.pb_cycles.specs.declared.initiators.OpenRequest.{OpenRequest}
-use Rattle.pb_cycles.specs.declared.messages.Message.{Message}
 use Rattle.pb_cycles.specs.declared.outcomes.Outcome.{Outcome}
 use Rattle.pb_cycles.specs.Outcomes.{status_reply}
-use Rattle.pb_cycles.specs.declared.messages.Message.TheVariants as message
 use Rattle.pb_turn.specs.Arrivals.{Arrival, Token, Framed, Acknowledgement, NoTelegram, arrival_of}
 use Rattle.pb_turn.specs.Hearing.{not_answered, passive_hears, data_told, awaiting_data_hears, phase_timed_out, timed_out, after_timer, tries_limit, asks_status, status_answer, listening_answer, listening_hears, taking, is_taken_from, skips_limit, token_in_idle, idle_hears, holder_hears, status_told, awaiting_status_hears, with_token, lost, phase_ended, heard, after_mark, not_ready, ready_for_ring}
 use Rattle.pb_turn.specs.Laws.{IsRequest, IsOpenRequest, AreCycles, are_initiator, IsReply}

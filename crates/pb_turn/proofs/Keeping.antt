@@ -5,24 +5,24 @@ use Rattle.std.specs.Prelude.{All, IfSome, nat_lt}
 use Rattle.std.proofs.lemmas.List.Elements.{All-drop, All-nil, All-push}
 use Rattle.pb_timers.specs.Timers.{Params}
 use Rattle.pb_rotation.specs.Rotation.{may_low, may_high}
-use Rattle.pb_cycles.specs.Fields.{Fields}
+use Rattle.pb_messages.specs.Fields.{Fields}
+use Rattle.pb_messages.specs.Messages.{has_bit, address_in, reply_octets}
+use Rattle.pb_messages.specs.Queued.{Queued, put}
+use Rattle.pb_messages.specs.RequestFields.{RequestFields}
+use Rattle.pb_messages.specs.Requests.{is_answered, asked_by, IsAddressed}
+use Rattle.pb_messages.specs.declared.messages.Message.{Message}
+use Rattle.pb_messages.specs.declared.messages.Reply.{Reply}
+use Rattle.pb_messages.specs.declared.messages.Reply.TheVariants.{Acknowledge}
+use Rattle.pb_messages.specs.declared.services.Asked.{Asked}
+use Rattle.pb_messages.specs.declared.services.Asked.TheVariants.{Send, Status, Unknown}
+use Rattle.pb_messages.specs.declared.services.Service.{Service}
+use Rattle.pb_messages.specs.declared.services.Service.TheVariants.{Sda, Sdn, Srd}
 use Rattle.pb_cycles.specs.Initiating.{after_request, retried, after_silence, message_outcome, closed_by, after_outcome}
-use Rattle.pb_cycles.specs.Messages.{has_bit, address_in, reply_octets}
-use Rattle.pb_cycles.specs.Queued.{Queued, put}
-use Rattle.pb_cycles.specs.RequestFields.{RequestFields}
-use Rattle.pb_cycles.specs.Requests.{is_answered, asked_by, IsAddressed}
 use Rattle.pb_cycles.specs.Responding.{reply_frame, data_reply, service_reply, is_repeat, executed, kept_reply, once, reply_once, counted, after_service, reply_to_service, after_asked, reply_to_asked, after_framed, reply_to_framed}
 use Rattle.pb_cycles.specs.Tables.{InitiatorTable, ResponderTable}
 use Rattle.pb_cycles.specs.declared.initiators.OpenRequest.{OpenRequest}
-use Rattle.pb_cycles.specs.declared.messages.Message.{Message}
-use Rattle.pb_cycles.specs.declared.messages.Reply.{Reply}
-use Rattle.pb_cycles.specs.declared.messages.Reply.TheVariants.{Acknowledge}
 use Rattle.pb_cycles.specs.declared.outcomes.Outcome.{Outcome}
 use Rattle.pb_cycles.specs.declared.responders.Kept.{Kept}
-use Rattle.pb_cycles.specs.declared.services.Asked.{Asked}
-use Rattle.pb_cycles.specs.declared.services.Asked.TheVariants.{Send, Status, Unknown}
-use Rattle.pb_cycles.specs.declared.services.Service.{Service}
-use Rattle.pb_cycles.specs.declared.services.Service.TheVariants.{Sda, Sdn, Srd}
 use Rattle.pb_turn.specs.Hearing.{cycle_closed, answer_to, answering, passive, in_ring}
 use Rattle.pb_turn.specs.Laws.{Fits, IsReply, IsRequest, IsOpenRequest, AreCycles, HasCycles, HasReply}
 use Rattle.pb_turn.specs.Stations as station

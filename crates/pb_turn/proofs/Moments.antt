@@ -5,11 +5,11 @@ use Rattle.std.proofs.lemmas.Bool.{ltb-false, leb-false, leb-true, le-ltb, lt-lt
 use Rattle.pb_timers.specs.Timers.{Params, bits, tto}
 use Rattle.pb_ring.specs.Gap.{next_asked, last_asked, round_after}
 use Rattle.pb_ring.specs.Las as las
-use Rattle.pb_cycles.specs.Fields.{Fields}
+use Rattle.pb_messages.specs.Fields.{Fields}
+use Rattle.pb_messages.specs.Messages.{frame_octets}
+use Rattle.pb_messages.specs.RequestFields.{RequestFields}
+use Rattle.pb_messages.specs.Requests.{is_answered}
 use Rattle.pb_cycles.specs.Initiating.{first_sending, retry_of}
-use Rattle.pb_cycles.specs.Messages.{frame_octets}
-use Rattle.pb_cycles.specs.RequestFields.{RequestFields}
-use Rattle.pb_cycles.specs.Requests.{is_answered}
 use Rattle.pb_turn.specs.Hearing.{phase_timed_out, timed_out, after_timer, after_mark, tries_limit}
 use Rattle.pb_turn.specs.Laws.{IsDueLater}
 use Rattle.pb_turn.specs.Marks.{Mark, moment_of}

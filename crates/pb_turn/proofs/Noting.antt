@@ -7,14 +7,14 @@ use Rattle.pb_telegram.specs.declared.chars.RxChar.{RxChar}
 use Rattle.pb_timers.specs.Timers.{Params}
 use Rattle.pb_ring.specs.Las as las
 use Rattle.pb_ring.specs.Las.{is_complete}
-use Rattle.pb_cycles.specs.Fields.{Fields}
-use Rattle.pb_cycles.specs.Messages.{has_bit, address_in}
+use Rattle.pb_messages.specs.Fields.{Fields}
+use Rattle.pb_messages.specs.Messages.{has_bit, address_in}
+use Rattle.pb_messages.specs.Requests.{asked_by}
+use Rattle.pb_messages.specs.declared.messages.Message.TheVariants as message
+use Rattle.pb_messages.specs.declared.services.Asked.{Asked}
+use Rattle.pb_messages.specs.declared.services.Asked.TheVariants.{Send, Status, Unknown}
+use Rattle.pb_messages.specs.declared.services.Service.TheVariants.{Sda, Sdn, Srd}
 use Rattle.pb_cycles.specs.Outcomes.{status_reply}
-use Rattle.pb_cycles.specs.Requests.{asked_by}
-use Rattle.pb_cycles.specs.declared.messages.Message.TheVariants as message
-use Rattle.pb_cycles.specs.declared.services.Asked.{Asked}
-use Rattle.pb_cycles.specs.declared.services.Asked.TheVariants.{Send, Status, Unknown}
-use Rattle.pb_cycles.specs.declared.services.Service.TheVariants.{Sda, Sdn, Srd}
 use Rattle.pb_turn.specs.Arrivals.{Token, Framed, Acknowledgement, NoTelegram, arrival_of}
 use Rattle.pb_turn.specs.Hearing.{phase_begun, begun, is_status, asks_status, status_answer, listening_hears, lost, tells_ready, status_told, awaiting_status_hears, phase_ended, ended, after_mark, ready_for_ring, not_ready}
 use Rattle.pb_turn.specs.Laws.{awaits_reply, status_reply_of}

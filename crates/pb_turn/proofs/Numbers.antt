@@ -8,19 +8,19 @@ use Rattle.pb_ring.specs.Gap.{next_asked, last_asked}
 use Rattle.pb_ring.specs.Las as las
 use Rattle.pb_ring.specs.Las.{is_complete, heard, place_of, skips_of, listening}
 use Rattle.pb_rotation.specs.Rotation.{may_low}
-use Rattle.pb_cycles.specs.Fields.{Fields}
+use Rattle.pb_messages.specs.Fields.{Fields}
+use Rattle.pb_messages.specs.Messages.{has_bit, address_in}
+use Rattle.pb_messages.specs.RequestFields.{RequestFields}
+use Rattle.pb_messages.specs.Requests.{is_answered, asked_by}
+use Rattle.pb_messages.specs.declared.messages.Message.{Message}
+use Rattle.pb_messages.specs.declared.services.Asked.{Asked}
+use Rattle.pb_messages.specs.declared.services.Asked.TheVariants.{Send, Status, Unknown}
+use Rattle.pb_messages.specs.declared.messages.Message.TheVariants as message
 use Rattle.pb_cycles.specs.Initiating.{retry_of, outcome_of}
-use Rattle.pb_cycles.specs.Messages.{has_bit, address_in}
-use Rattle.pb_cycles.specs.RequestFields.{RequestFields}
-use Rattle.pb_cycles.specs.Requests.{is_answered, asked_by}
 use Rattle.pb_cycles.specs.Responding.{reply_frame, reply_to_asked}
 use Rattle.pb_cycles.specs.Tables.{ResponderTable}
-use Rattle.pb_cycles.specs.declared.messages.Message.{Message}
 use Rattle.pb_cycles.specs.declared.outcomes.Outcome.{Outcome}
-use Rattle.pb_cycles.specs.declared.services.Asked.{Asked}
-use Rattle.pb_cycles.specs.declared.services.Asked.TheVariants.{Send, Status, Unknown}
 use Rattle.pb_cycles.specs.Outcomes.{status_reply}
-use Rattle.pb_cycles.specs.declared.messages.Message.TheVariants as message
 use Rattle.pb_turn.specs.Arrivals.{Arrival, Token, Framed, Acknowledgement, NoTelegram, arrival_of}
 use Rattle.pb_turn.specs.Hearing.{not_answered, passive_hears, answer_to, is_status, passive, in_ring, data_told, awaiting_data_hears, phase_timed_out, with_token, own_token, foreign_token, listening_hears, status_answer, idle_hears, token_in_idle, status_told, awaiting_status_hears, asks_status, is_taken_from, lost, after_mark, not_ready, ready_for_ring}
 use Rattle.pb_turn.specs.Laws.{HasAsked, is_asking, status_reply_of}

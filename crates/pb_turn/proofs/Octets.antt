@@ -1,8 +1,8 @@
 -- The octets of telegrams that have a control octet.
 use Rattle.std.proofs.Common.{◌≡◌, ℕ, ◌<◌, ◌≤◌, ◌==◌, List, length, false, arith}
 use Rattle.std.proofs.lemmas.Grind.{common_steps}
-use Rattle.pb_cycles.specs.Fields.{Fields}
-use Rattle.pb_cycles.specs.Messages.{has_bit, frame_octets}
+use Rattle.pb_messages.specs.Fields.{Fields}
+use Rattle.pb_messages.specs.Messages.{has_bit, frame_octets}
 use Rattle.pb_turn.specs.Laws.{are_initiator, IsReply}
 use Rattle.pb_turn.proofs.Cases.{by_test}
 

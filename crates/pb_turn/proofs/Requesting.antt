@@ -7,18 +7,18 @@ use Rattle.pb_ring.specs.Gap.{next_asked, last_asked}
 use Rattle.pb_ring.specs.Las.{is_complete}
 use Rattle.pb_rotation.specs.Rotation.{Receipt, used, holding_left, may_low, may_high, is_unused}
 use Rattle.std.specs.Option.{option_map}
+use Rattle.pb_messages.specs.Fields.{Fields}
+use Rattle.pb_messages.specs.Messages.{has_bit, frame_octets}
+use Rattle.pb_messages.specs.declared.messages.Message.{Message}
+use Rattle.pb_messages.specs.declared.messages.Message.TheVariants as message
+use Rattle.pb_messages.specs.declared.messages.Reply as cycles
+use Rattle.pb_messages.specs.Queued.{Queued, put}
+use Rattle.pb_messages.specs.RequestFields.{RequestFields}
+use Rattle.pb_messages.specs.Requests.{is_answered}
 use Rattle.pb_cycles.specs.Counts.{count_at, count_bits}
-use Rattle.pb_cycles.specs.Fields.{Fields}
 use Rattle.pb_cycles.specs.Initiating.{bits_for, first_sending, after_request, retry_of, message_outcome, outcome_of}
-use Rattle.pb_cycles.specs.Messages.{has_bit, frame_octets}
 use Rattle.pb_cycles.specs.Outcomes.{reply_outcome}
 use Rattle.pb_cycles.specs.Responding.{reply_to_framed}
-use Rattle.pb_cycles.specs.declared.messages.Message.{Message}
-use Rattle.pb_cycles.specs.declared.messages.Message.TheVariants as message
-use Rattle.pb_cycles.specs.declared.messages.Reply as cycles
-use Rattle.pb_cycles.specs.Queued.{Queued, put}
-use Rattle.pb_cycles.specs.RequestFields.{RequestFields}
-use Rattle.pb_cycles.specs.Requests.{is_answered}
 use Rattle.pb_cycles.specs.declared.counts.FrameCount.{FrameCount}
 use Rattle.pb_cycles.specs.declared.counts.FrameCount.TheVariants.{First}
 use Rattle.pb_cycles.specs.declared.initiators.OpenRequest.{OpenRequest}

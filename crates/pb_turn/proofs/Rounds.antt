@@ -8,7 +8,7 @@ use Rattle.pb_ring.specs.Las.{members_of}
 use Rattle.pb_ring.specs.declared.gaps.Round.{Round}
 use Rattle.pb_ring.specs.declared.gaps.Round.TheVariants.{Open, Closed}
 use Rattle.pb_rotation.specs.Rotation.{may_low}
-use Rattle.pb_cycles.specs.RequestFields.{RequestFields}
+use Rattle.pb_messages.specs.RequestFields.{RequestFields}
 use Rattle.pb_turn.specs.Phases.{Use}
 use Rattle.pb_turn.specs.Stations.{Station, next_station, previous_station}
 use Rattle.pb_turn.specs.Turns.{looks_at_gap, high_request, low_request, says_token, says_look, says_no_request, says_low, says_high, phase_says}

@@ -3,11 +3,11 @@ use Rattle.std.proofs.Common.{◌≡◌, ◌∙◌, ℕ, ◌+◌, ◌==◌, List
 use Rattle.std.specs.Prelude.{IfSome, IsSome, max, nat_le}
 use Rattle.pb_timers.specs.Timers.{Params, bits}
 use Rattle.pb_ring.specs.Gap.{next_asked, last_asked, round_after}
-use Rattle.pb_cycles.specs.Fields.{Fields}
+use Rattle.pb_messages.specs.Fields.{Fields}
+use Rattle.pb_messages.specs.Messages.{frame_octets}
+use Rattle.pb_messages.specs.RequestFields.{RequestFields}
+use Rattle.pb_messages.specs.Requests.{is_answered}
 use Rattle.pb_cycles.specs.Initiating.{retry_of, first_sending}
-use Rattle.pb_cycles.specs.Messages.{frame_octets}
-use Rattle.pb_cycles.specs.RequestFields.{RequestFields}
-use Rattle.pb_cycles.specs.Requests.{is_answered}
 use Rattle.pb_turn.specs.Laws.{HasOpen, HasOpenRequest}
 use Rattle.pb_turn.specs.Marks.{Mark}
 use Rattle.pb_turn.specs.Phases.{Phase, Offline, PassiveIdle, Listening, Idle, Claim, Use, AwaitData, AwaitStatus, Pass, Checking}

@@ -21,20 +21,20 @@ use Rattle.pb_rotation.specs.Rotation as rotation
 use Rattle.pb_rotation.specs.Rotation.{fresh, received}
 use Rattle.pb_rotation.proofs.Standing.{stands-received, stands-started_high}
 use Rattle.pb_rotation.specs.Receipts.{StartedHigh}
+use Rattle.pb_messages.specs.Fields.{Fields}
+use Rattle.pb_messages.specs.Messages.{has_bit}
+use Rattle.pb_messages.specs.RequestFields.{RequestFields}
+use Rattle.pb_messages.specs.Requests.{is_answered}
+use Rattle.pb_messages.specs.declared.messages.Message.{Message}
+use Rattle.pb_messages.specs.declared.messages.Message.TheVariants as message
 use Rattle.pb_cycles.proofs.Acting.{requested}
 use Rattle.pb_cycles.proofs.Hearing.{heard-more}
 use Rattle.pb_cycles.proofs.NewestActs.{reverse-more}
 use Rattle.pb_cycles.specs.Acts.{Resent, Closed}
-use Rattle.pb_cycles.specs.Fields.{Fields}
 use Rattle.pb_cycles.specs.Initiating.{retry_of, outcome_of}
-use Rattle.pb_cycles.specs.Messages.{has_bit}
 use Rattle.pb_cycles.specs.Outcomes.{status_reply}
-use Rattle.pb_cycles.specs.RequestFields.{RequestFields}
-use Rattle.pb_cycles.specs.Requests.{is_answered}
 use Rattle.pb_cycles.specs.Tables.{InitiatorTable}
-use Rattle.pb_cycles.specs.declared.messages.Message.{Message}
 use Rattle.pb_cycles.specs.declared.outcomes.Outcome.{Outcome}
-use Rattle.pb_cycles.specs.declared.messages.Message.TheVariants as message
 use Rattle.pb_turn.specs.Arrivals.{Arrival, Token, Framed, Acknowledgement, NoTelegram, arrival_of, arrival_unless, fields_of}
 use Rattle.pb_turn.specs.Hearing.{asked_station, outcome_at, cycle_closed, not_answered, answering, passive, in_ring, passive_hears, data_told, awaiting_data_hears, phase_timed_out, timed_out, after_timer, tries_limit, phase_begun, doubled_by, listening_hears, taking, is_taken_from, skips_limit, token_in_idle, idle_hears, holder_hears, tells_ready, status_told, awaiting_status_hears, with_token, lost, phase_ended, heard, after_mark}
 use Rattle.pb_turn.specs.Laws.{IsRequest, HasCycles}

@@ -3,7 +3,7 @@ use Rattle.std.specs.Prelude.{ℕ, ◌+◌, if◌then◌else◌, List, slice_ind
 use Rattle.pb_telegram.specs.Faults.{octets, is_token, has_control, da_place, unit_of, fault_of}
 use Rattle.pb_telegram.specs.declared.chars.RxChar.{RxChar}
 use Rattle.pb_telegram.specs.declared.faults.TelegramFault.{TelegramFault}
-use Rattle.pb_cycles.specs.Fields.{Fields}
+use Rattle.pb_messages.specs.Fields.{Fields}
 
 -- a token telegram, a request or a reply with a control octet, the acknowledgement, or no telegram that is whole
 pub data Arrival : Type 0 where

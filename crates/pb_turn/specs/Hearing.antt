@@ -6,18 +6,18 @@ use Rattle.pb_ring.specs.Las as las
 use Rattle.pb_ring.specs.Las.{place_of, skips_of}
 use Rattle.pb_ring.specs.declared.gaps.Round.TheVariants.{Open}
 use Rattle.pb_rotation.specs.Rotation.{received, fresh}
-use Rattle.pb_cycles.specs.Fields.{Fields}
+use Rattle.pb_messages.specs.Fields.{Fields}
+use Rattle.pb_messages.specs.Messages.{has_bit, address_in, reply_octets}
+use Rattle.pb_messages.specs.Requests.{asked_by}
+use Rattle.pb_messages.specs.declared.messages.Message.{Message}
+use Rattle.pb_messages.specs.declared.messages.Message.TheVariants as message
+use Rattle.pb_messages.specs.declared.services.Asked.{Asked}
+use Rattle.pb_messages.specs.declared.services.Asked.TheVariants.{Send, Status, Unknown}
 use Rattle.pb_cycles.specs.Initiating.{retry_of, outcome_of, after_outcome}
-use Rattle.pb_cycles.specs.Messages.{has_bit, address_in, reply_octets}
 use Rattle.pb_cycles.specs.Outcomes.{status_reply}
-use Rattle.pb_cycles.specs.Requests.{asked_by}
 use Rattle.pb_cycles.specs.Responding.{reply_frame, reply_to_framed, after_framed}
 use Rattle.pb_cycles.specs.declared.initiators.OpenRequest.{OpenRequest}
-use Rattle.pb_cycles.specs.declared.messages.Message.{Message}
 use Rattle.pb_cycles.specs.declared.outcomes.Outcome.{Outcome}
-use Rattle.pb_cycles.specs.declared.messages.Message.TheVariants as message
-use Rattle.pb_cycles.specs.declared.services.Asked.{Asked}
-use Rattle.pb_cycles.specs.declared.services.Asked.TheVariants.{Send, Status, Unknown}
 use Rattle.pb_turn.specs.Arrivals.{Arrival, Token, Framed, Acknowledgement, NoTelegram, arrival_of}
 use Rattle.pb_turn.specs.Marks.{Mark, Begin, End}
 use Rattle.pb_turn.specs.Phases.{Phase, Offline, PassiveIdle, Listening, Idle, Claim, Use, AwaitData, AwaitStatus, Pass, Checking, is_offline}

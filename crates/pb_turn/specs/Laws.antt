@@ -2,11 +2,11 @@
 use Rattle.std.specs.Prelude.{◌≡◌, ℕ, ◌+◌, ◌<◌, ◌≤◌, Bool, true, false, ◌&&◌, ◌||◌, List, [], length, All, Option, IfSome, IsSome, None}
 use Rattle.pb_telegram.specs.Faults.{is_token, has_control}
 use Rattle.pb_timers.specs.Timers.{Params}
-use Rattle.pb_cycles.specs.Fields.{Fields}
+use Rattle.pb_messages.specs.Fields.{Fields}
+use Rattle.pb_messages.specs.Messages.{has_bit, address_in, frame_octets, reply_octets}
+use Rattle.pb_messages.specs.RequestFields.{RequestFields}
+use Rattle.pb_messages.specs.Requests.{IsAddressed}
 use Rattle.pb_cycles.specs.Initiating.{retry_of}
-use Rattle.pb_cycles.specs.Messages.{has_bit, address_in, frame_octets, reply_octets}
-use Rattle.pb_cycles.specs.RequestFields.{RequestFields}
-use Rattle.pb_cycles.specs.Requests.{IsAddressed}
 use Rattle.pb_cycles.specs.declared.initiators.OpenRequest.{OpenRequest}
 use Rattle.pb_turn.specs.Arrivals.{fields_of}
 use Rattle.pb_turn.specs.Phases.{Phase, Offline, PassiveIdle, Listening, Idle, Claim, Use, AwaitData, AwaitStatus, Pass, Checking}

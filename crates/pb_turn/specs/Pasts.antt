@@ -8,16 +8,16 @@ use Rattle.pb_ring.specs.LasList.{Item, Enters, Leaves, Joins}
 use Rattle.pb_ring.specs.Laws.{Look, look_of, StandsForLooks}
 use Rattle.pb_rotation.specs.Receipts.{Happening, Received, StartedHigh}
 use Rattle.pb_rotation.specs.Rotation as rotation
+use Rattle.pb_messages.specs.Fields.{Fields}
+use Rattle.pb_messages.specs.RequestFields.{RequestFields}
+use Rattle.pb_messages.specs.Messages.{has_bit}
+use Rattle.pb_messages.specs.declared.messages.Message.TheVariants as message
 use Rattle.pb_cycles.specs.Acts.{Act, Told, Opened, Resent, Closed, sending_act, InitiatorStandsFor}
 use Rattle.pb_cycles.specs.Calls as responder
 use Rattle.pb_cycles.specs.Calls.{ResponderStandsFor}
-use Rattle.pb_cycles.specs.Fields.{Fields}
 use Rattle.pb_cycles.specs.Initiating.{first_sending, retry_of, outcome_of}
-use Rattle.pb_cycles.specs.RequestFields.{RequestFields}
 use Rattle.pb_cycles.specs.declared.outcomes.Outcome.{Outcome}
-use Rattle.pb_cycles.specs.Messages.{has_bit}
 use Rattle.pb_cycles.specs.Outcomes.{status_reply}
-use Rattle.pb_cycles.specs.declared.messages.Message.TheVariants as message
 use Rattle.pb_turn.specs.Arrivals.{Arrival, Token, Framed, Acknowledgement, NoTelegram, arrival_of}
 use Rattle.pb_turn.specs.Hearing.{tries_limit, skips_limit, is_taken_from, tells_ready, asked_station, passive, in_ring, after_timer, after_mark}
 use Rattle.pb_turn.specs.Marks.{Mark, Begin, End, moment_of}

@@ -6,8 +6,8 @@ use Rattle.pb_ring.specs.Las.{LasTable, listening, members_of}
 use Rattle.pb_ring.specs.declared.gaps.Round.{Round}
 use Rattle.pb_ring.specs.declared.gaps.Round.TheVariants.{Open}
 use Rattle.pb_rotation.specs.Rotation.{Rotation, fresh}
-use Rattle.pb_cycles.specs.Queued.{Queued, put}
-use Rattle.pb_cycles.specs.RequestFields.{RequestFields}
+use Rattle.pb_messages.specs.Queued.{Queued, put}
+use Rattle.pb_messages.specs.RequestFields.{RequestFields}
 use Rattle.pb_cycles.specs.Tables.{InitiatorTable, ResponderTable}
 use Rattle.pb_cycles.specs.declared.counts.FrameCount.TheVariants.{First}
 use Rattle.pb_cycles.specs.declared.outcomes.Outcome.{Outcome}

@@ -6,11 +6,11 @@ use Rattle.pb_ring.specs.Las as las
 use Rattle.pb_ring.specs.Gap.{is_due, last_asked, next_asked, round_after}
 use Rattle.pb_ring.specs.declared.gaps.Round.TheVariants.{Open}
 use Rattle.pb_rotation.specs.Rotation.{received, fresh, may_low, may_high, started_high}
-use Rattle.pb_cycles.specs.Fields.{Fields}
+use Rattle.pb_messages.specs.Fields.{Fields}
+use Rattle.pb_messages.specs.Messages.{frame_octets}
+use Rattle.pb_messages.specs.RequestFields.{RequestFields}
+use Rattle.pb_messages.specs.Requests.{is_answered}
 use Rattle.pb_cycles.specs.Initiating.{first_sending, after_request, retry_of, after_retry}
-use Rattle.pb_cycles.specs.Messages.{frame_octets}
-use Rattle.pb_cycles.specs.RequestFields.{RequestFields}
-use Rattle.pb_cycles.specs.Requests.{is_answered}
 use Rattle.pb_turn.specs.Hearing.{after_timer, after_mark, tries_limit}
 use Rattle.pb_turn.specs.Marks.{Mark, moment_of}
 use Rattle.pb_turn.specs.Phases.{Phase, Offline, PassiveIdle, Listening, Idle, Claim, Use, AwaitData, AwaitStatus, Pass, Checking}

@@ -1,7 +1,7 @@
 ghost use Rattle.std.specs.Prelude.{◌≡◌, ◌+◌, ◌<◌, ◌≤◌, ◌⊎◌, ℕ, Bool, true, false, List, [], ◌∷◌, length, Some, None, IfSome, IsSome};
 ghost use Rattle.pb_telegram.specs.declared.chars.RxChar.{RxChar};
 ghost use Rattle.pb_timers.specs.Timers.{Params, bits};
-ghost use Rattle.pb_cycles.specs.RequestFields.{RequestFields};
+ghost use Rattle.pb_messages.specs.RequestFields.{RequestFields};
 ghost use Rattle.pb_turn.specs.Arrivals.{Token, arrival_of};
 ghost use Rattle.pb_turn.specs.Marks.{Mark, End, moment_of};
 ghost use Rattle.pb_turn.specs.Phases.{Offline, Listening, Idle, AwaitData, AwaitStatus, Checking, may_initiate};

@@ -1,5 +1,5 @@
 use super::{octets, request, spelled, telegram, unit};
-use crate::{Initiator, Outcome, Request, RequestFault, Responder, Service, status_reply};
+use crate::{Initiator, Outcome, Responder, Service, status_reply};
 use arrayvec::ArrayVec;
 use pb_telegram::{Fc, Telegram, write};
 use std::test::Fail;
@@ -124,28 +124,6 @@ fn an_interrupted_cycle_goes_on_with_its_retry(rt: HostRuntime) -> Result<(), Fa
         );
     }
     assert_eq!(rt; responder.executed(), 3);
-    Ok(())
-}
-
-#[test]
-fn all_stations_are_only_told(rt: HostRuntime) -> Result<(), Fail> {
-    let refused = RequestFault::BadAddress;
-    for service in [Service::Sda, Service::Srd] {
-        assert_eq!(rt;
-            Request::new(127, service, false, ArrayVec::new()).err(),
-            Some(refused)
-        );
-    }
-    assert_eq!(rt;
-        Request::new(128, Service::Sdn, false, ArrayVec::new()).err(),
-        Some(refused)
-    );
-    let told = Request::new(127, Service::Sdn, true, unit("0102")?)?;
-    assert_eq!(rt; told.da(), 127);
-    assert_eq!(rt; told.service(), Service::Sdn);
-    assert!(rt; told.high());
-    assert_eq!(rt; told.unit(), [1, 2].as_slice());
-    assert_eq!(rt; told.copy().unit(), [1, 2].as_slice());
     Ok(())
 }
 

@@ -1,7 +1,7 @@
 use Rattle.std.proofs.Common.{◌∙◌, ap}
 use Rattle.std.specs.Option.{option_map}
 use Rattle.pb_telegram.specs.Grammar.{spelling}
-use Rattle.pb_cycles.specs.Messages.{message_of}
+use Rattle.pb_messages.specs.Messages.{message_of}
 use Rattle.pb_core.specs.Cores.{with_phase}
 use Rattle.pb_core.specs.Replies.{reply_of, code_of}
 use Rattle.pb_core.proofs.Responses.{answers_by, or-mapped}

@@ -1,6 +1,6 @@
 use Rattle.std.proofs.Common.{rules, ◌∙◌, ◌≡◌, ◌+◌, ap, sym, true, false, Some}
+use Rattle.pb_messages.specs.Messages.{message_of}
 use Rattle.pb_cycles.specs.Initiating.{outcome_of}
-use Rattle.pb_cycles.specs.Messages.{message_of}
 use Rattle.pb_turn.specs.Phases as turn
 use Rattle.pb_core.specs.Cores.{station_of, with_phase}
 use Rattle.pb_core.specs.Cycles.{cycles_of}

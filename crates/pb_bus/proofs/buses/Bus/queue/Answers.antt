@@ -3,7 +3,7 @@ use Rattle.std.specs.Prelude.{slice_get}
 use Rattle.std.specs.Option.{option_map}
 use Rattle.std.proofs.lemmas.List.{length-set, map-set}
 use Rattle.std.proofs.lemmas.Option.{slice_get-map}
-use Rattle.pb_cycles.specs.RequestFields.{RequestFields}
+use Rattle.pb_messages.specs.RequestFields.{RequestFields}
 use Rattle.pb_model.specs.Step.{step_queue}
 use Rattle.pb_model.specs.World.{Queue}
 use Rattle.pb_bus.specs.Buses.{world_of, IsKept}

@@ -1,5 +1,5 @@
-use Rattle.pb_cycles.proofs.SaidOctets.{telegram-said, frame-said}
-use Rattle.pb_cycles.proofs.laws.octets_say_what_the_telegram_says.Goals as goal
+use Rattle.pb_messages.proofs.SaidOctets.{telegram-said, frame-said}
+use Rattle.pb_messages.proofs.laws.octets_say_what_the_telegram_says.Goals as goal
 
 pub returns-clause-telegram : goal.returns-clause-telegram
 returns-clause-telegram c = telegram-said

@@ -10,10 +10,10 @@ use Rattle.pb_telegram.specs.Faults.{need, fcs_place}
 use Rattle.pb_telegram.specs.Grammar.{sd1, sd2, sd3, ed, fcs_of, length_of, spelling}
 use Rattle.pb_telegram.specs.declared.telegrams.Telegram.{Telegram}
 use Rattle.pb_telegram.specs.declared.telegrams.Telegram.TheVariants.{Short, Var, Fixed8, Token, Ack}
-use Rattle.pb_cycles.specs.Fields.{Fields}
-use Rattle.pb_cycles.specs.Messages.{message_in, message_of, frame_octets}
-use Rattle.pb_cycles.specs.declared.messages.Message.{Message}
-use Rattle.pb_cycles.specs.declared.messages.Message.TheVariants.{Framed}
+use Rattle.pb_messages.specs.Fields.{Fields}
+use Rattle.pb_messages.specs.Messages.{message_in, message_of, frame_octets}
+use Rattle.pb_messages.specs.declared.messages.Message.{Message}
+use Rattle.pb_messages.specs.declared.messages.Message.TheVariants.{Framed}
 
 abbrev framed : ℕ → ℕ → ℕ → List ℕ → Message
 framed da sa fc unit = Framed (record { da = da; sa = sa; fc = fc; unit = unit })

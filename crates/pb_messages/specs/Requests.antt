@@ -1,13 +1,13 @@
 -- Which requests there are, and the function codes of their control octets.
 use Rattle.std.specs.Prelude.{ℕ, ◌+◌, ◌≤◌, ◌==◌, nat_lt, Bool, true, false, ◌&&◌, ◌||◌, if◌then◌else◌, List, [], ◌∷◌}
-use Rattle.pb_cycles.specs.Fields.{Fields}
-use Rattle.pb_cycles.specs.RequestFields.{RequestFields}
-use Rattle.pb_cycles.specs.declared.services.Service.{Service}
-use Rattle.pb_cycles.specs.declared.services.Service.TheVariants.{Sda, Sdn, Srd}
-use Rattle.pb_cycles.specs.declared.services.Asked.{Asked}
-use Rattle.pb_cycles.specs.declared.services.Asked.TheVariants.{Send, Status, Unknown}
-use Rattle.pb_cycles.specs.declared.requests.RequestFault.{RequestFault}
-use Rattle.pb_cycles.specs.declared.requests.RequestFault.TheVariants.{BadAddress}
+use Rattle.pb_messages.specs.Fields.{Fields}
+use Rattle.pb_messages.specs.RequestFields.{RequestFields}
+use Rattle.pb_messages.specs.declared.services.Service.{Service}
+use Rattle.pb_messages.specs.declared.services.Service.TheVariants.{Sda, Sdn, Srd}
+use Rattle.pb_messages.specs.declared.services.Asked.{Asked}
+use Rattle.pb_messages.specs.declared.services.Asked.TheVariants.{Send, Status, Unknown}
+use Rattle.pb_messages.specs.declared.requests.RequestFault.{RequestFault}
+use Rattle.pb_messages.specs.declared.requests.RequestFault.TheVariants.{BadAddress}
 
 -- the service is answered, by an acknowledgement or by data
 abbrev pub is_answered : Service → Bool

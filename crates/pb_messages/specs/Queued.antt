@@ -1,6 +1,6 @@
 -- The requests that wait, as plain data.
 use Rattle.std.specs.Prelude.{nat_lt, if◌then◌else◌, List, [], ◌∷◌, ◌++◌, length, take, drop}
-use Rattle.pb_cycles.specs.RequestFields.{RequestFields}
+use Rattle.pb_messages.specs.RequestFields.{RequestFields}
 
 -- a list for each priority
 pub record Queued : Type 0 where

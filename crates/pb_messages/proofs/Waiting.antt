@@ -1,8 +1,8 @@
 -- A list of a queue is first in first out.
 use Rattle.std.proofs.Common.{◌≡◌, ◌∙◌, sym, refl, ap, Bool, true, false, if◌then◌else◌, nat_lt, List, [], ◌∷◌, ◌++◌, length, take, drop, append_assoc, append-nil}
 use Rattle.std.proofs.lemmas.List.{take-append-drop}
-use Rattle.pb_cycles.specs.Queued.{Use, Put, TakeOut, put, waiting, accepted, taken}
-use Rattle.pb_cycles.specs.RequestFields.{RequestFields}
+use Rattle.pb_messages.specs.Queued.{Use, Put, TakeOut, put, waiting, accepted, taken}
+use Rattle.pb_messages.specs.RequestFields.{RequestFields}
 
 one_put : (room : Bool) (xs : List RequestFields) (r : RequestFields) (more : List RequestFields)
     → xs ++ ((if room then r ∷ [] else []) ++ more) ≡ (if room then xs ++ r ∷ [] else xs) ++ more

@@ -1,5 +1,5 @@
 ghost use Rattle.std.specs.Prelude.{◌≡◌, ◌≤◌, ◌<◌, [], ◌∷◌, ◌++◌, length, drop, OnOk, OnErr, IfErr, IfNone, MatchOption, MatchResult};
-ghost use Rattle.pb_cycles.specs.Queued.{put};
+ghost use Rattle.pb_messages.specs.Queued.{put};
 
 use crate::requests::Request;
 use arrayvec::ArrayVec;
@@ -23,7 +23,7 @@ pub struct Queue {
 }
 
 impl Model for Queue {
-    ghost use Rattle.pb_cycles.specs.Queued.{Queued};
+    ghost use Rattle.pb_messages.specs.Queued.{Queued};
 
     ghost Value = { Queued };
 

@@ -1,5 +1,5 @@
 ghost use Rattle.std.specs.Prelude.{◌≡◌, ◌<◌, Some, None};
-ghost use Rattle.pb_cycles.specs.Requests.{is_answered, code_of, asked_by};
+ghost use Rattle.pb_messages.specs.Requests.{is_answered, code_of, asked_by};
 
 /// A service of the data link layer (IEC 61158-4-3, data link service).
 #[derive(Clone, Copy, Debug, Default, PartialEq, Eq)]
@@ -26,7 +26,7 @@ pub enum Asked {
 
 impl Service {
     /// Whether the service is answered, by an acknowledgement or by data.
-    pub(crate) fn is_answered(self) -> bool
+    pub fn is_answered(self) -> bool
         ensures { result ≡ is_answered self }
     {
         match self {
@@ -36,7 +36,7 @@ impl Service {
     }
 
     /// The function code of the service, with high priority or not.
-    pub(crate) fn code(self, high: bool) -> u8
+    pub fn code(self, high: bool) -> u8
         ensures value { result ≡ code_of self high }
         ensures bits { result < 16 }
     {
@@ -50,7 +50,7 @@ impl Service {
 
 impl Asked {
     /// What the function code of a request asks for.
-    pub(crate) fn by(code: u8) -> Asked
+    pub fn by(code: u8) -> Asked
         ensures { result ≡ asked_by code }
     {
         match code {

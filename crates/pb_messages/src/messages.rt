@@ -1,10 +1,10 @@
 ghost use Rattle.std.specs.Prelude.{◌≡◌};
 ghost use Rattle.pb_telegram.specs.Grammar.{spelling};
-ghost use Rattle.pb_cycles.specs.Messages.{message_of, reply_octets, heard_as};
+ghost use Rattle.pb_messages.specs.Messages.{message_of, reply_octets, heard_as};
 
-use crate::frames::{Frame, copy_unit};
+use crate::frames::Frame;
 use arrayvec::ArrayVec;
-use pb_telegram::Telegram;
+use pb_telegram::{Telegram, copy_octets};
 
 /// What a telegram says, apart from its form.
 #[derive(Debug, Drop)]
@@ -19,17 +19,17 @@ pub enum Message {
 
 impl Message {
     /// What the telegram says.
-    pub(crate) fn read(telegram: &Telegram) -> Message
+    pub fn read(telegram: &Telegram) -> Message
         ensures { result ≡ message_of telegram.now }
     {
         match telegram {
             Telegram::Short(t) => Message::Framed(Frame::new(t.da, t.sa, t.fc, ArrayVec::new())),
-            Telegram::Var(t) => Message::Framed(Frame::new(t.da, t.sa, t.fc, copy_unit(&t.unit))),
+            Telegram::Var(t) => Message::Framed(Frame::new(t.da, t.sa, t.fc, copy_octets(&t.unit))),
             Telegram::Fixed8(t) => Message::Framed(Frame::new(
                 t.da,
                 t.sa,
                 t.fc,
-                copy_unit(&t.unit),
+                copy_octets(&t.unit),
             )),
             Telegram::Token(_) => Message::TokenPass,
             Telegram::Ack => Message::Acknowledgement,
@@ -48,7 +48,7 @@ pub enum Reply {
 
 impl Reply {
     /// The same reply.
-    pub(crate) fn copy(&self) -> Reply
+    pub fn copy(&self) -> Reply
         ensures { result ≡ self.now }
     {
         match self {
@@ -58,7 +58,7 @@ impl Reply {
     }
 
     /// The telegram.
-    pub(crate) fn telegram(&self) -> Telegram
+    pub fn telegram(&self) -> Telegram
         ensures octets { spelling result ≡ reply_octets self.now }
         ensures message { message_of result ≡ heard_as self.now }
     {

@@ -1,10 +1,10 @@
 ghost use Rattle.std.specs.Prelude.{◌≡◌, Some, None, IfOk, IfErr, OnOk};
 ghost use Rattle.pb_refusals.specs.FirstFault.{first_fault};
-ghost use Rattle.pb_cycles.specs.Requests.{request_faults};
+ghost use Rattle.pb_messages.specs.Requests.{request_faults};
 
-use crate::frames::copy_unit;
 use crate::services::Service;
 use arrayvec::ArrayVec;
+use pb_telegram::copy_octets;
 use std::marker::Model;
 use thiserror::Error;
 
@@ -28,11 +28,11 @@ pub struct Request {
 }
 
 impl Model for Request {
-    ghost use Rattle.pb_cycles.specs.RequestFields.{RequestFields};
+    ghost use Rattle.pb_messages.specs.RequestFields.{RequestFields};
 
     ghost Value = { RequestFields };
 
-    ghost use Rattle.pb_cycles.specs.Requests.{IsAddressed};
+    ghost use Rattle.pb_messages.specs.Requests.{IsAddressed};
 
     ghost view = { λ r. record { da = r.da; service = r.service; high = r.high; unit = r.unit.items } };
 
@@ -43,7 +43,7 @@ impl Model for Request {
 
 impl Default for Request {
     ghost use Rattle.std.specs.Prelude.{false, []};
-    ghost use Rattle.pb_cycles.specs.declared.services.Service.TheVariants.{Sda};
+    ghost use Rattle.pb_messages.specs.declared.services.Service.TheVariants.{Sda};
 
     ghost is_default = { λ r. r ≡ record { da = 0; service = Sda; high = false; unit = [] } };
 
@@ -60,8 +60,8 @@ impl Default for Request {
 
 impl Request {
     ghost use Rattle.std.specs.Prelude.{◌≤◌, length};
-    ghost use Rattle.pb_cycles.specs.RequestFields.{RequestFields};
-    ghost use Rattle.pb_cycles.specs.Requests.{IsAddressed};
+    ghost use Rattle.pb_messages.specs.RequestFields.{RequestFields};
+    ghost use Rattle.pb_messages.specs.Requests.{IsAddressed};
 
     /// A request to the address `da`, 0 to 127, with high priority or low, and with at most 246
     /// octets of data. 1 BadAddress: `da` is over 127, or 127 with a service other than SDN.
@@ -130,12 +130,12 @@ impl Request {
             da: *da,
             service: *service,
             high: *high,
-            unit: copy_unit(unit),
+            unit: copy_octets(unit),
         }
     }
 
     /// The data, of a request that is used up.
-    pub(crate) fn into_unit(self) -> ArrayVec<u8, 246>
+    pub fn into_unit(self) -> ArrayVec<u8, 246>
         ensures { result.items ≡ self.unit }
     {
         let Request { unit, .. } = self;

@@ -4,11 +4,11 @@ use Rattle.pb_telegram.specs.Grammar.{sd1, sd2, sd3, sc, ed, fcs_of, length_of}
 use Rattle.pb_telegram.specs.Faults.{is_ack, is_token, da_place, unit_of}
 use Rattle.pb_telegram.specs.declared.telegrams.Telegram.{Telegram}
 use Rattle.pb_telegram.specs.declared.telegrams.Telegram.TheVariants.{Short, Var, Fixed8, Token, Ack}
-use Rattle.pb_cycles.specs.Fields.{Fields}
-use Rattle.pb_cycles.specs.declared.messages.Message.{Message}
-use Rattle.pb_cycles.specs.declared.messages.Message.TheVariants.{Framed, Acknowledgement, TokenPass}
-use Rattle.pb_cycles.specs.declared.messages.Reply.{Reply}
-use Rattle.pb_cycles.specs.declared.messages.Reply.TheVariants.{Answer, Acknowledge}
+use Rattle.pb_messages.specs.Fields.{Fields}
+use Rattle.pb_messages.specs.declared.messages.Message.{Message}
+use Rattle.pb_messages.specs.declared.messages.Message.TheVariants.{Framed, Acknowledgement, TokenPass}
+use Rattle.pb_messages.specs.declared.messages.Reply.{Reply}
+use Rattle.pb_messages.specs.declared.messages.Reply.TheVariants.{Answer, Acknowledge}
 
 -- what a telegram says
 abbrev pub message_of : Telegram → Message

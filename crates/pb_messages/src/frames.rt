@@ -1,11 +1,11 @@
 ghost use Rattle.std.specs.Prelude.{◌≡◌, ◌≤◌, ◌<◌, ◌%◌, length, IsBitSet};
 ghost use Rattle.pb_telegram.specs.Grammar.{spelling};
 ghost use Rattle.pb_telegram.specs.Initiators.{IsInitiator};
-ghost use Rattle.pb_cycles.specs.Messages.{frame_octets, message_of};
-ghost use Rattle.pb_cycles.specs.declared.messages.Message.TheVariants.{Framed};
+ghost use Rattle.pb_messages.specs.Messages.{frame_octets, message_of};
+ghost use Rattle.pb_messages.specs.declared.messages.Message.TheVariants.{Framed};
 
 use arrayvec::ArrayVec;
-use pb_telegram::{Fixed8Telegram, ShortTelegram, Telegram, VarTelegram};
+use pb_telegram::{Fixed8Telegram, ShortTelegram, Telegram, VarTelegram, copy_octets};
 use std::marker::Model;
 
 /// A telegram with a control octet, apart from its form.
@@ -19,7 +19,7 @@ pub struct Frame {
 
 impl Model for Frame {
     ghost use Rattle.std.specs.Prelude.{◌<◌, ◌%◌};
-    ghost use Rattle.pb_cycles.specs.Fields.{Fields};
+    ghost use Rattle.pb_messages.specs.Fields.{Fields};
 
     ghost Value = { Fields };
 
@@ -28,16 +28,6 @@ impl Model for Frame {
     ghost invariant = { λ f. (f.sa % 128 < 127) × (f.fc < 128) };
 
     ghost inverse = { λ f. record { da = f.da; sa = f.sa; fc = f.fc; unit = record { items = f.unit } } };
-}
-
-/// The same octets.
-pub(crate) fn copy_unit(unit: &[u8]) -> ArrayVec<u8, 246>
-    requires { length unit.now ≤ 246 }
-    ensures { result.items ≡ unit.now }
-{
-    let mut copy = ArrayVec::new();
-    copy.try_extend_from_slice(unit).unwrap();
-    copy
 }
 
 /// The telegram of these fields: its form goes by how many octets of data it has.
@@ -64,7 +54,7 @@ fn form(da: u8, sa: u8, fc: u8, unit: &[u8]) -> Telegram
         da,
         sa,
         fc,
-        unit: copy_unit(unit),
+        unit: copy_octets(unit),
     })
 }
 
@@ -79,8 +69,9 @@ fn eight_octets(unit: &[u8]) -> [u8; 8]
 }
 
 impl Frame {
-    /// The fields of a telegram.
-    pub(crate) fn new(da: u8, sa: u8, fc: u8, unit: ArrayVec<u8, 246>) -> Frame
+    /// The fields of a telegram. The caller's conditions: bits 0 to 6 of SA are the address of a station,
+    /// at most 126, and bit 7 of FC is clear.
+    pub fn new(da: u8, sa: u8, fc: u8, unit: ArrayVec<u8, 246>) -> Frame
         requires sa { sa % 128 < 127 }
         requires fc { fc < 128 }
         ensures { result ≡ record { da = da; sa = sa; fc = fc; unit = unit.items } }
@@ -88,26 +79,29 @@ impl Frame {
         Frame { da, sa, fc, unit }
     }
 
-    pub(crate) fn da(&self) -> u8
+    /// The octet DA: the destination address, and whether an extension of it comes first in the data.
+    pub fn da(&self) -> u8
         ensures { result ≡ self.now.da }
     {
         self.da
     }
 
-    pub(crate) fn sa(&self) -> u8
+    /// The octet SA: the same of the source.
+    pub fn sa(&self) -> u8
         ensures { result ≡ self.now.sa }
     {
         self.sa
     }
 
-    pub(crate) fn fc(&self) -> u8
+    /// The control octet.
+    pub fn fc(&self) -> u8
         ensures { result ≡ self.now.fc }
     {
         self.fc
     }
 
-    /// The data.
-    pub(crate) fn unit(&self) -> &[u8]
+    /// The data, at most 246 octets.
+    pub fn unit(&self) -> &[u8]
         ensures value { result.now ≡ self.now.unit }
         ensures fits { length result.now ≤ 246 }
     {
@@ -115,19 +109,19 @@ impl Frame {
     }
 
     /// The same fields.
-    pub(crate) fn copy(&self) -> Frame
+    pub fn copy(&self) -> Frame
         ensures { result ≡ self.now }
     {
         Frame {
             da: self.da,
             sa: self.sa,
             fc: self.fc,
-            unit: copy_unit(&self.unit),
+            unit: copy_octets(&self.unit),
         }
     }
 
     /// The telegram: its form goes by how many octets of data it has.
-    pub(crate) fn telegram(&self) -> Telegram
+    pub fn telegram(&self) -> Telegram
         ensures octets { spelling result ≡ frame_octets self.now }
         ensures message { message_of result ≡ Framed self.now }
         ensures initiator { IsBitSet self.now.fc 6 → IsInitiator result }

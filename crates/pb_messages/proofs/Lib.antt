@@ -1,0 +1,2 @@
+pub mod SaidOctets
+pub mod Waiting

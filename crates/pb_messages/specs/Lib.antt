@@ -1,0 +1,5 @@
+pub mod Fields
+pub mod Messages
+pub mod Queued
+pub mod RequestFields
+pub mod Requests

@@ -1,0 +1,26 @@
+//! What the telegrams of message cycles say, and the requests that wait for the token (EN 50170-2,
+//! message cycles).
+//!
+//! A telegram with a control octet is a [`Frame`] of four fields, whatever its form. A [`Message`] is
+//! what any telegram says, and a [`Reply`] what a station answers. A [`Request`] asks for a
+//! [`Service`], which the function code of its control octet names ([`Asked`]). Requests wait in a
+//! [`Queue`], a list for each priority.
+//! No call takes memory.
+#![tactic(auto)]
+
+mod frames;
+mod laws;
+mod messages;
+mod queues;
+mod requests;
+mod services;
+
+pub use frames::Frame;
+pub use laws::{a_queue_is_first_in_first_out, octets_say_what_the_telegram_says};
+pub use messages::{Message, Reply};
+pub use queues::{Queue, QueueFull};
+pub use requests::{Request, RequestFault};
+pub use services::{Asked, Service};
+
+#[cfg(test)]
+mod tests;
