@@ -1,13 +1,14 @@
 -- The passing of time.
-use Rattle.std.specs.Prelude.{◌≡◌, ℕ, ◌+◌, ◌==◌, nat_lt, Bool, List, [], ◌∷◌, ◌++◌, Option, Some, None, Result, Ok, Err, unwrap_or}
+use Rattle.std.specs.Prelude.{◌≡◌, ℕ, ◌+◌, ◌==◌, nat_lt, Bool, List, [], ◌∷◌, ◌++◌, Option, Some, None, Result, Ok, Err, unwrap_or, is_some, if◌then◌else◌, length, drop}
 use Rattle.std.specs.Option.{option_map}
 use Rattle.pb_refusals.specs.FirstFault.{first_fault}
 use Rattle.pb_model.specs.Step.{is_past, step_pass}
-use Rattle.pb_model.specs.World.{World, Fault, ZeroTime, TooFar, ClockFull, clock_limit}
+use Rattle.pb_model.specs.World.{World, Fault, ZeroTime, TooFar, ClockFull, clock_limit, next_end_of}
 use Rattle.pb_model.specs.Trace.{Entry}
 use Rattle.pb_model.specs.Medium.{Tap}
 use Rattle.pb_taps.specs.declared.faults.WorldFault.{WorldFault}
 use Rattle.pb_taps.specs.Faults.{world_fault}
+use Rattle.pb_medium.specs.Senses.{at_once}
 
 -- why time doesn't pass, whatever the taps: with the next end in the air
 abbrev pub time_faults : ℕ → ℕ → Option ℕ → List (Bool × Fault)
@@ -25,6 +26,10 @@ IsFault (Err f) reason = reason ≡ world_fault f
 -- the first of some faults
 abbrev pub IsFirstOf : List (Bool × Fault) → WorldFault → Type 0
 IsFirstOf tests reason = option_map world_fault (first_fault tests) ≡ Some reason
+
+-- how many entries are over: all of them, where none behind those that were over is in the air
+abbrev pub over_after : ℕ → ℕ → List Entry → ℕ
+over_after now over entries = if is_some (next_end_of at_once now (drop over entries)) then over else length entries
 
 -- time passes to a moment: these are the entries behind those that are over, and the taps
 abbrev pub PassesTo : World → ℕ → List Entry → ℕ → List Entry → List Tap → Type 0

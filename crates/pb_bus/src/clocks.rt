@@ -4,7 +4,7 @@ ghost use Rattle.pb_model.specs.Laws.{AllBegun, IsSound};
 ghost use Rattle.pb_model.specs.Step.{step_pass};
 ghost use Rattle.pb_model.specs.World as world;
 ghost use Rattle.pb_medium.specs.Airs.{air, IsCut};
-ghost use Rattle.pb_bus.specs.Clocks.{time_faults, IsFault, IsFirstOf, PassesTo};
+ghost use Rattle.pb_bus.specs.Clocks.{time_faults, over_after, IsFault, IsFirstOf, PassesTo};
 ghost use Rattle.pb_medium.specs.Entries.{entry_of};
 ghost use Rattle.pb_medium.specs.Senses.{at_once};
 ghost use Rattle.pb_taps.specs.Taps.{seat_of, tap_of};
@@ -84,7 +84,8 @@ fn pass(
 /// How many entries are over: all of them, where nothing is in the air.
 pub(crate) fn over_at(trace: &[Entry], over: usize, now: Moment) -> usize
     requires { over ≤ length trace.now }
-    ensures { (before : ℕ) → before ≤ now → IsCut before over (map entry_of trace.now) → AllBegun now (map entry_of trace.now) → IsCut now result (map entry_of trace.now) }
+    ensures value { result ≡ over_after now over (map entry_of trace.now) }
+    ensures cut { (before : ℕ) → before ≤ now → IsCut before over (map entry_of trace.now) → AllBegun now (map entry_of trace.now) → IsCut now result (map entry_of trace.now) }
 {
     match next_end(recent(trace, over), now.get()) {
         Some(_) => over,

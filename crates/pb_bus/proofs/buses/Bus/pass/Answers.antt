@@ -87,7 +87,7 @@ returns-clause-kept c =
       room = omega (arith, ap length taps-back, as-many seat_of c.pass_recent.new.taps c.deref_mut-2.result.now c.pass_recent.ensures.seats, ap length items, c.requires.room);
       seats = subst (AreSeated bus.params 0) (sym (ap (map seat_of) taps-back ∙ c.pass_recent.ensures.seats ∙ ap (map seat_of) items)) c.requires.seats;
       cut = subst (λ xs. IsCut to c.over_at-self.result (map entry_of xs)) seen (
-          c.over_at-self.ensures bus.now c.in_ok-self.ensures.clock.0
+          c.over_at-self.ensures.cut bus.now c.in_ok-self.ensures.clock.0
           (subst (λ xs. IsCut bus.now bus.over (map entry_of xs)) (sym seen) cut) (subst (λ xs. AllBegun to (map entry_of xs)) (sym seen) sound.begun)
           );
     }
