@@ -1,14 +1,14 @@
 -- Why an input could not be read, and the limits of reading.
-use Rattle.std.specs.Prelude.{ℕ, ◌-◌, ◌⊎◌}
+use Rattle.std.specs.Prelude.{ℕ, ◌*◌, ◌-◌, ◌⊎◌}
 use Rattle.pb_cli.specs.Counts.{GrowsBy}
 
 -- the most bytes that an input may have
 abbrev pub byte_limit : ℕ
 byte_limit = 1048576
 
--- the most read calls that are made for one input
+-- the most read calls that are made for one input: one for each byte that it may have, and as many more
 abbrev pub call_limit : ℕ
-call_limit = 2097152
+call_limit = 2 * byte_limit
 
 -- The reader failed, or as many calls were made as an input may take. In the second case all but a call for each byte were interrupted.
 abbrev pub IsReadCause : ℕ → ℕ → ℕ → ℕ → ℕ → ℕ → Type 0

@@ -8,6 +8,10 @@ use Rattle.pb_timers.specs.declared.params.ParamFault.TheVariants.{Slot, IdleSho
 abbrev pub is_outside : ℕ → ℕ → ℕ → Bool
 is_outside low high n = not (nat_le low n && nat_le n high)
 
+-- a take, and a reply, come after the slot
+abbrev pub late_faults : (tsl tid2 tsdr lag : ℕ) → List (Bool × ParamFault)
+late_faults tsl tid2 tsdr lag = (nat_le tsl (tid2 + lag), TakeLate) ∷ (nat_le tsl (tsdr + lag), ReplyLate) ∷ []
+
 abbrev pub param_faults : Params → List (Bool × ParamFault)
 param_faults p =
     (is_outside 100 16383 p.tsl, Slot)
@@ -18,9 +22,7 @@ param_faults p =
     ∷ (is_outside 1 100 p.gap, GapFactor)
     ∷ (is_outside 2 126 p.hsa, Highest)
     ∷ (nat_lt 7 p.retries, Retries)
-    ∷ (nat_le p.tsl (p.tid2 + p.lag), TakeLate)
-    ∷ (nat_le p.tsl (p.tsdr + p.lag), ReplyLate)
-    ∷ []
+    ∷ late_faults p.tsl p.tid2 p.tsdr p.lag
 
 -- parameters that meet all ten rules, without a cable delay
 pub record IsValid (p : Params) : Type 0 where

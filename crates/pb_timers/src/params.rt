@@ -1,7 +1,7 @@
 ghost use Rattle.std.specs.Prelude.{◌≡◌, Some, None, IfOk, IfErr, OnOk};
 ghost use Rattle.pb_refusals.specs.FirstFault.{first_fault};
 ghost use Rattle.pb_timers.specs.Timers.{tto};
-ghost use Rattle.pb_timers.specs.ParamRules.{is_outside};
+ghost use Rattle.pb_timers.specs.ParamRules.{is_outside, late_faults};
 
 use std::marker::Model;
 use thiserror::Error;
@@ -101,6 +101,20 @@ fn is_outside(low: u32, high: u32, number: u32) -> bool
     number < low || number > high
 }
 
+/// Refuses a take or a reply that may come after a slot: the idle time 2, and the reply delay, with the lag.
+fn refuse_late(tsl: u32, tid2: u32, tsdr: u32, lag: u32) -> Result<(), ParamFault>
+    ensures in_time { IfOk result (λ _. first_fault (late_faults tsl tid2 tsdr lag) ≡ None) }
+    ensures fault { IfErr result (λ fault. first_fault (late_faults tsl tid2 tsdr lag) ≡ Some fault) }
+{
+    if u64::from(tid2) + u64::from(lag) >= u64::from(tsl) {
+        return Err(ParamFault::TakeLate);
+    }
+    if u64::from(tsdr) + u64::from(lag) >= u64::from(tsl) {
+        return Err(ParamFault::ReplyLate);
+    }
+    Ok(())
+}
+
 impl BusParams {
     ghost use Rattle.pb_timers.specs.ParamRules.{param_faults, IsValid};
 
@@ -171,12 +185,7 @@ impl BusParams {
         if retries > 7 {
             return Err(ParamFault::Retries);
         }
-        if u64::from(tid2) + u64::from(lag) >= u64::from(tsl) {
-            return Err(ParamFault::TakeLate);
-        }
-        if u64::from(tsdr) + u64::from(lag) >= u64::from(tsl) {
-            return Err(ParamFault::ReplyLate);
-        }
+        refuse_late(tsl, tid2, tsdr, lag)?;
         Ok(BusParams {
             tsl,
             tid1,

@@ -159,9 +159,36 @@ fn reading_ends_at_the_limit_of_calls(rt: HostRuntime) {
     assert!(rt; writer.writer().is_empty());
 }
 
+/// Gives one blank a call.
+#[derive(Drop)]
+struct BlankReader {
+    left: u32,
+}
+
+impl Read for BlankReader {
+    fn read(&mut self, buffer: &mut [u8]) -> io::Result<usize> {
+        if self.left == 0 || buffer.is_empty() {
+            return Ok(0);
+        }
+        buffer[0] = b' ';
+        self.left -= 1;
+        Ok(1)
+    }
+}
+
+/// The limit of calls leaves one for each byte of the longest input, and one for its end.
+#[test]
+fn the_longest_input_comes_a_byte_a_call(rt: HostRuntime) {
+    let mut reader = CountedReader::new(BlankReader { left: 1_048_576 });
+    let mut writer = CountedWriter::new(Vec::new(rt.alloc()));
+    let answer = decode_lines(rt.alloc(), &mut reader, &mut writer);
+    assert_eq!(rt; answer, Ok(Status::Refused));
+    assert_eq!(rt; reader.calls(), 1_048_577);
+}
+
 #[test]
 fn a_writer_that_fails_at_any_call(rt: HostRuntime) {
-    for calls_before in 0..35 {
+    for calls_before in 0..OUTPUT.len() as u32 {
         let mut writer = CountedWriter::new(ByteWriter {
             taken: Vec::new(rt.alloc()),
             calls_before,
@@ -202,7 +229,7 @@ fn interruptions_count_anew_after_a_write(rt: HostRuntime) {
     });
     let answer = decode_lines(rt.alloc(), &mut CountedReader::new(INPUT), &mut writer);
     assert_eq!(rt; answer, Ok(Status::Refused));
-    assert_eq!(rt; writer.interruptions(), 35_000);
+    assert_eq!(rt; writer.interruptions(), 1000 * OUTPUT.len() as u64);
     assert_eq!(rt; writer.writer().taken.as_slice(), OUTPUT);
 }
 
