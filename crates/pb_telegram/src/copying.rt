@@ -2,7 +2,7 @@ ghost use Rattle.std.specs.Prelude.{◌≡◌, ◌≤◌, length};
 
 use arrayvec::ArrayVec;
 
-/// The same octets, where there is room for them.
+/// A copy of some octets, at most as many as its room has places, the caller's condition.
 pub fn copy_octets<const ROOM: usize>(octets: &[u8]) -> ArrayVec<u8, ROOM>
     requires { length octets.now ≤ ROOM }
     ensures { result.items ≡ octets.now }
