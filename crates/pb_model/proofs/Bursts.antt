@@ -5,10 +5,10 @@ use Rattle.std.specs.List.{list_any}
 use Rattle.std.proofs.lemmas.Bool.{and_parts, leb-true, ltb-true, ne_eqb}
 use Rattle.std.proofs.lemmas.Bool.Decides.{nat_tests}
 use Rattle.pb_turn.specs.Spans.{Span}
-use Rattle.pb_turn.specs.Marks.{Mark, Begin, End}
+use Rattle.pb_turn.specs.Marks.{Mark, Begin, End, Alternates}
 use Rattle.pb_model.specs.Trace.{Entry}
 use Rattle.pb_model.specs.Medium.{Tap, sensed, begins_at, ends_at, lasts_through, burst_begins, burst_ends, burst_characters, begins_in, ends_in, begin_mark, end_mark, marks_between}
-use Rattle.pb_model.specs.Laws.{is_open, Alternates, marks_of_pass}
+use Rattle.pb_model.specs.Laws.{is_open, marks_of_pass}
 use Rattle.pb_model.proofs.Cases.{by_test}
 
 -- ---- tests over a list

@@ -3,12 +3,12 @@ use Rattle.std.proofs.Common.{◌≡◌, ℕ, ◌+◌, ◌<◌, List, [], ◌∷
 use Rattle.std.specs.Prelude.{slice_get}
 use Rattle.std.proofs.lemmas.Bool.{eqb-false}
 use Rattle.std.proofs.lemmas.Option.{none-some, same_Some}
-use Rattle.pb_turn.specs.Marks.{Mark}
+use Rattle.pb_turn.specs.Marks.{Mark, Alternates}
 use Rattle.pb_model.specs.Trace.{Entry}
 use Rattle.pb_model.specs.Medium.{Tap, sensed, marks_between, new_marks, entry_at}
 use Rattle.pb_model.specs.World.{World, Reply}
 use Rattle.pb_model.specs.Step.{told, pass_faults, step_pass}
-use Rattle.pb_model.specs.Laws.{is_open, Alternates, IsSound, PassTells}
+use Rattle.pb_model.specs.Laws.{is_open, IsSound, PassTells}
 use Rattle.pb_model.proofs.Bursts.{alternates-spans, marks_between-exact, begins-none, ends-none}
 use Rattle.pb_model.proofs.Sensed.{ready-sensed}
 use Rattle.pb_model.proofs.Worlds.{unless-Ok, started-at}

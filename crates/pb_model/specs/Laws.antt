@@ -3,7 +3,7 @@ use Rattle.std.specs.Prelude.{◌≡◌, ℕ, ◌<◌, ◌≤◌, Bool, true, fa
 use Rattle.std.specs.List.{list_any}
 use Rattle.pb_telegram.specs.declared.chars.RxChar.{RxChar}
 use Rattle.pb_turn.specs.Spans.{Span}
-use Rattle.pb_turn.specs.Marks.{Mark, Begin, End, moment_of}
+use Rattle.pb_turn.specs.Marks.{Mark, Begin, End, moment_of, Alternates}
 use Rattle.pb_turn.specs.Laws.{HasReply, HasCycles, IsRequest, Fits}
 use Rattle.pb_model.specs.Trace.{Record, Entry, Sent, entry_begin, entry_end, characters_at}
 use Rattle.pb_model.specs.Medium.{TapSpec, Tap, lasts_through, overlaps, hears_from, sends_during, reaches, is_unheard, burst_begins, burst_ends, burst_characters, fills_burst, sensed}
@@ -14,14 +14,6 @@ use Rattle.pb_model.specs.World.{World, Event, Turn, Pass, Damage, Start, Stop, 
 -- a burst is open at a moment: something has begun before it and ends after it
 abbrev pub is_open : List Span → ℕ → Bool
 is_open spans m = list_any (lasts_through m) spans
-
--- Begins and Ends take turns, from whether a burst is open before to whether one is open after
-abbrev pub Alternates : Bool → List Mark → Bool → Type 0
-Alternates before [] after = before ≡ after
-Alternates true (Begin at seen ∷ ms) after = ⊥
-Alternates false (Begin at seen ∷ ms) after = Alternates true ms after
-Alternates true (End at seen chars ∷ ms) after = Alternates false ms after
-Alternates false (End at seen chars ∷ ms) after = ⊥
 
 -- the marks stand in order of time, from a moment to a moment
 abbrev pub InOrder : ℕ → List Mark → ℕ → Type 0

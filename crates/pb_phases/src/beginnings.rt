@@ -1,11 +1,12 @@
 //! A station that hears activity begin.
 
-ghost use Rattle.std.specs.Prelude.{◌≡◌, true, None};
+ghost use Rattle.std.specs.Prelude.{◌≡◌, true, None, if◌then◌else◌};
 ghost use Rattle.pb_turn.specs.Hearing.{phase_begun, begun};
+ghost use Rattle.pb_turn.specs.Phases.{answers_requests};
 ghost use Rattle.pb_tokenfsm.specs.Phases.{phase_of};
 ghost use Rattle.pb_core.specs.Cores.{station_of};
 
-use pb_core::{Core, Kept};
+use pb_core::{Core, Kept, Reply};
 use pb_timers::Moment;
 use pb_tokenfsm::Phase;
 
@@ -28,13 +29,32 @@ fn phase_begun(phase: Phase, own: Moment, at: Moment) -> Phase
     }
 }
 
-/// A reply that is not sent yet is dropped.
-fn interrupted(kept: Kept) -> Kept
-    ensures { result ≡ record kept { busy = true; reply = None } }
+/// Whether a phase answers requests: it neither holds the token nor checks what became of it.
+fn answers_requests(phase: &Phase) -> bool
+    ensures { result ≡ answers_requests (phase_of phase.now) }
+{
+    matches!(
+        phase,
+        Phase::PassiveIdle(_) | Phase::Listening(_) | Phase::Idle(_)
+    )
+}
+
+/// What is left of a reply that is not sent yet: one that answers requests drops it.
+fn reply_begun(answers: bool, reply: Option<Reply>) -> Option<Reply>
+    ensures { result ≡ (if answers then None else reply) }
+{
+    match answers {
+        true => None,
+        false => reply,
+    }
+}
+
+fn interrupted(kept: Kept, answers: bool) -> Kept
+    ensures { result ≡ record kept { busy = true; reply = if answers then None else kept.reply } }
 {
     Kept {
         busy: true,
-        reply: None,
+        reply: reply_begun(answers, kept.reply),
         ..kept
     }
 }
@@ -45,8 +65,9 @@ pub fn begun(core: Core, at: Moment) -> Core
 {
     let Core { phase, kept } = core;
     let own = kept.own_begin();
+    let answers = answers_requests(&phase);
     Core {
         phase: phase_begun(phase, own, at),
-        kept: interrupted(kept),
+        kept: interrupted(kept, answers),
     }
 }

@@ -180,7 +180,8 @@ fn a_passive_station_waits(rt: HostRuntime) -> Result<(), Fail> {
 
 /// A lone station asks its GAP; a listener learns the ring, joins it, takes and passes the token, and passes
 /// it no more once it has heard anything since, damage too; one that was skipped twice listens anew; and one
-/// that hears its namesake gives way.
+/// that hears its namesake gives way. Over marks that no bus gives, a token that is taken before the answer to a
+/// request is sent leaves that answer, and it is said once the token is lost.
 #[test]
 fn stations_take_their_turns(rt: HostRuntime) -> Result<(), Fail> {
     let alloc = rt.alloc();

@@ -1,6 +1,7 @@
 -- A station that is busy says nothing.
-use Rattle.std.proofs.Common.{◌≡◌, ◌∙◌, ℕ, ◌+◌, ◌==◌, List, [], ◌∷◌, Bool, true, false, if◌then◌else◌, refl, ap, sym, Option, Some, None}
+use Rattle.std.proofs.Common.{◌≡◌, ◌∙◌, ℕ, ◌+◌, ◌==◌, List, [], ◌∷◌, Bool, true, false, if◌then◌else◌, refl, ap, sym, subst, Option, Some, None}
 use Rattle.std.specs.Prelude.{is_some, nat_le, nat_lt, max}
+use Rattle.pb_telegram.specs.declared.chars.RxChar.{RxChar}
 use Rattle.pb_timers.specs.Timers.{Params}
 use Rattle.pb_ring.specs.Gap.{next_asked, last_asked, round_after}
 use Rattle.pb_ring.specs.Las.{place_of, skips_of}
@@ -14,13 +15,15 @@ use Rattle.pb_cycles.specs.Initiating.{retry_of, outcome_of}
 use Rattle.pb_cycles.specs.Outcomes.{status_reply}
 use Rattle.pb_cycles.specs.declared.outcomes.Outcome.{Outcome}
 use Rattle.pb_turn.specs.Arrivals.{Arrival, Token, Framed, Acknowledgement, NoTelegram, arrival_of}
-use Rattle.pb_turn.specs.Hearing.{not_answered, passive_hears, data_told, awaiting_data_hears, timed_out, after_timer, phase_timed_out, phase_begun, listening_hears, taking, is_taken_from, skips_limit, token_in_idle, idle_hears, holder_hears, status_told, awaiting_status_hears, with_token, lost, phase_ended, heard, after_mark}
+use Rattle.pb_turn.specs.Hearing.{not_answered, passive_hears, data_told, awaiting_data_hears, timed_out, after_timer, phase_timed_out, phase_begun, begun, ended, listening_hears, taking, is_taken_from, skips_limit, token_in_idle, idle_hears, holder_hears, status_told, awaiting_status_hears, with_token, lost, phase_ended, heard, after_mark}
 use Rattle.pb_turn.specs.Laws.{IsSilentWhileBusy}
-use Rattle.pb_turn.specs.Marks.{Mark, Begin, End, moment_of}
+use Rattle.pb_turn.specs.Marks.{Mark, Begin, End, Alternates, moment_of}
 use Rattle.pb_turn.specs.Phases.{Phase, Offline, PassiveIdle, Listening, Idle, Claim, Use, AwaitData, AwaitStatus, Pass, Checking, is_offline}
-use Rattle.pb_turn.specs.Stations.{Station, Reply, phase_timer, timer_of, phase_speaks, speaks_at, next_station, previous_station, started}
+use Rattle.pb_turn.specs.Stations.{Station, Reply, phase_timer, timer_of, phase_speaks, speaks_at, next_station, previous_station, started, stopped, pushed}
 use Rattle.pb_turn.specs.Turns.{after_marks, settled, saying, received_own, says_token, looks_at_gap, says_look, says_no_request, high_request, low_request, high_taken, low_taken, says_request, says_low, says_high, says_again, replying, joining, says_reply, says_ready, phase_says, speech, turn_of, token_octets}
 use Rattle.pb_turn.proofs.Cases.{by_test}
+use Rattle.pb_turn.proofs.InPlace.{none_in_place, in_place-after_timer, none-begun, in_place-begun, none-busy, in_place-ended, in_place-speech}
+use Rattle.pb_turn.proofs.Moments.{after_marks-is_offline}
 use Rattle.pb_turn.proofs.Paths.{at_end}
 
 abbrev Busy : Bool → Station → Type 0
@@ -119,15 +122,6 @@ silent-begun (AwaitStatus of slot) own at = refl
 silent-begun (Pass tries ready) own at = refl
 silent-begun (Checking tries) own at = by_test (λ ph. phase_speaks None ph ≡ None) (nat_lt at own) (Checking tries) (Idle None) (λ _. refl) (λ _. refl)
 
-silent-heard : (p : Params) (s : Station) (m : Mark) → IsSilentWhileBusy (heard p s m)
-silent-heard p s (Begin at seen) busy = silent-begun s.phase s.own.begin at
-silent-heard p s (End at seen chars) busy =
-    absurd (let wrong : false ≡ true = sym (ap (λ (q : Bool × ℕ). q.0) (same-ended p (at_end s at) s.phase at (arrival_of chars))) ∙ busy in cc)
-
-silent-after_mark : (p : Params) (s : Station) (m : Mark) → IsSilentWhileBusy s → IsSilentWhileBusy (after_mark p s m)
-silent-after_mark p s m silent =
-    by_test IsSilentWhileBusy (is_offline s.phase) s (heard p s m) (λ _. silent) (λ _. silent-heard p s m)
-
 -- no timer ends while the station is busy
 timed_out-busy : (p : Params) (limit : ℕ) (s : Station) → s.busy ≡ true → after_timer p limit s ≡ s
 timed_out-busy p limit s busy = ap (λ (b : Bool). timed_out s (if b then None else phase_timer p s s.phase) limit) busy
@@ -152,18 +146,69 @@ busy-after_timer p limit s = by_timer (timer_of p s)
     by_timer (Some t) = by_test (Busy s.busy) (nat_lt t limit) (phase_timed_out s s.phase t) s (λ _. busy-phase_timed_out s s.phase t) (λ _. refl)
 
 silent-after_timer : (p : Params) (limit : ℕ) (s : Station) → IsSilentWhileBusy s → IsSilentWhileBusy (after_timer p limit s)
-silent-after_timer p limit s silent busy =
-    let before : s.busy ≡ true = sym (busy-after_timer p limit s) ∙ busy in
-    ap speaks_at (timed_out-busy p limit s before) ∙ silent before
+silent-after_timer p limit s keeps = record {
+  silent =
+      λ busy.
+      let before : s.busy ≡ true = sym (busy-after_timer p limit s) ∙ busy in
+      ap speaks_at (timed_out-busy p limit s before) ∙ keeps.silent before;
+  in_place = in_place-after_timer p limit s keeps.in_place;
+}
 
-silent-after_marks : (p : Params) (s : Station) (marks : List Mark) → IsSilentWhileBusy s → IsSilentWhileBusy (after_marks p s marks)
-silent-after_marks p s [] silent = silent
-silent-after_marks p s (m ∷ marks) silent =
-    let x = after_timer p (moment_of m) s in
-    silent-after_marks p (after_mark p x m) marks (silent-after_mark p x m (silent-after_timer p (moment_of m) s silent))
+-- after a Begin a reply that was in place is gone, and so is what the phase had to say
+silent-begun_station : (s : Station) (at : ℕ) → IsSilentWhileBusy s → IsSilentWhileBusy (begun s at)
+silent-begun_station s at keeps = record {
+  silent =
+      λ busy.
+      ap (λ (o : Option Reply). phase_speaks o (phase_begun s.phase s.own.begin at)) (none-begun s.phase s.reply keeps.in_place)
+      ∙ silent-begun s.phase s.own.begin at;
+  in_place = in_place-begun s at keeps.in_place;
+}
 
-silent-settled : (p : Params) (s : Station) (marks : List Mark) (now : ℕ) → IsSilentWhileBusy s → IsSilentWhileBusy (settled p s marks now)
-silent-settled p s marks now silent = silent-after_timer p (now + 1) (after_marks p s marks) (silent-after_marks p s marks silent)
+busy-ended : (p : Params) (s : Station) (at : ℕ) (a : Arrival) → Busy false (ended p s at a)
+busy-ended p s at a = ap (λ (q : Bool × ℕ). q.0) (same-ended p (at_end s at) s.phase at a)
+
+-- and an End finds no reply
+silent-ended : (p : Params) (s : Station) (at : ℕ) (a : Arrival) → s.busy ≡ true → IsSilentWhileBusy s → IsSilentWhileBusy (ended p s at a)
+silent-ended p s at a busy keeps = record {
+  silent = λ still. absurd (let wrong : false ≡ true = sym (busy-ended p s at a) ∙ still in cc);
+  in_place = in_place-ended p (at_end s at) s.phase at a (none-busy s.phase s.reply keeps.in_place (keeps.silent busy));
+}
+
+alternate-begin : (before after : Bool) (at seen : ℕ) (marks : List Mark) → Alternates before (Begin at seen ∷ marks) after → Alternates true marks after
+alternate-begin false after at seen marks turns = turns
+alternate-begin true after at seen marks turns = absurd turns
+
+alternate-end : (before after : Bool) (at seen : ℕ) (chars : List RxChar) (marks : List Mark) → Alternates before (End at seen chars ∷ marks) after
+    → (before ≡ true) × Alternates false marks after
+alternate-end true after at seen chars marks turns = (refl, turns)
+alternate-end false after at seen chars marks turns = absurd turns
+
+silent-offline : (p : Params) (s : Station) (marks : List Mark) → is_offline s.phase ≡ true → IsSilentWhileBusy s → IsSilentWhileBusy (after_marks p s marks)
+silent-offline p s marks off keeps = subst IsSilentWhileBusy (sym (after_marks-is_offline p s marks off)) keeps
+
+pub silent-after_marks : (p : Params) (s : Station) (marks : List Mark) (after : Bool) → Alternates s.busy marks after
+    → IsSilentWhileBusy s → IsSilentWhileBusy (after_marks p s marks)
+silent-after_marks p s [] after turns keeps = keeps
+silent-after_marks p s (Begin at seen ∷ marks) after turns keeps =
+    let x = after_timer p at s in
+    let timed : IsSilentWhileBusy x = silent-after_timer p at s keeps in
+    by_test (λ (y : Station). IsSilentWhileBusy (after_marks p y marks)) (is_offline x.phase) x (begun x at)
+    (λ off. silent-offline p x marks off timed)
+    (λ _. silent-after_marks p (begun x at) marks after (alternate-begin s.busy after at seen marks turns) (silent-begun_station x at timed))
+silent-after_marks p s (End at seen chars ∷ marks) after turns keeps =
+    let x = after_timer p at s in
+    let timed : IsSilentWhileBusy x = silent-after_timer p at s keeps in
+    let y = ended p x at (arrival_of chars) in
+    let rest = alternate-end s.busy after at seen chars marks turns in
+    by_test (λ (y : Station). IsSilentWhileBusy (after_marks p y marks)) (is_offline x.phase) x y
+    (λ off. silent-offline p x marks off timed)
+    (λ _.
+    silent-after_marks p y marks after (subst (λ (b : Bool). Alternates b marks after) (sym (busy-ended p x at (arrival_of chars))) rest.1)
+    (silent-ended p x at (arrival_of chars) (busy-after_timer p at s ∙ rest.0) timed))
+
+silent-settled : (p : Params) (s : Station) (marks : List Mark) (now : ℕ) (after : Bool) → Alternates s.busy marks after
+    → IsSilentWhileBusy s → IsSilentWhileBusy (settled p s marks now)
+silent-settled p s marks now after turns keeps = silent-after_timer p (now + 1) (after_marks p s marks) (silent-after_marks p s marks after turns keeps)
 
 -- ---- speech
 
@@ -224,16 +269,32 @@ busy-speech p s (Some moment) now =
     by_test (λ (turn : Station × Option (List ℕ)). Busy s.busy turn.0) (nat_le moment now) (phase_says p s s.phase now) (s, None)
     (λ _. busy-phase_says p s s.phase now) (λ _. refl)
 
-pub silent-busy : (p : Params) (s : Station) (marks : List Mark) (now : ℕ) → IsSilentWhileBusy s
+pub silent-busy : (p : Params) (s : Station) (marks : List Mark) (now : ℕ) (after : Bool) → Alternates s.busy marks after → IsSilentWhileBusy s
     → (settled p s marks now).busy ≡ true → turn_of p s marks now ≡ (settled p s marks now, None)
-silent-busy p s marks now silent busy =
-    let x = settled p s marks now in ap (λ (o : Option ℕ). speech p x o now) (silent-settled p s marks now silent busy)
+silent-busy p s marks now after turns keeps busy =
+    let x = settled p s marks now in ap (λ (o : Option ℕ). speech p x o now) ((silent-settled p s marks now after turns keeps).silent busy)
 
-pub silent-turn_of : (p : Params) (s : Station) (marks : List Mark) (now : ℕ) → IsSilentWhileBusy s → IsSilentWhileBusy (turn_of p s marks now).0
-silent-turn_of p s marks now silent busy =
+pub silent-turn_of : (p : Params) (s : Station) (marks : List Mark) (now : ℕ) (after : Bool) → Alternates s.busy marks after
+    → IsSilentWhileBusy s → IsSilentWhileBusy (turn_of p s marks now).0
+silent-turn_of p s marks now after turns keeps =
     let x = settled p s marks now in
-    let before : x.busy ≡ true = sym (busy-speech p x (speaks_at x) now) ∙ busy in
-    ap (λ (turn : Station × Option (List ℕ)). speaks_at turn.0) (silent-busy p s marks now silent before) ∙ silent-settled p s marks now silent before
+    let here : IsSilentWhileBusy x = silent-settled p s marks now after turns keeps in
+    record {
+      silent =
+          λ busy.
+          let before : x.busy ≡ true = sym (busy-speech p x (speaks_at x) now) ∙ busy in
+          ap (λ (turn : Station × Option (List ℕ)). speaks_at turn.0) (silent-busy p s marks now after turns keeps before) ∙ here.silent before;
+      in_place = in_place-speech p x (speaks_at x) now here.in_place;
+    }
 
 pub silent-started : (p : Params) (s : Station) (master : Bool) (now : ℕ) → IsSilentWhileBusy (started p s master now)
-silent-started p s master now busy = absurd (let wrong : false ≡ true = busy in cc)
+silent-started p s master now = record {
+  silent = λ busy. absurd (let wrong : false ≡ true = busy in cc);
+  in_place = none_in_place (if master then Listening false else PassiveIdle);
+}
+
+pub silent-stopped : (s : Station) → IsSilentWhileBusy (stopped s)
+silent-stopped s = record { silent = λ busy. refl; in_place = refl }
+
+pub silent-pushed : (s : Station) (r : RequestFields) → IsSilentWhileBusy s → IsSilentWhileBusy (pushed s r)
+silent-pushed s r keeps = record { silent = keeps.silent; in_place = keeps.in_place }

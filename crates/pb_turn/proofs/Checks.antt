@@ -20,25 +20,25 @@ use Rattle.pb_turn.proofs.Saying.{due_in_checking}
 
 -- a begin leaves a station in Checking in a phase that its moment decides
 begin-checking : (p : Params) (s : Station) (ph : Phase) (tries at seen : ℕ) → ph ≡ Checking tries
-    → after_mark p (record s { phase = ph }) (Begin at seen) ≡ record s { phase = if nat_lt at s.own.begin then Checking tries else Idle None; busy = true; reply = None }
+    → after_mark p (record s { phase = ph }) (Begin at seen) ≡ record s { phase = if nat_lt at s.own.begin then Checking tries else Idle None; busy = true }
 begin-checking p s ph tries at seen e =
     subst (λ (ph : Phase). after_mark p (record s { phase = ph }) (Begin at seen)
-    ≡ record s { phase = if nat_lt at s.own.begin then Checking tries else Idle None; busy = true; reply = None }) (sym e) refl
+    ≡ record s { phase = if nat_lt at s.own.begin then Checking tries else Idle None; busy = true }) (sym e) refl
 
 -- from the beginning of the own token on it ends the check
 pub check-ended : (p : Params) (s : Station) (tries at seen : ℕ) → s.phase ≡ Checking tries → s.own.begin ≤ at
-    → after_mark p s (Begin at seen) ≡ record s { phase = Idle None; busy = true; reply = None }
+    → after_mark p s (Begin at seen) ≡ record s { phase = Idle None; busy = true }
 check-ended p s tries at seen e since =
     begin-checking p s s.phase tries at seen e
-    ∙ ap (λ (b : Bool). record s { phase = if b then Checking tries else Idle None; busy = true; reply = None }) (le-ltb at s.own.begin since)
+    ∙ ap (λ (b : Bool). record s { phase = if b then Checking tries else Idle None; busy = true }) (le-ltb at s.own.begin since)
 
 -- before it, it leaves the check as it is
 pub check-goes_on : (p : Params) (s : Station) (tries at seen : ℕ) → s.phase ≡ Checking tries → at < s.own.begin
-    → after_mark p s (Begin at seen) ≡ record s { busy = true; reply = None }
+    → after_mark p s (Begin at seen) ≡ record s { busy = true }
 check-goes_on p s tries at seen e before =
     begin-checking p s s.phase tries at seen e
-    ∙ ap (λ (b : Bool). record s { phase = if b then Checking tries else Idle None; busy = true; reply = None }) (lt-ltb at s.own.begin before)
-    ∙ ap (λ (ph : Phase). record s { phase = ph; busy = true; reply = None }) (sym e)
+    ∙ ap (λ (b : Bool). record s { phase = if b then Checking tries else Idle None; busy = true }) (lt-ltb at s.own.begin before)
+    ∙ ap (λ (ph : Phase). record s { phase = ph; busy = true }) (sym e)
 
 -- the slot's timer ends with it or later, if it runs at all
 slot-later : (p : Params) (s : Station) (tries at : ℕ) → s.phase ≡ Checking tries → at ≤ s.own.end + p.tsl → IfSome (timer_of p s) (λ t. at ≤ t)
@@ -48,7 +48,7 @@ slot-later p s tries at e early =
 
 -- a turn that begins with activity in the slot is a turn in Idle
 pub check-ended_in_slot : (p : Params) (s : Station) (tries at seen now : ℕ) (marks : List Mark) → s.phase ≡ Checking tries → s.own.begin ≤ at → at ≤ s.own.end + p.tsl
-    → turn_of p s (Begin at seen ∷ marks) now ≡ turn_of p (record s { phase = Idle None; busy = true; reply = None }) marks now
+    → turn_of p s (Begin at seen ∷ marks) now ≡ turn_of p (record s { phase = Idle None; busy = true }) marks now
 check-ended_in_slot p s tries at seen now marks e since early =
     ap (λ (x : Station). let y = after_timer p (now + 1) x in speech p y (speaks_at y) now)
     (after_marks-mark p s (Begin at seen) marks (slot-later p s tries at e early)
@@ -58,7 +58,7 @@ check-ended_in_slot p s tries at seen now marks e since early =
 pub check-taken : (p : Params) (s : Station) (tries at seen until delivered : ℕ) (chars : List RxChar) → s.phase ≡ Checking tries → s.own.begin ≤ at
     → may_initiate (after_mark p (after_mark p s (Begin at seen)) (End until delivered chars)).phase ≡ true → arrival_of chars ≡ Token s.address (previous_station s)
 check-taken p s tries at seen until delivered chars e since holds =
-    idle-takes_first p (record s { phase = Idle None; busy = true; reply = None }) until delivered chars refl
+    idle-takes_first p (record s { phase = Idle None; busy = true }) until delivered chars refl
     (subst (λ (x : Station). may_initiate (after_mark p x (End until delivered chars)).phase ≡ true) (check-ended p s tries at seen e since) holds)
 
 -- what a station hears in the check gives it nothing to say

@@ -19,7 +19,7 @@ use Rattle.pb_turn.specs.Arrivals.{Arrival, Token, Framed, Acknowledgement, NoTe
 use Rattle.pb_turn.specs.Hearing.{not_answered, passive_hears, data_told, awaiting_data_hears, phase_timed_out, timed_out, after_timer, tries_limit, asks_status, status_answer, listening_answer, listening_hears, taking, is_taken_from, skips_limit, token_in_idle, idle_hears, holder_hears, status_told, awaiting_status_hears, with_token, lost, phase_ended, heard, after_mark, not_ready, ready_for_ring}
 use Rattle.pb_turn.specs.Laws.{IsRequest, IsOpenRequest, AreCycles, are_initiator, IsReply}
 use Rattle.pb_turn.specs.Marks.{Mark, Begin, End, moment_of}
-use Rattle.pb_turn.specs.Phases.{Phase, Offline, PassiveIdle, Listening, Idle, Claim, Use, AwaitData, AwaitStatus, Pass, Checking, may_initiate, is_offline}
+use Rattle.pb_turn.specs.Phases.{Phase, Offline, PassiveIdle, Listening, Idle, Claim, Use, AwaitData, AwaitStatus, Pass, Checking, may_initiate, answers_requests, is_offline}
 use Rattle.pb_turn.specs.Stations.{Station, Reply, timer_of, speaks_at, next_station, previous_station}
 use Rattle.pb_turn.specs.Turns.{after_marks, settled, looks_at_gap, says_no_request, high_request, low_request, high_taken, low_taken, says_request, says_low, says_high, says_again, says_look, says_token, says_reply, says_ready, replying, joining, phase_says, speech, turn_of, saying, received_own, token_octets}
 use Rattle.pb_turn.proofs.Cases.{by_test}
@@ -138,7 +138,8 @@ reply-ended p s (Pass tries ready) at a has = reply-holder_hears s a has
 reply-ended p s (Checking tries) at a has = reply-holder_hears s a has
 
 reply-heard : (p : Params) (s : Station) (m : Mark) → Sayable s → Sayable (heard p s m)
-reply-heard p s (Begin at seen) has = (tt, has.1)
+reply-heard p s (Begin at seen) has =
+    (by_test (λ (o : Option Reply). IfSome o (λ r. IsReply r.octets)) (answers_requests s.phase) None s.reply (λ _. tt) (λ _. has.0), has.1)
 reply-heard p s (End at seen chars) has = reply-ended p (at_end s at) s.phase at (arrival_of chars) has
 
 pub reply-after_mark : (p : Params) (s : Station) (m : Mark) → Sayable s → Sayable (after_mark p s m)

@@ -3,6 +3,7 @@ pub mod Addresses
 pub mod Busy
 pub mod Cases
 pub mod Checks
+pub mod InPlace
 pub mod Initiating
 pub mod Keeping
 pub mod Moments

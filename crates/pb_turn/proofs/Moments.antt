@@ -13,7 +13,7 @@ use Rattle.pb_cycles.specs.Initiating.{first_sending, retry_of}
 use Rattle.pb_turn.specs.Hearing.{phase_timed_out, timed_out, after_timer, after_mark, tries_limit}
 use Rattle.pb_turn.specs.Laws.{IsDueLater}
 use Rattle.pb_turn.specs.Marks.{Mark, moment_of}
-use Rattle.pb_turn.specs.Phases.{Phase, Offline, PassiveIdle, Listening, Idle, Claim, Use, AwaitData, AwaitStatus, Pass, Checking}
+use Rattle.pb_turn.specs.Phases.{Phase, Offline, PassiveIdle, Listening, Idle, Claim, Use, AwaitData, AwaitStatus, Pass, Checking, is_offline}
 use Rattle.pb_turn.specs.Stations.{Station, Reply, phase_timer, timer_of, phase_speaks, speaks_at, earlier, next_station}
 use Rattle.pb_turn.specs.Turns.{after_marks, settled, saying, received_own, token_sent, says_token, says_claim, looks_at_gap, says_look, says_no_request, high_request, low_request, high_taken, low_taken, says_request, says_low, says_high, says_in_use, says_again, joining, replying, says_reply, says_ready, phase_says, speech, turn_of, token_octets, status_request_octets}
 use Rattle.pb_turn.proofs.Cases.{by_test, earlier-later, later-earlier}
@@ -222,6 +222,23 @@ after_marks-offline p s [] = refl
 after_marks-offline p s (m ∷ marks) =
     ap (λ (x : Station). after_marks p (after_mark p x m) marks) (no_timer (record s { phase = Offline }) s.busy (moment_of m))
     ∙ after_marks-offline p s marks
+
+is_offline-Offline : (ph : Phase) → is_offline ph ≡ true → ph ≡ Offline
+is_offline-Offline Offline e = refl
+is_offline-Offline PassiveIdle e = absurd (let wrong : false ≡ true = e in cc)
+is_offline-Offline (Listening doubled) e = absurd (let wrong : false ≡ true = e in cc)
+is_offline-Offline (Idle refused) e = absurd (let wrong : false ≡ true = e in cc)
+is_offline-Offline (Claim sent ready) e = absurd (let wrong : false ≡ true = e in cc)
+is_offline-Offline (Use asked ready) e = absurd (let wrong : false ≡ true = e in cc)
+is_offline-Offline (AwaitData asked retry slot) e = absurd (let wrong : false ≡ true = e in cc)
+is_offline-Offline (AwaitStatus of slot) e = absurd (let wrong : false ≡ true = e in cc)
+is_offline-Offline (Pass tries ready) e = absurd (let wrong : false ≡ true = e in cc)
+is_offline-Offline (Checking tries) e = absurd (let wrong : false ≡ true = e in cc)
+
+-- one that is offline reads its marks and knows nothing of them
+pub after_marks-is_offline : (p : Params) (s : Station) (marks : List Mark) → is_offline s.phase ≡ true → after_marks p s marks ≡ s
+after_marks-is_offline p s marks off =
+    subst (λ (ph : Phase). after_marks p (record s { phase = ph }) marks ≡ record s { phase = ph }) (sym (is_offline-Offline s.phase off)) (after_marks-offline p s marks)
 
 turn_of-offline_phase : (p : Params) (s : Station) (ph : Phase) (marks : List Mark) (now : ℕ) → ph ≡ Offline
     → turn_of p (record s { phase = ph }) marks now ≡ (record s { phase = ph }, None)

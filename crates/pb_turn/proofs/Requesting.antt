@@ -25,13 +25,14 @@ use Rattle.pb_cycles.specs.declared.initiators.OpenRequest.{OpenRequest}
 use Rattle.pb_cycles.specs.declared.outcomes.Outcome.{Outcome}
 use Rattle.pb_cycles.specs.declared.outcomes.Outcome.TheVariants.{Acked, NoAnswer}
 use Rattle.pb_turn.specs.Arrivals.{Arrival, Token, Framed, Acknowledgement, NoTelegram, arrival_of}
-use Rattle.pb_turn.specs.Hearing.{asked_station, outcome_at, cycle_closed, not_answered, phase_timed_out, timed_out, after_timer, begun, passive, in_ring, asks_status, answer_to, listening_answer, passive_hears, lost, data_told, awaiting_data_hears, after_mark}
-use Rattle.pb_turn.specs.Laws.{are_initiator, HasReply, HasCycles}
+use Rattle.pb_turn.specs.Hearing.{asked_station, outcome_at, cycle_closed, not_answered, phase_timed_out, timed_out, after_timer, phase_begun, begun, passive, in_ring, asks_status, answer_to, listening_answer, passive_hears, lost, data_told, awaiting_data_hears, after_mark}
+use Rattle.pb_turn.specs.Laws.{are_initiator, HasReply, HasCycles, WaitsInPlace}
 use Rattle.pb_turn.specs.Marks.{Mark, Begin, End, moment_of}
-use Rattle.pb_turn.specs.Phases.{Phase, PassiveIdle, Use, AwaitData, is_offline, may_initiate}
-use Rattle.pb_turn.specs.Stations.{Station, Cycles, Reply, speaks_at, next_station, list_for, pushed}
+use Rattle.pb_turn.specs.Phases.{Phase, Offline, PassiveIdle, Listening, Idle, Claim, Use, AwaitData, AwaitStatus, Pass, Checking, answers_requests, is_offline, may_initiate}
+use Rattle.pb_turn.specs.Stations.{Station, Cycles, Reply, phase_speaks, speaks_at, next_station, list_for, pushed}
 use Rattle.pb_turn.specs.Turns.{after_marks, settled, saying, says_token, says_look, longest_waiting, high_request, low_request, high_taken, low_taken, says_request, says_low, says_high, says_again, says_reply, phase_says, speech, turn_of}
 use Rattle.pb_turn.proofs.Busy.{silent-begun}
+use Rattle.pb_turn.proofs.InPlace.{none-begun}
 use Rattle.pb_turn.proofs.Cases.{by_test, or-true}
 use Rattle.pb_turn.proofs.Initiating.{holder-turn_of}
 use Rattle.pb_turn.proofs.Keeping.{waiting_reply}
@@ -108,11 +109,33 @@ told-on p s asked r now not =
 
 -- ---- a begin
 
-pub begin-drops : (p : Params) (s : Station) (at seen : ℕ) → is_offline s.phase ≡ false → (after_mark p s (Begin at seen)).reply ≡ None
-begin-drops p s at seen on = ap (λ (b : Bool). (if b then s else begun s at).reply) on
+-- who answers requests is not offline
+on-answers : (ph : Phase) → answers_requests ph ≡ true → is_offline ph ≡ false
+on-answers Offline e = absurd (let wrong : false ≡ true = e in cc)
+on-answers PassiveIdle e = refl
+on-answers (Listening doubled) e = refl
+on-answers (Idle refused) e = refl
+on-answers (Claim sent ready) e = refl
+on-answers (Use asked ready) e = refl
+on-answers (AwaitData asked retry slot) e = refl
+on-answers (AwaitStatus of slot) e = refl
+on-answers (Pass tries ready) e = refl
+on-answers (Checking tries) e = refl
 
-pub begin-silences : (p : Params) (s : Station) (at seen : ℕ) → is_offline s.phase ≡ false → speaks_at (after_mark p s (Begin at seen)) ≡ None
-begin-silences p s at seen on = ap (λ (b : Bool). speaks_at (if b then s else begun s at)) on ∙ silent-begun s.phase s.own.begin at
+pub begin-drops : (p : Params) (s : Station) (at seen : ℕ) → answers_requests s.phase ≡ true → (after_mark p s (Begin at seen)).reply ≡ None
+begin-drops p s at seen answers =
+    ap (λ (b : Bool). (if b then s else begun s at).reply) (on-answers s.phase answers) ∙ ap (λ (b : Bool). if b then None else s.reply) answers
+
+pub begin-keeps : (p : Params) (s : Station) (at seen : ℕ) → answers_requests s.phase ≡ false → (after_mark p s (Begin at seen)).reply ≡ s.reply
+begin-keeps p s at seen answers =
+    by_test (λ (x : Station). x.reply ≡ s.reply) (is_offline s.phase) s (begun s at) (λ _. refl) (λ _. ap (λ (b : Bool). if b then None else s.reply) answers)
+
+pub begin-silences : (p : Params) (s : Station) (at seen : ℕ) → is_offline s.phase ≡ false → WaitsInPlace s.phase s.reply
+    → speaks_at (after_mark p s (Begin at seen)) ≡ None
+begin-silences p s at seen on here =
+    ap (λ (b : Bool). speaks_at (if b then s else begun s at)) on
+    ∙ ap (λ (o : Option Reply). phase_speaks o (phase_begun s.phase s.own.begin at)) (none-begun s.phase s.reply here)
+    ∙ silent-begun s.phase s.own.begin at
 
 -- ---- a slot
 

@@ -20,7 +20,7 @@ use Rattle.pb_cycles.specs.declared.initiators.OpenRequest.{OpenRequest}
 use Rattle.pb_cycles.specs.declared.outcomes.Outcome.{Outcome}
 use Rattle.pb_turn.specs.Arrivals.{Arrival, Token, Framed, Acknowledgement, NoTelegram, arrival_of}
 use Rattle.pb_turn.specs.Marks.{Mark, Begin, End}
-use Rattle.pb_turn.specs.Phases.{Phase, Offline, PassiveIdle, Listening, Idle, Claim, Use, AwaitData, AwaitStatus, Pass, Checking, is_offline}
+use Rattle.pb_turn.specs.Phases.{Phase, Offline, PassiveIdle, Listening, Idle, Claim, Use, AwaitData, AwaitStatus, Pass, Checking, answers_requests, is_offline}
 use Rattle.pb_turn.specs.Stations.{Station, Reply, Cycles, timer_of, next_station, previous_station}
 
 -- ---- timers
@@ -104,9 +104,12 @@ phase_begun (AwaitStatus of slot) own at = AwaitStatus of (slot && nat_lt at own
 phase_begun (Pass tries ready) own at = Idle None
 phase_begun (Checking tries) own at = if nat_lt at own then Checking tries else Idle None
 
--- a reply that is not sent yet is dropped
+-- one that answers requests drops a reply that is not sent yet
+abbrev pub reply_begun : Phase → Option Reply → Option Reply
+reply_begun phase reply = if answers_requests phase then None else reply
+
 abbrev pub begun : Station → ℕ → Station
-begun s at = record s { busy = true; reply = None; phase = phase_begun s.phase s.own.begin at }
+begun s at = record s { busy = true; reply = reply_begun s.phase s.reply; phase = phase_begun s.phase s.own.begin at }
 
 -- ---- activity ends
 

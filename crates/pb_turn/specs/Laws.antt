@@ -120,6 +120,20 @@ HasOpen pending (Checking tries) = Unit {0}
 abbrev pub HasOpenRequest : Station → Type 0
 HasOpenRequest s = HasOpen s.cycles.initiator.pending s.phase
 
--- a station that is busy has nothing to say
-abbrev pub IsSilentWhileBusy : Station → Type 0
-IsSilentWhileBusy s = s.busy ≡ true → speaks_at s ≡ None
+-- a reply that is not sent yet waits only in a phase that answers requests
+abbrev pub WaitsInPlace : Phase → Option Reply → Type 0
+WaitsInPlace Offline reply = reply ≡ None
+WaitsInPlace PassiveIdle reply = Unit {0}
+WaitsInPlace (Listening doubled) reply = Unit {0}
+WaitsInPlace (Idle refused) reply = Unit {0}
+WaitsInPlace (Claim sent ready) reply = reply ≡ None
+WaitsInPlace (Use asked ready) reply = reply ≡ None
+WaitsInPlace (AwaitData asked retry slot) reply = reply ≡ None
+WaitsInPlace (AwaitStatus of slot) reply = reply ≡ None
+WaitsInPlace (Pass tries ready) reply = reply ≡ None
+WaitsInPlace (Checking tries) reply = reply ≡ None
+
+-- a station that is busy has nothing to say, and keeps no reply for a phase that answers no requests
+pub record IsSilentWhileBusy (s : Station) : Type 0 where
+  pub silent : s.busy ≡ true → speaks_at s ≡ None
+  pub in_place : WaitsInPlace s.phase s.reply

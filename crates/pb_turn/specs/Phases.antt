@@ -35,6 +35,19 @@ may_initiate (AwaitStatus of slot) = true
 may_initiate (Pass tries ready) = true
 may_initiate (Checking tries) = false
 
+-- whether the station answers requests: it neither holds the token nor checks what became of it
+abbrev pub answers_requests : Phase → Bool
+answers_requests Offline = false
+answers_requests PassiveIdle = true
+answers_requests (Listening doubled) = true
+answers_requests (Idle refused) = true
+answers_requests (Claim sent ready) = false
+answers_requests (Use asked ready) = false
+answers_requests (AwaitData asked retry slot) = false
+answers_requests (AwaitStatus of slot) = false
+answers_requests (Pass tries ready) = false
+answers_requests (Checking tries) = false
+
 abbrev pub is_offline : Phase → Bool
 is_offline Offline = true
 is_offline phase = false

@@ -3,7 +3,7 @@ ghost use Rattle.pb_telegram.specs.declared.chars.RxChar.{RxChar};
 ghost use Rattle.pb_timers.specs.Timers.{Params, bits};
 ghost use Rattle.pb_messages.specs.RequestFields.{RequestFields};
 ghost use Rattle.pb_turn.specs.Arrivals.{Token, arrival_of};
-ghost use Rattle.pb_turn.specs.Marks.{Mark, End, moment_of};
+ghost use Rattle.pb_turn.specs.Marks.{Mark, End, moment_of, Alternates};
 ghost use Rattle.pb_turn.specs.Phases.{Offline, Listening, Idle, AwaitData, AwaitStatus, Checking, may_initiate};
 ghost use Rattle.pb_turn.specs.Stations.{Station, timer_of, speaks_at, due_of, previous_station, new_station, started, stopped, pushed};
 ghost use Rattle.pb_turn.specs.Hearing.{phase_timed_out, after_mark};
@@ -127,11 +127,13 @@ pub fn who_waits_for_a_reply_has_an_open_request()
 {}
 
 /// A station that knows of activity says nothing: nobody speaks between a Begin that it has read and its End.
+/// So it is where Begins and Ends take turns, as on every bus: no End comes without its Begin.
 pub fn a_busy_station_says_nothing()
     ensures started { (p : Params) (s : Station) (master : Bool) (now : ℕ) → IsSilentWhileBusy (started p s master now) }
-    ensures turn { (p : Params) (s : Station) (marks : List Mark) (now : ℕ) → IsSilentWhileBusy s → IsSilentWhileBusy (turn_of p s marks now).0 }
+    ensures turn { (p : Params) (s : Station) (marks : List Mark) (now : ℕ) (after : Bool) → Alternates s.busy marks after
+        → IsSilentWhileBusy s → IsSilentWhileBusy (turn_of p s marks now).0 }
     ensures stopped { (s : Station) → IsSilentWhileBusy (stopped s) }
     ensures pushed { (s : Station) (r : RequestFields) → IsSilentWhileBusy s → IsSilentWhileBusy (pushed s r) }
-    ensures silent { (p : Params) (s : Station) (marks : List Mark) (now : ℕ) → IsSilentWhileBusy s
+    ensures silent { (p : Params) (s : Station) (marks : List Mark) (now : ℕ) (after : Bool) → Alternates s.busy marks after → IsSilentWhileBusy s
         → (settled p s marks now).busy ≡ true → turn_of p s marks now ≡ (settled p s marks now, None) }
 {}

@@ -20,9 +20,9 @@ ghost use Rattle.pb_cycles.specs.declared.outcomes.Outcome.{Outcome};
 ghost use Rattle.pb_cycles.specs.declared.outcomes.Outcome.TheVariants.{Acked, NoAnswer};
 ghost use Rattle.pb_turn.specs.Arrivals.{Token, Framed, Acknowledgement, NoTelegram, arrival_of};
 ghost use Rattle.pb_turn.specs.Hearing.{phase_timed_out, listening_hears, idle_hears, awaiting_status_hears, awaiting_data_hears, passive_hears, asks_status, answer_to, listening_answer, is_taken_from, after_mark};
-ghost use Rattle.pb_turn.specs.Laws.{HasAsked, is_asking, status_reply_of, are_initiator, HasReply, HasCycles};
+ghost use Rattle.pb_turn.specs.Laws.{HasAsked, is_asking, status_reply_of, are_initiator, HasReply, HasCycles, WaitsInPlace};
 ghost use Rattle.pb_turn.specs.Marks.{Mark, Begin, End};
-ghost use Rattle.pb_turn.specs.Phases.{Offline, PassiveIdle, Listening, Idle, Claim, Use, AwaitData, AwaitStatus, Pass, Checking, may_initiate, is_offline};
+ghost use Rattle.pb_turn.specs.Phases.{Offline, PassiveIdle, Listening, Idle, Claim, Use, AwaitData, AwaitStatus, Pass, Checking, may_initiate, answers_requests, is_offline};
 ghost use Rattle.pb_turn.specs.Stations.{Station, timer_of, speaks_at, next_station, previous_station, list_for, pushed};
 ghost use Rattle.pb_turn.specs.Turns.{says_token, says_look, says_request, says_again, high_request, low_request, high_taken, low_taken, phase_says, turn_of, token_octets, status_request_octets};
 
@@ -31,13 +31,13 @@ ghost use Rattle.pb_turn.specs.Turns.{says_token, says_look, says_request, says_
 /// again only with a token to it from its previous station. What began before its token is no such sign.
 pub fn activity_ends_the_check()
     ensures begun { (p : Params) (s : Station) (tries at seen : ℕ) → s.phase ≡ Checking tries → s.own.begin ≤ at
-        → after_mark p s (Begin at seen) ≡ record s { phase = Idle None; busy = true; reply = None } }
+        → after_mark p s (Begin at seen) ≡ record s { phase = Idle None; busy = true } }
     ensures in_slot { (p : Params) (s : Station) (tries at seen now : ℕ) (marks : List Mark) → s.phase ≡ Checking tries → s.own.begin ≤ at → at ≤ s.own.end + p.tsl
-        → turn_of p s (Begin at seen ∷ marks) now ≡ turn_of p (record s { phase = Idle None; busy = true; reply = None }) marks now }
+        → turn_of p s (Begin at seen ∷ marks) now ≡ turn_of p (record s { phase = Idle None; busy = true }) marks now }
     ensures taken { (p : Params) (s : Station) (tries at seen until delivered : ℕ) (chars : List RxChar) → s.phase ≡ Checking tries → s.own.begin ≤ at
         → may_initiate (after_mark p (after_mark p s (Begin at seen)) (End until delivered chars)).phase ≡ true → arrival_of chars ≡ Token s.address (previous_station s) }
     ensures before { (p : Params) (s : Station) (tries at seen : ℕ) → s.phase ≡ Checking tries → at < s.own.begin
-        → after_mark p s (Begin at seen) ≡ record s { busy = true; reply = None } }
+        → after_mark p s (Begin at seen) ≡ record s { busy = true } }
     ensures heard { (p : Params) (s : Station) (m : Mark) (tries : ℕ) → s.phase ≡ Checking tries → may_initiate (after_mark p s m).phase ≡ false }
 {}
 
@@ -145,10 +145,13 @@ pub fn what_is_only_told_waits_for_no_answer()
         → (says_request p s asked r now).0.phase ≡ Use asked (now + bits (length (frame_octets (first_sending s.cycles.initiator s.address r))) + p.tid2) }
 {}
 
-/// A reply that is not sent yet is dropped where activity begins, and nobody else speaks then either.
+/// Where activity begins, a station that answers requests drops a reply that is not sent yet; another keeps it.
+/// One that keeps none says nothing then.
 pub fn a_reply_is_dropped_where_activity_begins()
-    ensures reply { (p : Params) (s : Station) (at seen : ℕ) → is_offline s.phase ≡ false → (after_mark p s (Begin at seen)).reply ≡ None }
-    ensures silent { (p : Params) (s : Station) (at seen : ℕ) → is_offline s.phase ≡ false → speaks_at (after_mark p s (Begin at seen)) ≡ None }
+    ensures reply { (p : Params) (s : Station) (at seen : ℕ) → answers_requests s.phase ≡ true → (after_mark p s (Begin at seen)).reply ≡ None }
+    ensures stays { (p : Params) (s : Station) (at seen : ℕ) → answers_requests s.phase ≡ false → (after_mark p s (Begin at seen)).reply ≡ s.reply }
+    ensures silent { (p : Params) (s : Station) (at seen : ℕ) → is_offline s.phase ≡ false → WaitsInPlace s.phase s.reply
+        → speaks_at (after_mark p s (Begin at seen)) ≡ None }
 {}
 
 /// Where nothing is heard, a request is sent again once its slot has ended and not before, in the same octets.

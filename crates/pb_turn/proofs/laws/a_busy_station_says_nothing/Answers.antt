@@ -1,5 +1,4 @@
-use Rattle.std.proofs.Common.{refl}
-use Rattle.pb_turn.proofs.Busy.{silent-started, silent-turn_of, silent-busy}
+use Rattle.pb_turn.proofs.Busy.{silent-started, silent-turn_of, silent-busy, silent-stopped, silent-pushed}
 use Rattle.pb_turn.proofs.laws.a_busy_station_says_nothing.Goals as goal
 
 pub returns-clause-started : goal.returns-clause-started
@@ -12,7 +11,7 @@ pub returns-clause-silent : goal.returns-clause-silent
 returns-clause-silent c = silent-busy
 
 pub returns-clause-stopped : goal.returns-clause-stopped
-returns-clause-stopped c s busy = refl
+returns-clause-stopped c = silent-stopped
 
 pub returns-clause-pushed : goal.returns-clause-pushed
-returns-clause-pushed c s r silent = silent
+returns-clause-pushed c = silent-pushed
