@@ -1,5 +1,6 @@
 pub mod SetLemmas
 pub mod WordLemmas
+pub mod Masks
 pub mod GapLemmas
 pub mod ListLemmas
 pub mod StandsForLemmas

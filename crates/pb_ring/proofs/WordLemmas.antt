@@ -5,7 +5,7 @@ use Rattle.std.specs.Option.{option_or}
 use Rattle.std.proofs.lemmas.Bool.Decides.{nat_tests}
 use Rattle.std.specs.Int.{bit_at}
 use Rattle.std.proofs.Math.Bool.{and-true}
-use Rattle.std.proofs.lemmas.Bool.{and_right, and_from, and_left, lt-ltb, le-ltb, le-leb, leb-true, ltb-true, cases_Bool, eq-eqb, ne_eqb, cases_eq}
+use Rattle.std.proofs.lemmas.Bool.{and_right, and_from, and_left, lt-ltb, le-leb, leb-true, ltb-true, cases_Bool, eq-eqb, ne_eqb, cases_eq}
 use Rattle.std.proofs.lemmas.Nat.{or_lt, one_shl}
 use Rattle.std.proofs.lemmas.Nat.Bits.{bit_at-zero, bit_at_set_same, bit_at_set_other, bit_at_clear_same, bit_at_clear_other, bit_at-lt, bit_at_and, bit_at_not}
 use Rattle.std.proofs.Math.Pow.{pow-lt}
@@ -189,41 +189,6 @@ pub before-wrapped : (n a : ℕ) (o : Option ℕ) → None ≡ last_of (filter (
     → o ≡ last_of (filter (λ x. nat_le a x && nat_lt x 127) (listed n)) → o ≡ last_of (from_at a (listed n))
 before-wrapped n a o below e =
     sym (last_of-at n a ∙ ap (λ (o : Option ℕ). option_or o (last_of (filter (λ x. nat_le a x && nat_lt x 127) (listed n)))) (sym below) ∙ sym e)
-
--- ---- a run that a loop sets
-
--- bits are set below a place exactly where a test holds
-abbrev pub IsSetBelow : (ℕ → Bool) → ℕ → ℕ → Type 0
-IsSetBelow p bits a = listed bits ≡ filter (λ x. p x && nat_lt x a) addresses
-
-pub set_below-none : (p : ℕ → Bool) → IsSetBelow p 0 0
-set_below-none p = listed-zero ∙ sym (filter-addresses (λ x. p x && nat_lt x 0) (λ x. false) (λ x h. and_right (p x) (nat_lt x 0) (le-ltb x 0 (omega arith))) ∙ filter-none addresses)
-
-below_next : (x a : ℕ) → (x ≡ a → ⊥) → nat_lt x a ≡ nat_lt x (a + 1)
-below_next x a other = grind (arith, nat_tests)
-
-pub set_below-set : (p : ℕ → Bool) (bits a : ℕ) → a < 127 → p a ≡ true → IsSetBelow p bits a → IsSetBelow p (bit_or bits (1 * 2 ^ a % 2 ^ 128)) (a + 1)
-set_below-set p bits a fits holds before =
-    listed-set bits a fits ∙ ap (with_address a) before ∙ with_address-addresses (λ x. p x && nat_lt x a) a fits
-    ∙ filter-addresses (λ x. x == a || (p x && nat_lt x a)) (λ x. p x && nat_lt x (a + 1)) (λ x h. elim (cases_eq x a) [
-      | inl same ↦ (let pass : p x ≡ true = ap p same ∙ holds in rw (eq-eqb x a same, pass, lt-ltb x (a + 1) (omega arith)) refl)
-      | inr other ↦ rw (ne_eqb x a other) (ap (λ (b : Bool). p x && b) (below_next x a other))
-    ])
-
-pub set_below-passed : (p : ℕ → Bool) (bits a : ℕ) → p a ≡ false → IsSetBelow p bits a → IsSetBelow p bits (a + 1)
-set_below-passed p bits a fails before =
-    before
-    ∙ filter-addresses (λ x. p x && nat_lt x a) (λ x. p x && nat_lt x (a + 1)) (λ x h. elim (cases_eq x a) [
-      | inl same ↦ (let none : p x ≡ false = ap p same ∙ fails in and_left (p x) (nat_lt x a) none ∙ sym (and_left (p x) (nat_lt x (a + 1)) none))
-      | inr other ↦ ap (λ (b : Bool). p x && b) (below_next x a other)
-    ])
-
-pub set_below-upto : (p : ℕ → Bool) (bits a highest : ℕ) → a ≡ highest + 1 → IsSetBelow p bits a → listed bits ≡ filter (λ x. p x && nat_le x highest) addresses
-set_below-upto p bits a highest end before =
-    before ∙ filter-addresses (λ x. p x && nat_lt x a) (λ x. p x && nat_le x highest) (λ x h. ap (λ (b : Bool). p x && b) (same_test x a highest end))
-  where
-    same_test : (x a highest : ℕ) → a ≡ highest + 1 → nat_lt x a ≡ nat_le x highest
-    same_test x a highest end = grind (arith, nat_tests)
 
 -- two sets are equal where their bits are
 pub equal-words : (r : Bool) (xs ys : List ℕ) (m n : ℕ) → r ≡ (m == n) → listed m ≡ xs → listed n ≡ ys → m < 2 ^ 127 → n < 2 ^ 127 → r ≡ (bits_of xs == bits_of ys)

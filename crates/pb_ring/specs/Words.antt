@@ -1,5 +1,5 @@
 -- A set of addresses in the bits of a number: an address is in the set where its bit is 1.
-use Rattle.std.specs.Prelude.{ℕ, ◌+◌, ◌==◌, ◌^◌, List, [], ◌∷◌, filter}
+use Rattle.std.specs.Prelude.{◌≡◌, ℕ, ◌+◌, ◌<◌, ◌==◌, ◌^◌, Bool, List, [], ◌∷◌, filter}
 use Rattle.std.specs.Int.{bit_at}
 use Rattle.pb_ring.specs.AddressSets.{addresses}
 
@@ -11,3 +11,7 @@ listed n = filter (λ a. bit_at n a == 1) addresses
 abbrev pub bits_of : List ℕ → ℕ
 bits_of [] = 0
 bits_of (x ∷ xs) = 2 ^ x + bits_of xs
+
+-- the bit of each address is 1 exactly where the address passes a test
+abbrev pub IsSetOf : (ℕ → Bool) → ℕ → Type 0
+IsSetOf test n = (a : ℕ) → a < 127 → (bit_at n a == 1) ≡ test a

@@ -1,11 +1,13 @@
-use Rattle.std.proofs.Common.{◌∙◌, ◌-◌, sym, arith}
+use Rattle.std.proofs.Common.{arith}
+use Rattle.pb_ring.proofs.Masks.{part-set, part-none, part-clear}
 use Rattle.pb_ring.proofs.WordLemmas.{highest-is, highest-is_none}
 use Rattle.pb_ring.proofs.words.highest_set.Goals as goal
 
-pub returns-then-is_set : goal.returns-then-is_set
-returns-then-is_set c =
-    highest-is c.args.bits c.args.low c.args.high (c.loop-address.address - 1) c.requires (omega arith) (omega arith)
-    (sym c.is_set.ensures ∙ c.if-is_set.true) (λ x l h. c.loop-address.invariant x (omega arith) h)
+pub returns-then-left-eq0 : goal.returns-then-left-eq0
+returns-then-left-eq0 c = highest-is_none c.args.bits c.args.low c.args.high c.requires (part-none c.args.bits c.within-left.result c.args.low c.args.high c.within-left.ensures c.if-left-eq0.true)
 
 pub returns : goal.returns
-returns c = highest-is_none c.args.bits c.args.low c.args.high c.requires (λ x l h. c.loop-address.invariant x (omega arith) h)
+returns c =
+    let here = part-set c.args.bits c.within-left.result c.args.low c.args.high c.highest_bit.result c.within-left.ensures c.highest_bit.ensures.set in
+    highest-is c.args.bits c.args.low c.args.high c.highest_bit.result c.requires here.1 here.2 here.0
+    (λ x above below. part-clear c.args.bits c.within-left.result c.args.low c.args.high x c.within-left.ensures (c.highest_bit.ensures.highest x (omega arith)) (omega (arith, here.1)) below)
