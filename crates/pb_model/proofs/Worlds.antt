@@ -35,13 +35,13 @@ world_after-unless P w next reply tests before after = by_fault (first_fault tes
 
 -- ---- the trace
 
-begun-with_entry : (now : ℕ) (e : Entry) (trace : List Entry) → entry_begin e ≤ now → entry_begin e < entry_end e → AllBegun now trace → AllBegun now (with_entry e trace)
+pub begun-with_entry : (now : ℕ) (e : Entry) (trace : List Entry) → entry_begin e ≤ now → entry_begin e < entry_end e → AllBegun now trace → AllBegun now (with_entry e trace)
 begun-with_entry now e [] begun some all = (begun, some, tt)
 begun-with_entry now e (x ∷ xs) begun some all =
     by_test (λ (es : List Entry). AllBegun now es) (goes_before e x) (e ∷ x ∷ xs) (x ∷ with_entry e xs)
     (λ _. (begun, some, all)) (λ _. (all.0, all.1, begun-with_entry now e xs begun some all.2))
 
-begun-entry_at : (delay : ℕ) (taps : List Tap) (trace : List Entry) (now later : ℕ) (es : List Entry) → now ≤ later → AllBegun now es
+pub begun-entry_at : (delay : ℕ) (taps : List Tap) (trace : List Entry) (now later : ℕ) (es : List Entry) → now ≤ later → AllBegun now es
     → AllBegun later (map (entry_at delay taps trace now later) es)
 begun-entry_at delay taps trace now later [] le all = tt
 begun-entry_at delay taps trace now later (Noise span ∷ es) le all = (omega (arith, all.0), all.1, begun-entry_at delay taps trace now later es le all.2)
@@ -52,28 +52,28 @@ begun-entry_at delay taps trace now later (Sent r ∷ es) le all =
     (λ _. (omega (arith, all.0), all.1, begun-entry_at delay taps trace now later es le all.2))
 
 -- a change that leaves an entry its begin, and shortens none
-abbrev Lengthens : (Entry → Entry) → Type 0
+abbrev pub Lengthens : (Entry → Entry) → Type 0
 Lengthens change = (e : Entry) → (entry_begin (change e) ≡ entry_begin e) × (entry_end e ≤ entry_end (change e))
 
-lengthens-with_hit : (hit : Hit) → Lengthens (with_hit hit)
+pub lengthens-with_hit : (hit : Hit) → Lengthens (with_hit hit)
 lengthens-with_hit hit (Noise span) = (refl, omega arith)
 lengthens-with_hit hit (Sent r) = (refl, omega arith)
 
-lengthens-noisy_until : (m : ℕ) → Lengthens (noisy_until m)
+pub lengthens-noisy_until : (m : ℕ) → Lengthens (noisy_until m)
 lengthens-noisy_until m (Noise span) = (refl, omega arith)
 lengthens-noisy_until m (Sent r) = (refl, omega arith)
 
-lengthens-unheard_at : (tap : ℕ) → Lengthens (unheard_at tap)
+pub lengthens-unheard_at : (tap : ℕ) → Lengthens (unheard_at tap)
 lengthens-unheard_at tap (Noise span) = (refl, omega arith)
 lengthens-unheard_at tap (Sent r) = (refl, omega arith)
 
-begun-change_first : (now : ℕ) (test : Entry → Bool) (change : Entry → Entry) (es : List Entry) → Lengthens change → AllBegun now es → AllBegun now (change_first test change es)
+pub begun-change_first : (now : ℕ) (test : Entry → Bool) (change : Entry → Entry) (es : List Entry) → Lengthens change → AllBegun now es → AllBegun now (change_first test change es)
 begun-change_first now test change [] same all = tt
 begun-change_first now test change (e ∷ es) same all =
     by_test (λ (xs : List Entry). AllBegun now xs) (test e) (change e ∷ es) (e ∷ change_first test change es)
     (λ _. (omega (arith, (same e).0, all.0), omega (arith, (same e).0, (same e).1, all.1), all.2)) (λ _. (all.0, all.1, begun-change_first now test change es same all.2))
 
-begun-cut_at : (now tap : ℕ) (es : List Entry) → AllBegun now es → AllBegun now (map (cut_at now tap) es)
+pub begun-cut_at : (now tap : ℕ) (es : List Entry) → AllBegun now es → AllBegun now (map (cut_at now tap) es)
 begun-cut_at now tap [] all = tt
 begun-cut_at now tap (Noise span ∷ es) all = (all.0, all.1, begun-cut_at now tap es all.2)
 begun-cut_at now tap (Sent r ∷ es) all =
@@ -92,23 +92,23 @@ started-at now [] i t all e = absurd (none-some t e)
 started-at now (x ∷ xs) zero t all e = subst (λ (y : Tap). y.since ≤ now) (same_Some x t e) all.0
 started-at now (x ∷ xs) (suc i) t all e = started-at now xs i t all.2 e
 
-sayable-set : (ts : List Tap) (i : ℕ) (t : Tap) → Sayable t.station → AllSayable ts → AllSayable (slice_set ts i t)
+pub sayable-set : (ts : List Tap) (i : ℕ) (t : Tap) → Sayable t.station → AllSayable ts → AllSayable (slice_set ts i t)
 sayable-set [] i t has all = tt
 sayable-set (x ∷ xs) zero t has all = (has, all.1)
 sayable-set (x ∷ xs) (suc i) t has all = (all.0, sayable-set xs i t has all.1)
 
-sayable-at : (ts : List Tap) (i : ℕ) (t : Tap) → AllSayable ts → slice_get ts i ≡ Some t → Sayable t.station
+pub sayable-at : (ts : List Tap) (i : ℕ) (t : Tap) → AllSayable ts → slice_get ts i ≡ Some t → Sayable t.station
 sayable-at [] i t all e = absurd (none-some t e)
 sayable-at (x ∷ xs) zero t all e = subst (λ (y : Tap). Sayable y.station) (same_Some x t e) all.0
 sayable-at (x ∷ xs) (suc i) t all e = sayable-at xs i t all.1 e
 
-sayable-told : (delay : ℕ) (trace : List Entry) (from to tap : ℕ) (ts : List Tap) → AllSayable ts → AllSayable (told delay trace from to tap ts)
+pub sayable-told : (delay : ℕ) (trace : List Entry) (from to tap : ℕ) (ts : List Tap) → AllSayable ts → AllSayable (told delay trace from to tap ts)
 sayable-told delay trace from to tap [] all = tt
 sayable-told delay trace from to tap (t ∷ ts) all = (all.0, sayable-told delay trace from to (tap + 1) ts all.1)
 
 -- ---- Turn
 
-begun-with_said : (w : World) (tap : ℕ) (o : Option (List ℕ)) → IfSome o (λ octets. (0 < length octets) × (length octets ≤ 255)) → AllBegun w.now w.trace
+pub begun-with_said : (w : World) (tap : ℕ) (o : Option (List ℕ)) → IfSome o (λ octets. (0 < length octets) × (length octets ≤ 255)) → AllBegun w.now w.trace
     → AllBegun w.now (with_said tap o w.now w.taps w.trace)
 begun-with_said w tap None fits all = all
 begun-with_said w tap (Some octets) fits all =
@@ -207,7 +207,7 @@ sound-queue w tap r (Some t) e is sound =
 
 -- ---- Noise and Unheard
 
-begun-with_noise : (w : World) (bits : ℕ) (noisy : Bool) → 0 < bits → AllBegun w.now w.trace → AllBegun w.now (with_noise w.now (w.now + bits) noisy w.trace)
+pub begun-with_noise : (w : World) (bits : ℕ) (noisy : Bool) → 0 < bits → AllBegun w.now w.trace → AllBegun w.now (with_noise w.now (w.now + bits) noisy w.trace)
 begun-with_noise w bits true some all = begun-change_first w.now (is_noise_at w.now) (noisy_until (w.now + bits)) w.trace (lengthens-noisy_until (w.now + bits)) all
 begun-with_noise w bits false some all = begun-with_entry w.now (Noise (record { begin = w.now; end = w.now + bits })) w.trace (omega arith) (omega (arith, some)) all
 
@@ -258,7 +258,7 @@ sound-stopped_taps : (p : Params) (specs : List TapSpec) → AllInOrder 0 (map (
 sound-stopped_taps p [] = tt
 sound-stopped_taps p (spec ∷ specs) = (omega arith, omega arith, sound-stopped_taps p specs)
 
-sayable-stopped_taps : (p : Params) (specs : List TapSpec) → AllFit specs → AllSayable (map (stopped_tap p) specs)
+pub sayable-stopped_taps : (p : Params) (specs : List TapSpec) → AllFit specs → AllSayable (map (stopped_tap p) specs)
 sayable-stopped_taps p [] fit = tt
 sayable-stopped_taps p (spec ∷ specs) fit = ((tt, cycles-new p spec.address spec.reply fit.0), sayable-stopped_taps p specs fit.1)
 

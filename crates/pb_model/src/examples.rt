@@ -44,5 +44,6 @@ pub fn a_stopped_speaker_is_heard_damaged()
 pub fn a_damaged_reply_is_asked_for_again()
     ensures trace { trace_of (world_of master_and_passive data_requested) ≡ data_requested_trace }
     ensures executed { executed_of (world_of master_and_passive data_requested) ≡ 0 ∷ 3 ∷ [] }
-    ensures outcome { outcomes_of (world_of master_and_passive data_requested) ≡ Some (7, Data (record { items = 0xaa ∷ 0xbb ∷ [] })) ∷ None ∷ [] }
+    ensures outcome { outcomes_of (world_of master_and_passive data_requested)
+        ≡ Some (7, Data (record { items = 0xaa ∷ 0xbb ∷ [] })) ∷ None ∷ [] }
 {}

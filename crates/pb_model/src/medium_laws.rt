@@ -32,12 +32,16 @@ pub fn stretches_that_overlap_are_one_burst()
 /// A burst brings the characters of a telegram exactly where one filled it alone, which the tap heard
 /// from its beginning, sending nothing meanwhile; else it brings one damaged character.
 pub fn whole_telegrams_fill_their_bursts_alone()
-    ensures brought { (delay : ℕ) (tap : ℕ) (t : Tap) (trace : List Entry) (m : ℕ) → burst_characters delay tap t trace m ≢ Bad ∷ []
+    ensures brought { (delay : ℕ) (tap : ℕ) (t : Tap) (trace : List Entry) (m : ℕ)
+        → burst_characters delay tap t trace m ≢ Bad ∷ []
         → FillsBurst delay tap t trace m (burst_characters delay tap t trace m) }
-    ensures filled { (delay : ℕ) (tap : ℕ) (t : Tap) (trace : List Entry) (m : ℕ) (chars : List RxChar) → FillsBurst delay tap t trace m chars
+    ensures filled { (delay : ℕ) (tap : ℕ) (t : Tap) (trace : List Entry) (m : ℕ) (chars : List RxChar)
+        → FillsBurst delay tap t trace m chars
         → FillsBurst delay tap t trace m (burst_characters delay tap t trace m) }
-    ensures alone { (delay : ℕ) (tap : ℕ) (t : Tap) (trace : List Entry) (r : Record) → fills_burst delay tap t trace r ≡ true → FillsAlone delay tap t trace r }
-    ensures lone { (delay : ℕ) (tap : ℕ) (t : Tap) (trace : List Entry) (r : Record) → FillsAlone delay tap t trace r → fills_burst delay tap t trace r ≡ true }
+    ensures alone { (delay : ℕ) (tap : ℕ) (t : Tap) (trace : List Entry) (r : Record)
+        → fills_burst delay tap t trace r ≡ true → FillsAlone delay tap t trace r }
+    ensures lone { (delay : ℕ) (tap : ℕ) (t : Tap) (trace : List Entry) (r : Record)
+        → FillsAlone delay tap t trace r → fills_burst delay tap t trace r ≡ true }
 {}
 
 /// Two telegrams that begin in one instant don't hear each other: neither fills a burst at the tap
@@ -52,8 +56,10 @@ pub fn telegrams_of_one_instant_are_not_heard()
 /// none yet, a telegram whose speaker stops now closes none yet, noise that lasts longer leaves its own
 /// open, and what begins now and is lost at a tap was not open there.
 pub fn only_a_pass_opens_a_burst()
-    ensures started { (delay : ℕ) (tap now : ℕ) (trace : List Entry) → is_open (sensed delay tap now trace) now ≡ false }
-    ensures begun { (delay : ℕ) (tap since now : ℕ) (e : Entry) (trace : List Entry) → delay ≡ 0 → entry_begin e ≡ now
+    ensures started { (delay : ℕ) (tap now : ℕ) (trace : List Entry)
+        → is_open (sensed delay tap now trace) now ≡ false }
+    ensures begun { (delay : ℕ) (tap since now : ℕ) (e : Entry) (trace : List Entry) → delay ≡ 0
+        → entry_begin e ≡ now
         → is_open (sensed delay tap since (with_entry e trace)) now ≡ is_open (sensed delay tap since trace) now }
     ensures stopped { (delay : ℕ) (tap since now speaker : ℕ) (trace : List Entry) → delay ≡ 0
         → is_open (sensed delay tap since (map (cut_at now speaker) trace)) now ≡ is_open (sensed delay tap since trace) now }
@@ -68,8 +74,10 @@ pub fn only_a_pass_opens_a_burst()
 pub fn what_has_ended_matters_no_more()
     ensures ends { (delay : ℕ) (m now : ℕ) (old recent : List Entry) → delay ≡ 0 → AllOver m old → m ≤ now
         → next_end_of delay now (old ++ recent) ≡ next_end_of delay now recent }
-    ensures telegrams { (delay : ℕ) (m from to : ℕ) (taps : List Tap) (old recent : List Entry) → delay ≡ 0 → AllOver m old → AllFrom m recent → m ≤ from
+    ensures telegrams { (delay : ℕ) (m from to : ℕ) (taps : List Tap) (old recent : List Entry) → delay ≡ 0
+        → AllOver m old → AllFrom m recent → m ≤ from
         → map (entry_at delay taps (old ++ recent) from to) (old ++ recent) ≡ old ++ map (entry_at delay taps recent from to) recent }
-    ensures marks { (delay : ℕ) (tap m from to : ℕ) (t : Tap) (old recent : List Entry) → delay ≡ 0 → AllOver m old → AllFrom m recent → m ≤ from
+    ensures marks { (delay : ℕ) (tap m from to : ℕ) (t : Tap) (old recent : List Entry) → delay ≡ 0
+        → AllOver m old → AllFrom m recent → m ≤ from
         → marks_between delay tap t (old ++ recent) from to ≡ marks_between delay tap t recent from to }
 {}

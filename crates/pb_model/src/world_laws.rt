@@ -12,19 +12,22 @@ pub fn the_clock_never_falls()
 
 /// A refused event changes nothing.
 pub fn a_refused_event_changes_nothing()
-    ensures { (w : World) (event : Event) (fault : Fault) → step w event ≡ Err fault → replay w (event ∷ []) ≡ w }
+    ensures { (w : World) (event : Event) (fault : Fault) → step w event ≡ Err fault
+        → replay w (event ∷ []) ≡ w }
 {}
 
 /// The unread marks of every tap stand in order of time, up to the clock.
 pub fn marks_stand_in_order_of_time()
-    ensures { (p : Params) (specs : List TapSpec) (w : World) (events : List Event) → p.ttd ≡ 0 → AllFit specs → AreEvents events → new_world p specs ≡ Ok w
+    ensures { (p : Params) (specs : List TapSpec) (w : World) (events : List Event) → p.ttd ≡ 0
+        → AllFit specs → AreEvents events → new_world p specs ≡ Ok w
         → AllInOrder (replay w events).now (replay w events).taps }
 {}
 
 /// A pass tells a running tap, behind its unread marks, of the bursts that begin and end in it:
 /// Begins and Ends alternate, from whether a burst is open to whether one is open afterwards.
 pub fn what_a_pass_tells_a_tap()
-    ensures { (p : Params) (specs : List TapSpec) (w : World) (events : List Event) (d tap : ℕ) (next : World) (reply : Reply) (t : Tap)
+    ensures { (p : Params) (specs : List TapSpec) (w : World) (events : List Event) (d tap : ℕ)
+        (next : World) (reply : Reply) (t : Tap)
         → p.ttd ≡ 0 → AllFit specs → AreEvents events → new_world p specs ≡ Ok w → step (replay w events) (Pass d) ≡ Ok (next, reply)
         → slice_get (replay w events).taps tap ≡ Some t → t.running ≡ true → PassTells (replay w events) next tap t }
 {}

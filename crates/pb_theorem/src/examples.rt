@@ -31,13 +31,15 @@ pub fn scenarios_that_keep_the_premises()
 pub fn scenarios_that_break_a_premise()
     ensures namesakes { verdict_of (master 1 ∷ master 1 ∷ []) runs.namesakes ≡ breaks 1 100 None true }
     ensures passive { verdict_of (master 1 ∷ passive 1 ∷ []) runs.first_claims ≡ breaks 1 0 None true }
-    ensures later_taps { verdict_of (passive 9 ∷ master 1 ∷ master 1 ∷ []) runs.last_two_start ≡ breaks 1 0 None true }
+    ensures later_taps { verdict_of (passive 9 ∷ master 1 ∷ master 1 ∷ []) runs.last_two_start
+        ≡ breaks 1 0 None true }
     ensures unheard { verdict_of two_masters taker_unheard ≡ breaks 2 1190 (Some 6) false }
     ensures late { verdict_of two_masters runs.taken_62_late ≡ breaks 3 1252 None true }
     ensures later { verdict_of two_masters runs.taken_63_late ≡ breaks 3 1253 (Some 6) false }
     ensures both_claim { verdict_of two_masters runs.both_claim ≡ breaks 4 1000 (Some 1) false }
     ensures after_noise { verdict_of two_masters runs.both_claim_after_noise ≡ breaks 4 1150 (Some 2) false }
-    ensures delay { verdict_on bus_with_delay two_masters runs.claims_with_delay ≡ breaks 4 1010 (Some 1) false }
+    ensures delay { verdict_on bus_with_delay two_masters runs.claims_with_delay
+        ≡ breaks 4 1010 (Some 1) false }
     ensures least_number { verdict_of two_masters runs.both_are_late ≡ breaks 3 1001 None true }
 {}
 
@@ -45,18 +47,27 @@ pub fn scenarios_that_break_a_premise()
 pub fn traces_are_judged()
     ensures first { illegal_in (by_first 800 (question 2 1) ∷ []) ≡ Some 0 }
     ensures unclaimed { illegal_in (by_first 800 (token 2 1) ∷ []) ≡ Some 0 }
-    ensures goes_on { illegal_in (claimed (by_first 833 (question 2 1) ∷ by_first 900 (token 2 1) ∷ [])) ≡ None }
+    ensures goes_on { illegal_in (claimed (by_first 833 (question 2 1) ∷ by_first 900 (token 2 1) ∷ []))
+        ≡ None }
     ensures not_ended { illegal_in (claimed (by_first 832 (question 2 1) ∷ [])) ≡ Some 1 }
     ensures intrudes { illegal_in (claimed (by_second 870 (question 3 2) ∷ [])) ≡ Some 1 }
-    ensures answered { illegal_in (claimed (by_first 870 (question 2 1) ∷ by_second 947 (answer 1 2) ∷ by_first 1050 (token 2 1) ∷ [])) ≡ None }
-    ensures intrudes_later { illegal_in (claimed (by_first 870 (question 2 1) ∷ by_second 947 (answer 1 2) ∷ by_second 1050 (question 3 2) ∷ [])) ≡ Some 3 }
-    ensures acknowledged { illegal_in (claimed (by_second 870 acknowledgement ∷ by_first 900 (token 2 1) ∷ [])) ≡ None }
+    ensures answered { illegal_in
+        (claimed (by_first 870 (question 2 1) ∷ by_second 947 (answer 1 2) ∷ by_first 1050 (token 2 1) ∷ []))
+        ≡ None }
+    ensures intrudes_later { illegal_in
+        (claimed (by_first 870 (question 2 1) ∷ by_second 947 (answer 1 2) ∷ by_second 1050 (question 3 2) ∷
+        [])) ≡ Some 3 }
+    ensures acknowledged { illegal_in
+        (claimed (by_second 870 acknowledgement ∷ by_first 900 (token 2 1) ∷ [])) ≡ None }
     ensures scrapped { illegal_in (claimed (by_second 870 scrap ∷ by_first 900 (token 2 1) ∷ [])) ≡ None }
     ensures passed_again { illegal_in (passed (by_first 1003 (token 2 1) ∷ [])) ≡ None }
     ensures too_soon { illegal_in (passed (by_first 1002 (token 2 1) ∷ [])) ≡ Some 2 }
     ensures disturbed { illegal_in (passed (noise 1002 1003 ∷ by_first 1003 (token 2 1) ∷ [])) ≡ Some 3 }
-    ensures begun_before { illegal_in (claimed (noise 860 904 ∷ by_first 870 (token 2 1) ∷ by_first 1003 (token 2 1) ∷ [])) ≡ Some 3 }
-    ensures only_before { illegal_in (claimed (noise 860 903 ∷ by_first 870 (token 2 1) ∷ noise 1003 1010 ∷ by_first 1003 (token 2 1) ∷ [])) ≡ None }
+    ensures begun_before { illegal_in
+        (claimed (noise 860 904 ∷ by_first 870 (token 2 1) ∷ by_first 1003 (token 2 1) ∷ [])) ≡ Some 3 }
+    ensures only_before { illegal_in
+        (claimed (noise 860 903 ∷ by_first 870 (token 2 1) ∷ noise 1003 1010 ∷ by_first 1003 (token 2 1) ∷
+        [])) ≡ None }
     ensures taken { illegal_in (passed (takes_at 1002 ∷ [])) ≡ None }
     ensures taken_late { illegal_in (passed (takes_at 1003 ∷ [])) ≡ Some 2 }
     ensures damaged { illegal_in (passed_as Damaged (takes_at 940 ∷ [])) ≡ Some 2 }
@@ -69,19 +80,26 @@ pub fn traces_are_judged()
     ensures claim_for_another { illegal_in (claimed (by_second 1833 (token 1 1) ∷ [])) ≡ Some 1 }
     ensures from_another { illegal_in (claimed (by_second 1833 (token 2 1) ∷ [])) ≡ Some 1 }
     ensures delayed { illegal_on bus_with_delay (claimed (by_second 1848 (token 2 2) ∷ [])) ≡ None }
-    ensures delayed_too_early { illegal_on bus_with_delay (claimed (by_second 1847 (token 2 2) ∷ [])) ≡ Some 1 }
+    ensures delayed_too_early { illegal_on bus_with_delay (claimed (by_second 1847 (token 2 2) ∷ []))
+        ≡ Some 1 }
     ensures own_not_delayed { illegal_on bus_with_delay (passed (by_first 1003 (token 2 1) ∷ [])) ≡ None }
     ensures to_another { illegal_in (claimed (by_second 1833 (token 1 2) ∷ [])) ≡ Some 1 }
 {}
 
 /// Whom the trace names, at both ends of each stretch of time.
 pub fn traces_name_a_station()
-    ensures holder { named_at (0 ∷ 799 ∷ 800 ∷ 832 ∷ 833 ∷ 5000 ∷ []) (claimed []) ≡ None ∷ None ∷ Some 0 ∷ Some 0 ∷ Some 0 ∷ Some 0 ∷ [] }
-    ensures offered { named_at (869 ∷ 870 ∷ 902 ∷ 903 ∷ 1002 ∷ 1003 ∷ []) (passed []) ≡ Some 0 ∷ Some 0 ∷ Some 0 ∷ Some 1 ∷ Some 1 ∷ Some 0 ∷ [] }
-    ensures taken { named_at (939 ∷ 940 ∷ 1100 ∷ []) (passed (takes_at 940 ∷ [])) ≡ Some 1 ∷ Some 1 ∷ Some 1 ∷ [] }
-    ensures answered { named_at (870 ∷ 2000 ∷ []) (claimed (by_second 870 (answer 1 2) ∷ [])) ≡ Some 0 ∷ Some 0 ∷ [] }
-    ensures lost { named_at (902 ∷ 903 ∷ 1002 ∷ 1003 ∷ []) (passed_as Damaged []) ≡ Some 0 ∷ None ∷ None ∷ Some 0 ∷ [] }
-    ensures disturbed { named_at (1002 ∷ 1003 ∷ 5000 ∷ []) (passed (noise 950 951 ∷ [])) ≡ Some 1 ∷ None ∷ None ∷ [] }
+    ensures holder { named_at (0 ∷ 799 ∷ 800 ∷ 832 ∷ 833 ∷ 5000 ∷ []) (claimed [])
+        ≡ None ∷ None ∷ Some 0 ∷ Some 0 ∷ Some 0 ∷ Some 0 ∷ [] }
+    ensures offered { named_at (869 ∷ 870 ∷ 902 ∷ 903 ∷ 1002 ∷ 1003 ∷ []) (passed [])
+        ≡ Some 0 ∷ Some 0 ∷ Some 0 ∷ Some 1 ∷ Some 1 ∷ Some 0 ∷ [] }
+    ensures taken { named_at (939 ∷ 940 ∷ 1100 ∷ []) (passed (takes_at 940 ∷ []))
+        ≡ Some 1 ∷ Some 1 ∷ Some 1 ∷ [] }
+    ensures answered { named_at (870 ∷ 2000 ∷ []) (claimed (by_second 870 (answer 1 2) ∷ []))
+        ≡ Some 0 ∷ Some 0 ∷ [] }
+    ensures lost { named_at (902 ∷ 903 ∷ 1002 ∷ 1003 ∷ []) (passed_as Damaged [])
+        ≡ Some 0 ∷ None ∷ None ∷ Some 0 ∷ [] }
+    ensures disturbed { named_at (1002 ∷ 1003 ∷ 5000 ∷ []) (passed (noise 950 951 ∷ []))
+        ≡ Some 1 ∷ None ∷ None ∷ [] }
 {}
 
 /// A stopped tap may not initiate and is not late, whatever its station was about to do.

@@ -5,5 +5,6 @@ ghost use Rattle.pb_theorem.specs.Commuting.{BothTurn};
 /// Two turns of different taps in one instant read nothing of each other: where they are accepted in one
 /// order, they are accepted in the other, with the same replies, and lead to the same world.
 pub fn turns_of_one_instant_commute()
-    ensures { (w after : World) (i j : ℕ) (first second : Reply) → i ≢ j → BothTurn w i j after first second → BothTurn w j i after second first }
+    ensures { (w after : World) (i j : ℕ) (first second : Reply) → i ≢ j → BothTurn w i j after first second
+        → BothTurn w j i after second first }
 {}

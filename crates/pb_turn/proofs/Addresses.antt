@@ -126,7 +126,7 @@ hearing p s (End at seen chars) = ended-in p _ s.phase at (arrival_of chars)
 mark : (p : Params) (s : Station) (m : Mark) → Has s.address (after_mark p s m)
 mark p s m = by_test (Has s.address) (is_offline s.phase) s _ (λ _. refl) (λ _. hearing p s m)
 
-marks : (p : Params) (s : Station) (ms : List Mark) → Has s.address (after_marks p s ms)
+pub marks : (p : Params) (s : Station) (ms : List Mark) → Has s.address (after_marks p s ms)
 marks p s [] = refl
 marks p s (m ∷ ms) =
     let timed_first = after_timer p (moment_of m) s in

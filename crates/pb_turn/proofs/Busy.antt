@@ -287,6 +287,11 @@ silent-turn_of p s marks now after turns keeps =
       in_place = in_place-speech p x (speaks_at x) now here.in_place;
     }
 
+-- a turn leaves a station busy or not as its marks do
+pub busy-turn_of : (p : Params) (s : Station) (marks : List Mark) (now : ℕ) → (turn_of p s marks now).0.busy ≡ (after_marks p s marks).busy
+busy-turn_of p s marks now =
+    let x = settled p s marks now in busy-speech p x (speaks_at x) now ∙ busy-after_timer p (now + 1) (after_marks p s marks)
+
 pub silent-started : (p : Params) (s : Station) (master : Bool) (now : ℕ) → IsSilentWhileBusy (started p s master now)
 silent-started p s master now = record {
   silent = λ busy. absurd (let wrong : false ≡ true = busy in cc);

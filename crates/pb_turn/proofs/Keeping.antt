@@ -1,5 +1,5 @@
 -- What a station keeps of its message cycles can be said.
-use Rattle.std.proofs.Common.{◌≡◌, ℕ, ◌+◌, ◌*◌, ◌≤◌, ◌==◌, ◌%◌, List, [], ◌∷◌, ◌++◌, length, Bool, true, false, refl, arith, Option, Some, None}
+use Rattle.std.proofs.Common.{◌≡◌, ℕ, ◌+◌, ◌*◌, ◌≤◌, ◌==◌, ◌%◌, List, [], ◌∷◌, ◌++◌, length, Bool, true, false, if◌then◌else◌, refl, arith, Option, Some, None}
 use Rattle.std.specs.Option.{option_map, option_or}
 use Rattle.std.specs.Prelude.{All, IfSome, nat_lt}
 use Rattle.std.proofs.lemmas.List.Elements.{All-drop, All-nil, All-push}
@@ -9,7 +9,7 @@ use Rattle.pb_messages.specs.Fields.{Fields}
 use Rattle.pb_messages.specs.Messages.{has_bit, address_in, reply_octets}
 use Rattle.pb_messages.specs.Queued.{Queued, put}
 use Rattle.pb_messages.specs.RequestFields.{RequestFields}
-use Rattle.pb_messages.specs.Requests.{is_answered, asked_by, IsAddressed}
+use Rattle.pb_messages.specs.Requests.{is_answered, asked_by, code_of, IsAddressed}
 use Rattle.pb_messages.specs.declared.messages.Message.{Message}
 use Rattle.pb_messages.specs.declared.messages.Reply.{Reply}
 use Rattle.pb_messages.specs.declared.messages.Reply.TheVariants.{Acknowledge}
@@ -17,6 +17,9 @@ use Rattle.pb_messages.specs.declared.services.Asked.{Asked}
 use Rattle.pb_messages.specs.declared.services.Asked.TheVariants.{Send, Status, Unknown}
 use Rattle.pb_messages.specs.declared.services.Service.{Service}
 use Rattle.pb_messages.specs.declared.services.Service.TheVariants.{Sda, Sdn, Srd}
+use Rattle.pb_cycles.specs.Counts.{count_bits, count_at}
+use Rattle.pb_cycles.specs.declared.counts.FrameCount.{FrameCount}
+use Rattle.pb_cycles.specs.declared.counts.FrameCount.TheVariants.{First, Clear, Set}
 use Rattle.pb_cycles.specs.Initiating.{after_request, retried, after_silence, message_outcome, closed_by, after_outcome}
 use Rattle.pb_cycles.specs.Responding.{reply_frame, data_reply, service_reply, is_repeat, executed, kept_reply, once, reply_once, counted, after_service, reply_to_service, after_asked, reply_to_asked, after_framed, reply_to_framed}
 use Rattle.pb_cycles.specs.Tables.{InitiatorTable, ResponderTable}
@@ -189,16 +192,33 @@ cycles-closed c message are =
 
 pub open-retried : (o : Option OpenRequest) → IfSome o IsOpenRequest → IfSome (retried o) IsOpenRequest
 open-retried None is = tt
-open-retried (Some o) is = record { addressed = is.addressed; fits = is.fits }
+open-retried (Some o) is = record { addressed = is.addressed; fits = is.fits; request = is.request }
 
 answered-address : (da : ℕ) (service : Service) → IsAddressed da service → is_answered service ≡ true → da ≤ 126
 answered-address da Sda addressed e = addressed
 answered-address da Sdn addressed e = absurd (let wrong : false ≡ true = e in cc)
 answered-address da Srd addressed e = addressed
 
+-- the control octet of a request has bit 6
+code-bit : (service : Service) (high : Bool) (count : FrameCount) → has_bit (0x40 + (if is_answered service then count_bits count else 0) + code_of service high) 6 ≡ true
+code-bit Sda true First = refl
+code-bit Sda true Clear = refl
+code-bit Sda true Set = refl
+code-bit Sda false First = refl
+code-bit Sda false Clear = refl
+code-bit Sda false Set = refl
+code-bit Sdn true count = refl
+code-bit Sdn false count = refl
+code-bit Srd true First = refl
+code-bit Srd true Clear = refl
+code-bit Srd true Set = refl
+code-bit Srd false First = refl
+code-bit Srd false Clear = refl
+code-bit Srd false Set = refl
+
 pub open-request : (t : InitiatorTable) (ts : ℕ) (r : RequestFields) → IsRequest r → MayBeOpen (after_request t ts r)
 open-request t ts r is =
-    by_test MayBeOpen (is_answered r.service) _ _ (λ e. record { addressed = answered-address r.da r.service is.addressed e; fits = is.fits }) (λ _. tt)
+    by_test MayBeOpen (is_answered r.service) _ _ (λ e. record { addressed = answered-address r.da r.service is.addressed e; fits = is.fits; request = code-bit r.service r.high (count_at t.counts r.da) }) (λ _. tt)
 
 -- ---- the requests that wait
 

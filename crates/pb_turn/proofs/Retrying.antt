@@ -142,7 +142,7 @@ left-heard p s (End at seen chars) has = left-ended p (at_end s at) s.phase at (
 left-after_mark : (p : Params) (s : Station) (m : Mark) → HasOpenRequest s → HasOpenRequest (after_mark p s m)
 left-after_mark p s m has = by_test HasOpenRequest (is_offline s.phase) s (heard p s m) (λ _. has) (λ _. left-heard p s m has)
 
-left-after_marks : (p : Params) (s : Station) (marks : List Mark) → HasOpenRequest s → HasOpenRequest (after_marks p s marks)
+pub left-after_marks : (p : Params) (s : Station) (marks : List Mark) → HasOpenRequest s → HasOpenRequest (after_marks p s marks)
 left-after_marks p s [] has = has
 left-after_marks p s (m ∷ marks) has =
     let x = after_timer p (moment_of m) s in

@@ -196,7 +196,7 @@ stands-timed_out s (Checking tries) t h has stands =
     })
     (λ _. in_phase x h (Pass tries t) tt stands)
 
-stands-after_timer : (p : Params) (limit : ℕ) (s : Station) (h : Past) → HasCycles s → StandsForPast p s h → StandsForPast p (after_timer p limit s) (past_after_timer p limit s h)
+pub stands-after_timer : (p : Params) (limit : ℕ) (s : Station) (h : Past) → HasCycles s → StandsForPast p s h → StandsForPast p (after_timer p limit s) (past_after_timer p limit s h)
 stands-after_timer p limit s h has stands = by_timer (timer_of p s)
   where
     by_timer : (o : Option ℕ) → StandsForPast p (timed_out s o limit) (past_timed_out s o limit h)
@@ -334,7 +334,7 @@ stands-after_mark : (p : Params) (s : Station) (m : Mark) (h : Past) → HasCycl
 stands-after_mark p s m h has stands =
     by_one_test (StandsForPast p) (is_offline s.phase) s (heard p s m) h (past_heard s m h) (λ _. stands) (λ _. stands-heard p s m h has stands)
 
-stands-after_marks : (p : Params) (s : Station) (marks : List Mark) (h : Past) → Sayable s → StandsForPast p s h
+pub stands-after_marks : (p : Params) (s : Station) (marks : List Mark) (h : Past) → Sayable s → StandsForPast p s h
     → StandsForPast p (after_marks p s marks) (past_after_marks p s marks h)
 stands-after_marks p s [] h has stands = stands
 stands-after_marks p s (m ∷ marks) h has stands =

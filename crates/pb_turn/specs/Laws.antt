@@ -90,6 +90,7 @@ pub record IsRequest (r : RequestFields) : Type 0 where
 pub record IsOpenRequest (o : OpenRequest) : Type 0 where
   pub addressed : o.sent.da ≤ 126
   pub fits : Fits o.sent.unit
+  pub request : has_bit o.sent.fc 6 ≡ true
 
 -- what a station keeps of its message cycles can be said
 pub record AreCycles (c : Cycles) : Type 0 where

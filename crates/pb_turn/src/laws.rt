@@ -13,12 +13,14 @@ ghost use Rattle.pb_turn.specs.Laws.{IsDueLater, Fits, IsRequest, are_initiator,
 
 /// After a turn the station is due later than the clock, or not at all.
 pub fn a_turn_leaves_the_due_later()
-    ensures { (p : Params) (s : Station) (marks : List Mark) (now : ℕ) → IsDueLater p (turn_of p s marks now).0 now }
+    ensures { (p : Params) (s : Station) (marks : List Mark) (now : ℕ)
+        → IsDueLater p (turn_of p s marks now).0 now }
 {}
 
 /// A turn never changes the address of a station.
 pub fn a_turn_keeps_the_address()
-    ensures { (p : Params) (s : Station) (marks : List Mark) (now : ℕ) → (turn_of p s marks now).0.address ≡ s.address }
+    ensures { (p : Params) (s : Station) (marks : List Mark) (now : ℕ)
+        → (turn_of p s marks now).0.address ≡ s.address }
 {}
 
 /// A turn with nothing to read and nothing due changes nothing and says nothing.
@@ -28,19 +30,23 @@ pub fn nothing_due_changes_nothing()
 
 /// A station that is offline notices nothing and says nothing.
 pub fn who_is_offline_says_nothing()
-    ensures { (p : Params) (s : Station) (marks : List Mark) (now : ℕ) → s.phase ≡ Offline → turn_of p s marks now ≡ (s, None) }
+    ensures { (p : Params) (s : Station) (marks : List Mark) (now : ℕ) → s.phase ≡ Offline
+        → turn_of p s marks now ≡ (s, None) }
 {}
 
 /// While a station is busy its timer waits, however late it is.
 pub fn a_busy_station_waits()
-    ensures { (p : Params) (s : Station) (now : ℕ) → s.busy ≡ true → speaks_at s ≡ None → turn_of p s [] now ≡ (s, None) }
+    ensures { (p : Params) (s : Station) (now : ℕ) → s.busy ≡ true → speaks_at s ≡ None
+        → turn_of p s [] now ≡ (s, None) }
 {}
 
 /// A mark is ordered against the timer by its own moment, and comes first at a tie.
 pub fn a_mark_comes_before_a_timer_at_its_moment()
-    ensures mark { (p : Params) (s : Station) (m : Mark) (marks : List Mark) → IfSome (timer_of p s) (λ t. moment_of m ≤ t)
+    ensures mark { (p : Params) (s : Station) (m : Mark) (marks : List Mark)
+        → IfSome (timer_of p s) (λ t. moment_of m ≤ t)
         → after_marks p s (m ∷ marks) ≡ after_marks p (after_mark p s m) marks }
-    ensures timer { (p : Params) (s : Station) (t : ℕ) (m : Mark) (marks : List Mark) → timer_of p s ≡ Some t → t < moment_of m
+    ensures timer { (p : Params) (s : Station) (t : ℕ) (m : Mark) (marks : List Mark) → timer_of p s ≡ Some t
+        → t < moment_of m
         → after_marks p s (m ∷ marks) ≡ after_marks p (after_mark p (phase_timed_out s s.phase t) m) marks }
 {}
 
@@ -53,7 +59,8 @@ pub fn a_slot_counts_from_the_end()
     ensures asking { (p : Params) (s : Station) (marks : List Mark) (now of : ℕ) (octets : List ℕ)
         → (turn_of p s marks now).1 ≡ Some octets → (turn_of p s marks now).0.phase ≡ AwaitStatus of true → (turn_of p s marks now).0.busy ≡ false
         → due_of p (turn_of p s marks now).0 [] ≡ Some (now + bits (length octets) + p.tsl) }
-    ensures requesting { (p : Params) (s : Station) (marks : List Mark) (now : ℕ) (asked : Bool) (octets : List ℕ)
+    ensures requesting { (p : Params) (s : Station) (marks : List Mark) (now : ℕ) (asked : Bool)
+        (octets : List ℕ)
         → (turn_of p s marks now).1 ≡ Some octets → (turn_of p s marks now).0.phase ≡ AwaitData asked None true → (turn_of p s marks now).0.busy ≡ false
         → due_of p (turn_of p s marks now).0 [] ≡ Some (now + bits (length octets) + p.tsl) }
 {}
@@ -64,7 +71,8 @@ pub fn a_station_that_is_due_speaks()
     ensures due { (p : Params) (s : Station) (marks : List Mark) (now moment : ℕ)
         → speaks_at (settled p s marks now) ≡ Some moment → moment ≤ now
         → turn_of p s marks now ≡ phase_says p (settled p s marks now) (settled p s marks now).phase now }
-    ensures speaks { (p : Params) (s : Station) (now moment : ℕ) → HasOpenRequest s → speaks_at s ≡ Some moment → IsSome (phase_says p s s.phase now).1 }
+    ensures speaks { (p : Params) (s : Station) (now moment : ℕ) → HasOpenRequest s
+        → speaks_at s ≡ Some moment → IsSome (phase_says p s s.phase now).1 }
     ensures not_due { (p : Params) (s : Station) (marks : List Mark) (now : ℕ)
         → IfSome (speaks_at (settled p s marks now)) (λ moment. now < moment) → (turn_of p s marks now).1 ≡ None }
 {}
@@ -83,10 +91,12 @@ pub fn a_first_token_is_taken_from_the_previous_station()
 
 /// Nobody but a holder says a token or a request: a station that does, may initiate as it speaks.
 pub fn only_a_holder_initiates()
-    ensures started { (p : Params) (s : Station) (master : Bool) (now : ℕ) → HasReply (started p s master now) }
+    ensures started { (p : Params) (s : Station) (master : Bool) (now : ℕ)
+        → HasReply (started p s master now) }
     ensures speech { (p : Params) (s : Station) (marks : List Mark) (now : ℕ) → HasReply s → HasCycles s
         → IfSome (turn_of p s marks now).1 (λ octets. are_initiator octets ≡ true → may_initiate (settled p s marks now).phase ≡ true) }
-    ensures reply { (p : Params) (s : Station) (marks : List Mark) (now : ℕ) → HasReply s → HasCycles s → HasReply (turn_of p s marks now).0 }
+    ensures reply { (p : Params) (s : Station) (marks : List Mark) (now : ℕ) → HasReply s → HasCycles s
+        → HasReply (turn_of p s marks now).0 }
     ensures stopped { (s : Station) → HasReply (stopped s) }
     ensures pushed { (s : Station) (r : RequestFields) → HasReply s → HasReply (pushed s r) }
     ensures fits { (p : Params) (s : Station) (marks : List Mark) (now : ℕ) → HasReply s → HasCycles s
@@ -97,9 +107,12 @@ pub fn only_a_holder_initiates()
 /// the one that is open have addresses and data that a telegram may have, and the reply that it keeps for a
 /// repeat is no telegram of a holder.
 pub fn what_a_station_keeps_can_be_said()
-    ensures new { (p : Params) (address : ℕ) (reply : List ℕ) → Fits reply → HasCycles (new_station p address reply) }
-    ensures started { (p : Params) (s : Station) (master : Bool) (now : ℕ) → HasCycles s → HasCycles (started p s master now) }
-    ensures turn { (p : Params) (s : Station) (marks : List Mark) (now : ℕ) → HasReply s → HasCycles s → HasCycles (turn_of p s marks now).0 }
+    ensures new { (p : Params) (address : ℕ) (reply : List ℕ) → Fits reply
+        → HasCycles (new_station p address reply) }
+    ensures started { (p : Params) (s : Station) (master : Bool) (now : ℕ) → HasCycles s
+        → HasCycles (started p s master now) }
+    ensures turn { (p : Params) (s : Station) (marks : List Mark) (now : ℕ) → HasReply s → HasCycles s
+        → HasCycles (turn_of p s marks now).0 }
     ensures stopped { (s : Station) → HasCycles s → HasCycles (stopped s) }
     ensures pushed { (s : Station) (r : RequestFields) → HasCycles s → IsRequest r → HasCycles (pushed s r) }
 {}
@@ -109,19 +122,26 @@ pub fn what_a_station_keeps_can_be_said()
 /// it started: they do as it starts, and a turn adds to both what happens in it. A claim begins the first
 /// three anew, joining the ring the GAP and the rotation, and listening anew the list.
 pub fn the_tables_stand_for_what_was_heard_asked_and_received()
-    ensures started { (p : Params) (s : Station) (master : Bool) (now : ℕ) → s.address < 127 → StandsForPast p (started p s master now) nothing }
-    ensures turn { (p : Params) (s : Station) (marks : List Mark) (now : ℕ) (past : Past) → p.hsa < 127 → HasReply s → HasCycles s → StandsForPast p s past
+    ensures started { (p : Params) (s : Station) (master : Bool) (now : ℕ) → s.address < 127
+        → StandsForPast p (started p s master now) nothing }
+    ensures turn { (p : Params) (s : Station) (marks : List Mark) (now : ℕ) (past : Past) → p.hsa < 127
+        → HasReply s → HasCycles s → StandsForPast p s past
         → StandsForPast p (turn_of p s marks now).0 (past_after_turn p s marks now past) }
-    ensures stopped { (p : Params) (s : Station) (past : Past) → StandsForPast p s past → StandsForPast p (stopped s) past }
-    ensures pushed { (p : Params) (s : Station) (r : RequestFields) (past : Past) → StandsForPast p s past → StandsForPast p (pushed s r) past }
+    ensures stopped { (p : Params) (s : Station) (past : Past) → StandsForPast p s past
+        → StandsForPast p (stopped s) past }
+    ensures pushed { (p : Params) (s : Station) (r : RequestFields) (past : Past) → StandsForPast p s past
+        → StandsForPast p (pushed s r) past }
 {}
 
 /// A station that waits for a reply has an open request, and a retry left where it waits to send it again, in
 /// all that it does.
 pub fn who_waits_for_a_reply_has_an_open_request()
-    ensures started { (p : Params) (s : Station) (master : Bool) (now : ℕ) → HasOpenRequest (started p s master now) }
-    ensures turn { (p : Params) (s : Station) (marks : List Mark) (now : ℕ) → HasOpenRequest s → HasOpenRequest (turn_of p s marks now).0 }
-    ensures settled { (p : Params) (s : Station) (marks : List Mark) (now : ℕ) → HasOpenRequest s → HasOpenRequest (settled p s marks now) }
+    ensures started { (p : Params) (s : Station) (master : Bool) (now : ℕ)
+        → HasOpenRequest (started p s master now) }
+    ensures turn { (p : Params) (s : Station) (marks : List Mark) (now : ℕ) → HasOpenRequest s
+        → HasOpenRequest (turn_of p s marks now).0 }
+    ensures settled { (p : Params) (s : Station) (marks : List Mark) (now : ℕ) → HasOpenRequest s
+        → HasOpenRequest (settled p s marks now) }
     ensures stopped { (s : Station) → HasOpenRequest (stopped s) }
     ensures pushed { (s : Station) (r : RequestFields) → HasOpenRequest s → HasOpenRequest (pushed s r) }
 {}
@@ -129,11 +149,15 @@ pub fn who_waits_for_a_reply_has_an_open_request()
 /// A station that knows of activity says nothing: nobody speaks between a Begin that it has read and its End.
 /// So it is where Begins and Ends take turns, as on every bus: no End comes without its Begin.
 pub fn a_busy_station_says_nothing()
-    ensures started { (p : Params) (s : Station) (master : Bool) (now : ℕ) → IsSilentWhileBusy (started p s master now) }
-    ensures turn { (p : Params) (s : Station) (marks : List Mark) (now : ℕ) (after : Bool) → Alternates s.busy marks after
+    ensures started { (p : Params) (s : Station) (master : Bool) (now : ℕ)
+        → IsSilentWhileBusy (started p s master now) }
+    ensures turn { (p : Params) (s : Station) (marks : List Mark) (now : ℕ) (after : Bool)
+        → Alternates s.busy marks after
         → IsSilentWhileBusy s → IsSilentWhileBusy (turn_of p s marks now).0 }
     ensures stopped { (s : Station) → IsSilentWhileBusy (stopped s) }
-    ensures pushed { (s : Station) (r : RequestFields) → IsSilentWhileBusy s → IsSilentWhileBusy (pushed s r) }
-    ensures silent { (p : Params) (s : Station) (marks : List Mark) (now : ℕ) (after : Bool) → Alternates s.busy marks after → IsSilentWhileBusy s
+    ensures pushed { (s : Station) (r : RequestFields) → IsSilentWhileBusy s
+        → IsSilentWhileBusy (pushed s r) }
+    ensures silent { (p : Params) (s : Station) (marks : List Mark) (now : ℕ) (after : Bool)
+        → Alternates s.busy marks after → IsSilentWhileBusy s
         → (settled p s marks now).busy ≡ true → turn_of p s marks now ≡ (settled p s marks now, None) }
 {}

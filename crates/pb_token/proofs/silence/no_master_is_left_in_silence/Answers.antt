@@ -1,0 +1,11 @@
+use Rattle.pb_token.proofs.BoundedSilence.{silence_bound, silence_at_speakers, silence_at_tap}
+use Rattle.pb_token.proofs.silence.no_master_is_left_in_silence.Goals as goal
+
+pub returns-clause-bound : goal.returns-clause-bound
+returns-clause-bound c = silence_bound
+
+pub returns-clause-at_speakers : goal.returns-clause-at_speakers
+returns-clause-at_speakers c = silence_at_speakers
+
+pub returns-clause-at_the_tap : goal.returns-clause-at_the_tap
+returns-clause-at_the_tap c = silence_at_tap

@@ -1,0 +1,11 @@
+pub mod Lists
+pub mod Places
+pub mod Tokens
+pub mod Views
+pub mod Entries
+pub mod Stations
+pub mod Invariant
+pub mod Promises
+pub mod Runs
+pub mod Examples
+pub mod Outcomes

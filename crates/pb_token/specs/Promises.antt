@@ -1,0 +1,85 @@
+-- What the token theorem and the silence bound say for every cable delay, and in the words of a world's readers.
+use Rattle.std.specs.Prelude.{◌≡◌, ℕ, ◌+◌, ◌≤◌, ◌<◌, true, List, ◌++◌, slice_get, Some, None, Ok}
+use Rattle.pb_timers.specs.Timers.{Params, tto}
+use Rattle.pb_timers.specs.ParamRules.{IsValid}
+use Rattle.pb_turn.specs.Phases.{may_initiate, is_offline}
+use Rattle.pb_model.specs.Medium.{TapSpec, Tap}
+use Rattle.pb_model.specs.World.{World, Event, new_world}
+use Rattle.pb_model.specs.Step.{RunsTo}
+use Rattle.pb_model.specs.Laws.{AllFit, AreEvents}
+use Rattle.pb_theorem.specs.Activity.{is_silent}
+use Rattle.pb_theorem.specs.Headline.{specs_of, HasAtMostOneHolder, NoneLosesOrComesLate}
+use Rattle.pb_theorem.specs.Legality.{first_illegal}
+use Rattle.pb_theorem.specs.Naming.{named}
+use Rattle.pb_theorem.specs.Premises.{first_broken}
+use Rattle.pb_token.specs.Places.{LeavesTime}
+
+-- ---- runs
+
+-- some events have led from the new world of a bus with these taps to a world
+pub record HasRun (p : Params) (specs : List TapSpec) (events : List Event) (new w : World) : Type 0 where
+  pub fit : AllFit specs
+  pub are : AreEvents events
+  pub made : new_world p specs ≡ Ok new
+  pub runs : RunsTo new events w
+
+-- ---- the token
+
+-- the token theorem, for every cable delay that the parameters leave time for
+abbrev pub TokenTheoremOfDelay : Type 0
+TokenTheoremOfDelay = (p : Params) (specs : List TapSpec) (events : List Event) (new w : World) → LeavesTime p → HasRun p specs events new w
+    → first_broken new events ≡ None → HasAtMostOneHolder w
+
+-- the station at a tap may initiate, as one sees it that reads the world, whether the tap runs or not
+abbrev pub StationMayInitiate : World → ℕ → Type 0
+StationMayInitiate w tap = (t : Tap) × (slice_get w.taps tap ≡ Some t) × (may_initiate t.station.phase ≡ true)
+
+-- at most one station may initiate, the trace names it, and each telegram that only a holder sends is legal after the one before
+pub record HasOneToken (w : World) : Type 0 where
+  pub at_most_one : (i j : ℕ) → StationMayInitiate w i → StationMayInitiate w j → i ≡ j
+  pub is_named : (i : ℕ) → StationMayInitiate w i → named w.params (specs_of w) w.trace w.now ≡ Some i
+  pub legal : first_illegal w.params (specs_of w) w.trace ≡ None
+
+-- Events that lead from one world to the next leave one token: whatever events have led to the first from a new world, if they break no premise together.
+abbrev pub LeavesOneToken : World → List Event → World → Type 0
+LeavesOneToken w events next = (p : Params) (specs : List TapSpec) (before : List Event) (new : World) → IsValid p → AreEvents events → HasRun p specs before new w
+    → first_broken new (before ++ events) ≡ None → HasOneToken next
+
+abbrev pub RunsLeaveOneToken : Type 0
+RunsLeaveOneToken = (w next : World) (events : List Event) → RunsTo w events next → LeavesOneToken w events next
+
+-- ---- silence
+
+-- a running master that is not offline, at a position
+pub record IsMasterAt (w : World) (tap : ℕ) (t : Tap) : Type 0 where
+  pub here : slice_get w.taps tap ≡ Some t
+  pub running : t.running ≡ true
+  pub master : t.spec.master ≡ true
+  pub on : is_offline t.station.phase ≡ true → ⊥
+
+-- The silence bound: where no telegram is lost at a tap and no turn comes late, a stretch of silence within the running time of a master that is not
+-- offline lasts for its time-out, the lag and the cable delay at most, each telegram taken at its speaker's moments.
+abbrev pub SilenceAtSpeakers : Type 0
+SilenceAtSpeakers = (p : Params) (specs : List TapSpec) (events : List Event) (new w : World) (tap m u : ℕ) (t : Tap) → LeavesTime p → HasRun p specs events new w
+    → NoneLosesOrComesLate new events → IsMasterAt w tap t → t.since ≤ m → m < u → u ≤ w.now → is_silent 0 tap w.trace m u ≡ true
+    → u ≤ m + (tto p t.spec.address + p.lag + p.ttd)
+
+-- And as the master itself hears it, for its time-out and the lag at most.
+abbrev pub SilenceAtTap : Type 0
+SilenceAtTap = (p : Params) (specs : List TapSpec) (events : List Event) (new w : World) (tap m u : ℕ) (t : Tap) → LeavesTime p → HasRun p specs events new w
+    → NoneLosesOrComesLate new events → IsMasterAt w tap t → t.since ≤ m → m < u → u ≤ w.now → is_silent p.ttd tap w.trace m u ≡ true
+    → u ≤ m + (tto p t.spec.address + p.lag)
+
+-- the bound is reached: a run that keeps its premises, and a stretch of silence of a master that lasts for just so long
+pub record IsReached (p : Params) (specs : List TapSpec) (events : List Event) (tap m u : ℕ) : Type 0 where
+  pub new : World
+  pub w : World
+  pub t : Tap
+  pub fits : LeavesTime p
+  pub run : HasRun p specs events new w
+  pub none : NoneLosesOrComesLate new events
+  pub here : IsMasterAt w tap t
+  pub since : t.since ≤ m
+  pub within : u ≤ w.now
+  pub silent : is_silent 0 tap w.trace m u ≡ true
+  pub reached : u ≡ m + (tto p t.spec.address + p.lag + p.ttd)

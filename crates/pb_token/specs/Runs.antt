@@ -1,0 +1,62 @@
+-- What runs keep, and how they are put together.
+use Rattle.std.specs.Prelude.{◌≡◌, ℕ, ◌≤◌, true, false, List, ◌++◌, Some, None, slice_get}
+use Rattle.pb_timers.specs.Timers.{Params}
+use Rattle.pb_turn.specs.Laws.{IsSilentWhileBusy}
+use Rattle.pb_turn.specs.Marks.{Mark}
+use Rattle.pb_turn.specs.Phases.{Offline}
+use Rattle.pb_turn.specs.Stations.{Station}
+use Rattle.pb_turn.specs.Turns.{turn_of}
+use Rattle.pb_model.specs.Medium.{TapSpec, Tap}
+use Rattle.pb_model.specs.World.{World, Event}
+use Rattle.pb_model.specs.Step.{RunsTo}
+use Rattle.pb_theorem.specs.Headline.{specs_of}
+use Rattle.pb_theorem.specs.Premises.{first_broken}
+use Rattle.pb_token.specs.Promises.{HasRun}
+
+-- the parameters, and what each tap is
+pub record SameBus (w next : World) : Type 0 where
+  pub params : next.params ≡ w.params
+  pub specs : specs_of next ≡ specs_of w
+
+abbrev pub RunsKeepTheBus : Type 0
+RunsKeepTheBus = (w next : World) (events : List Event) → RunsTo w events next → SameBus w next
+
+-- two runs, one after the other
+abbrev pub RunsBoth : World → List Event → List Event → World → Type 0
+RunsBoth w xs ys next = (between : World) × RunsTo w xs between × RunsTo between ys next
+
+-- are a run of both lists
+abbrev pub RunsJoin : Type 0
+RunsJoin = (w next : World) (xs ys : List Event) → RunsBoth w xs ys next → RunsTo w (xs ++ ys) next
+
+-- and the other way round
+abbrev pub RunsPart : Type 0
+RunsPart = (w next : World) (xs ys : List Event) → RunsTo w (xs ++ ys) next → RunsBoth w xs ys next
+
+abbrev pub BeginningsKeepPremises : Type 0
+BeginningsKeepPremises = (w : World) (xs ys : List Event) → first_broken w (xs ++ ys) ≡ None → first_broken w xs ≡ None
+
+-- the tap at a position after a run on a bus whose addresses are those of stations
+pub record IsTapAfter (p : Params) (specs : List TapSpec) (events : List Event) (tap : ℕ) (t : Tap) : Type 0 where
+  pub highest : p.hsa ≤ 126
+  pub new : World
+  pub w : World
+  pub run : HasRun p specs events new w
+  pub here : slice_get w.taps tap ≡ Some t
+
+abbrev pub StoppedAreOffline : Type 0
+StoppedAreOffline = (p : Params) (specs : List TapSpec) (events : List Event) (tap : ℕ) (t : Tap) → IsTapAfter p specs events tap t
+    → t.running ≡ false → t.station.phase ≡ Offline
+
+-- the data that a station replies to a request for data
+abbrev pub TurnsKeepTheReply : Type 0
+TurnsKeepTheReply = (p : Params) (s : Station) (marks : List Mark) (now : ℕ) → (turn_of p s marks now).0.cycles.responder.reply ≡ s.cycles.responder.reply
+
+abbrev pub RunsKeepTheReply : Type 0
+RunsKeepTheReply = (p : Params) (specs : List TapSpec) (events : List Event) (tap : ℕ) (t : Tap) → IsTapAfter p specs events tap t
+    → t.station.cycles.responder.reply ≡ t.spec.reply
+
+-- A station that holds the token, or checks what became of it, keeps no reply that is not sent yet; nor has a busy one anything to say: whatever the premises.
+abbrev pub HoldersKeepNoReply : Type 0
+HoldersKeepNoReply = (p : Params) (specs : List TapSpec) (events : List Event) (tap : ℕ) (t : Tap) → IsTapAfter p specs events tap t
+    → t.running ≡ true → IsSilentWhileBusy t.station

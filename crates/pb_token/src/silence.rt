@@ -1,0 +1,18 @@
+ghost use Rattle.std.specs.Prelude.{ℕ};
+ghost use Rattle.pb_model.specs.Scenarios.{two_masters};
+ghost use Rattle.pb_theorem.specs.Headline.{SilenceBound};
+ghost use Rattle.pb_token.specs.Promises.{SilenceAtSpeakers, SilenceAtTap, IsReached};
+ghost use Rattle.pb_token.specs.Examples.{long_bus, long_silence};
+
+/// No master that runs is left in silence for longer than its time-out, the lag and the cable delay: also where
+/// two stations have one address, or two masters have waited out their time-outs together.
+pub fn no_master_is_left_in_silence()
+    ensures bound { SilenceBound }
+    ensures at_speakers { SilenceAtSpeakers }
+    ensures at_the_tap { SilenceAtTap }
+{}
+
+/// It may be left so long: a master whose token was claimed by a station that stops.
+pub fn the_silence_bound_is_reached()
+    ensures { IsReached long_bus two_masters long_silence 1 833 1843 }
+{}
