@@ -4,31 +4,95 @@ use crate::lists::EventList;
 use pb_cycles::{Request, Service};
 use pb_timers::{BusParams, Moment};
 use pb_world::{
-    Audit, Entry, Event, Heard, NewFault, Record, Reply, TapSpec, World, WorldFault, audit,
+    Audit, Entry, Event, Heard, NewFault, Record, Reply, TapSpec, World, WorldFault, audit, run,
 };
 use std::alloc::{AllocError, Global};
+
+/// What playing an event list prints.
+#[derive(Debug, Drop)]
+pub enum Played {
+    /// The lines of its events, and of what became of the bus.
+    Run(String),
+    /// The fault of a bus whose parameters or taps are refused.
+    Refused(String),
+}
+
+/// A bus to which nothing has happened yet, or why there is none.
+#[derive(Drop)]
+enum NewBus {
+    Made(BusParams, World),
+    Refused(String),
+}
 
 /// The lines that an event list gives: each event with its reply or its fault, the trace, each tap's
 /// phase and the moment of its next turn, and what an audit of the accepted events finds. A bus that is
 /// refused gives one line, its fault.
 ///
 /// A refused event changes nothing, and the next one follows.
-pub fn play(alloc: Global, list: &EventList) -> Result<String, AllocError> {
+pub fn play(alloc: Global, list: &EventList) -> Result<Played, AllocError> {
+    let (params, mut world) = match new_bus(alloc, list)? {
+        NewBus::Made(params, world) => (params, world),
+        NewBus::Refused(text) => return Ok(Played::Refused(text)),
+    };
     let mut text = String::new(alloc);
-    match list.bus.params() {
-        Err(fault) => writeln!(text, "param fault {} {fault}", fault.number())?,
-        Ok(params) => match World::new(alloc, params, &list.taps) {
-            Err(NewFault::NoMemory) => return Err(AllocError),
-            Err(fault) => writeln!(text, "world fault {} {fault}", fault.number())?,
-            Ok(mut world) => {
-                let accepted = push_events(&mut text, alloc, &mut world, &list.events)?;
-                push_trace(&mut text, alloc, world.trace())?;
-                push_taps(&mut text, &world, list.taps.len())?;
-                push_audit(&mut text, alloc, params, &list.taps, &accepted)?;
-            }
-        },
+    let accepted = push_events(&mut text, alloc, &mut world, &list.events)?;
+    push_trace(&mut text, alloc, world.trace())?;
+    push_taps(&mut text, &world, list.taps.len())?;
+    push_audit(&mut text, alloc, params, &list.taps, &accepted)?;
+    Ok(Played::Run(text))
+}
+
+/// The trace of an event list that is played so many times, each on a new bus and to its end or to the first
+/// event that is refused.
+pub fn trace(alloc: Global, list: &EventList, times: u32) -> Result<Played, AllocError> {
+    let mut text = String::new(alloc);
+    for time in 0..times {
+        let mut world = match new_bus(alloc, list)? {
+            NewBus::Made(_, world) => world,
+            NewBus::Refused(text) => return Ok(Played::Refused(text)),
+        };
+        let _ = run(alloc, &mut world, &list.events);
+        if time + 1 == times {
+            push_trace(&mut text, alloc, world.trace())?;
+        }
     }
-    Ok(text)
+    Ok(Played::Run(text))
+}
+
+/// What is found of an event list that is audited so many times.
+pub fn audits(alloc: Global, list: &EventList, times: u32) -> Result<Played, AllocError> {
+    let mut text = String::new(alloc);
+    let params = match new_bus(alloc, list)? {
+        NewBus::Made(params, _) => params,
+        NewBus::Refused(fault) => return Ok(Played::Refused(fault)),
+    };
+    for _ in 0..times {
+        text.clear();
+        match audit(alloc, params, &list.taps, &list.events) {
+            Ok(found) => push_finding(&mut text, found)?,
+            Err(_) => text.push_str("no audit\n")?,
+        }
+    }
+    Ok(Played::Run(text))
+}
+
+fn new_bus(alloc: Global, list: &EventList) -> Result<NewBus, AllocError> {
+    let mut text = String::new(alloc);
+    let params = match list.bus.params() {
+        Ok(params) => params,
+        Err(fault) => {
+            writeln!(text, "param fault {} {fault}", fault.number())?;
+            return Ok(NewBus::Refused(text));
+        }
+    };
+    match World::new(alloc, params, &list.taps) {
+        Ok(world) => Ok(NewBus::Made(params, world)),
+        Err(NewFault::NoMemory) => Err(AllocError),
+        Err(fault) => {
+            writeln!(text, "world fault {} {fault}", fault.number())?;
+            Ok(NewBus::Refused(text))
+        }
+    }
 }
 
 /// Plays the events, appends a line for each, and answers those that were accepted.
@@ -174,9 +238,15 @@ fn push_audit(
     accepted: &[Event],
 ) -> Result<(), AllocError> {
     // Accepted once, they are accepted again: all that an audit of them can want is memory.
-    let Ok(Audit { premise, illegal }) = audit(alloc, params, taps, accepted) else {
-        return Err(AllocError);
-    };
+    match audit(alloc, params, taps, accepted) {
+        Ok(found) => push_finding(text, found),
+        Err(_) => Err(AllocError),
+    }
+}
+
+/// Appends what an audit found.
+fn push_finding(text: &mut String, found: Audit) -> Result<(), AllocError> {
+    let Audit { premise, illegal } = found;
     match premise {
         Some((number, clock)) => writeln!(text, "premise P{number} broken at {}", clock.get())?,
         None => writeln!(text, "premises kept")?,

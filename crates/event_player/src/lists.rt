@@ -5,7 +5,7 @@ use hex::FromHexError;
 use pb_cycles::{Request, RequestFault, Service};
 use pb_timers::{BusParams, ParamFault};
 use pb_world::{Event, Kind, TapSpec};
-use serde::Deserialize;
+use serde::{Deserialize, Deserializer, Format};
 use serde_json::Error as JsonError;
 use std::alloc::{AllocError, AllocFailed, Global};
 use thiserror::Error;
@@ -27,6 +27,9 @@ pub enum ListFault {
     /// It is no JSON, or its keys or values are wrong.
     #[error("no event list: {0}")]
     Json(JsonError),
+    /// It has a key that no event list has.
+    #[error("no event list: unknown key `{0}`")]
+    UnknownKey(String),
     /// The cable delay isn't 0.
     #[error("no event list: ttd isn't 0")]
     CableDelay,
@@ -126,24 +129,43 @@ impl Bus {
     }
 }
 
-/// An event list as it is written. Keys that it doesn't name, as `expect`, are passed over.
+/// The keys of an event list. What a list is expected to print is for others to compare.
+const KEYS: [&str; 4] = ["bus", "taps", "events", "expect"];
+
+/// An event list as it is written.
 #[derive(Debug, Drop, Deserialize)]
 struct WrittenList<'a> {
-    #[serde(rename = "stage", default)]
-    _stage: Stage,
     #[serde(default)]
     bus: Bus,
     taps: Vec<WrittenTap<'a>>,
     events: Vec<WrittenEvent<'a>>,
 }
 
-/// The rules that a list is written for: those of this bus, where a station that passes its token takes the first
-/// sign of another for its successor's.
-#[derive(Clone, Copy, Debug, Default, Deserialize)]
-#[serde(rename_all = "lowercase")]
-enum Stage {
-    #[default]
-    Final,
+/// The first key of a map that is no key of an event list, if there is one.
+#[derive(Debug, Drop)]
+struct UnknownKey {
+    name: Option<String>,
+}
+
+impl<'de> Deserialize<'de> for UnknownKey {
+    fn deserialize<F: Format>(
+        alloc: Global,
+        from: &mut Deserializer<'de, '_, F>,
+    ) -> Result<UnknownKey, F::Error> {
+        from.begin_map()?;
+        let mut name = None;
+        for _ in 0..u64::MAX {
+            if !from.next_entry()? {
+                break;
+            }
+            let key = from.string(alloc)?;
+            from.skip()?;
+            if name.is_none() && !KEYS.contains(&key.as_str()) {
+                name = Some(key);
+            }
+        }
+        Ok(UnknownKey { name })
+    }
 }
 
 /// A tap as it is written.
@@ -230,6 +252,10 @@ enum DataFault {
 
 /// The event list that JSON text gives.
 pub fn read_list(alloc: Global, text: &[u8]) -> Result<EventList, ListFault> {
+    let unknown: UnknownKey = serde_json::from_slice(alloc, text)?;
+    if let Some(name) = unknown.name {
+        return Err(ListFault::UnknownKey(name));
+    }
     let list: WrittenList<'_> = serde_json::from_slice(alloc, text)?;
     if list.bus.ttd != 0 {
         return Err(ListFault::CableDelay);

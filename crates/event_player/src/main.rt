@@ -1,21 +1,28 @@
 //! `event_player`: plays a list of events on a bus, and prints what comes of them. For tests.
 //!
-//! Reads the list as JSON from standard input, and prints the lines that playing it gives. Exit
-//! statuses: 0 played, 2 no event list, 3 a read or write fault, 4 no memory.
+//! Reads the list as JSON from standard input, and prints the lines that playing it gives. The words `trace TIMES`
+//! and `audit TIMES` do that alone, so many times, and print what the last gave; `bench/world` measures them. Exit
+//! statuses: 0 played, 1 the parameters or the taps are refused, 2 no event list or other words, 3 a read or write
+//! fault, 4 no memory.
 #![tactic(auto)]
 
 mod lines;
 mod lists;
+mod words;
 
-use lines::play;
+use lines::{Played, audits, play, trace};
 use lists::{ListFault, read_list};
 use std::alloc::AllocError;
 use std::io;
 use std::io::{ErrorKind, Read, Write};
 use std::process::ExitCode;
+use std::rt::Env;
 use thiserror::Error;
+use words::{Task, WordsFault, read_words};
 
 const PLAYED: u8 = 0;
+
+const REFUSED: u8 = 1;
 
 const NO_LIST: u8 = 2;
 
@@ -26,6 +33,9 @@ const MEMORY: u8 = 4;
 /// Why the lines weren't all printed.
 #[derive(Debug, Drop, Error)]
 enum PlayFault {
+    /// The words ask for nothing.
+    #[error("usage: event_player [trace TIMES | audit TIMES] < LIST")]
+    Usage,
     /// The input is no event list.
     #[error("{0}")]
     List(ListFault),
@@ -49,6 +59,15 @@ impl From<ListFault> for PlayFault {
     }
 }
 
+impl From<WordsFault> for PlayFault {
+    fn from(fault: WordsFault) -> PlayFault {
+        match fault {
+            WordsFault::Usage => PlayFault::Usage,
+            WordsFault::NoMemory => PlayFault::NoMemory,
+        }
+    }
+}
+
 impl From<AllocError> for PlayFault {
     fn from(_refused: AllocError) -> PlayFault {
         PlayFault::NoMemory
@@ -59,7 +78,7 @@ impl PlayFault {
     /// The exit status that says it.
     fn status(&self) -> u8 {
         match self {
-            PlayFault::List(_) => NO_LIST,
+            PlayFault::Usage | PlayFault::List(_) => NO_LIST,
             PlayFault::Read | PlayFault::Write => STREAM,
             PlayFault::NoMemory => MEMORY,
         }
@@ -68,7 +87,7 @@ impl PlayFault {
 
 fn main(rt: HostRuntime) -> ExitCode {
     let status = match play_input(&rt) {
-        Ok(()) => PLAYED,
+        Ok(status) => status,
         Err(fault) => {
             let _ = rt.eprintln(&fault);
             fault.status()
@@ -77,13 +96,22 @@ fn main(rt: HostRuntime) -> ExitCode {
     ExitCode::from(status)
 }
 
-/// Plays the list on standard input.
-fn play_input(rt: &(impl AllocGlobal + Input + Print)) -> Result<(), PlayFault> {
+/// Plays the list on standard input, and answers the exit status of what was printed.
+fn play_input(rt: &(impl AllocGlobal + Env + Input + Print)) -> Result<u8, PlayFault> {
+    let task = read_words(rt)?;
     let input = read_input(rt)?;
     let list = read_list(rt.alloc(), &input)?;
-    let text = play(rt.alloc(), &list)?;
+    let played = match task {
+        Task::Play => play(rt.alloc(), &list),
+        Task::Trace(times) => trace(rt.alloc(), &list, times),
+        Task::Audit(times) => audits(rt.alloc(), &list, times),
+    };
+    let (text, status) = match played? {
+        Played::Run(text) => (text, PLAYED),
+        Played::Refused(text) => (text, REFUSED),
+    };
     match io::writer(rt).write_all(text.as_bytes()) {
-        Ok(()) => Ok(()),
+        Ok(()) => Ok(status),
         Err(_) => Err(PlayFault::Write),
     }
 }

@@ -1,5 +1,5 @@
 pub mod Airing
-pub mod Cutting
 pub mod Elapsing
 pub mod Passing
 pub mod Stepping
+pub mod Running

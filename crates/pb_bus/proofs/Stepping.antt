@@ -1,7 +1,7 @@
 -- What the recent entries and the taps tell of a step of the whole world.
 use Rattle.std.proofs.Common.{◌≡◌, ◌∙◌, ap, sym, subst, refl, arith, ℕ, ◌+◌, ◌<◌, ◌≤◌, ◌==◌, ◌++◌, List, [], ◌∷◌, length, length-append, map, Bool, true, false, not, ◌||◌, ◌&&◌, Option, Some, None, Ok, Err, Result}
-use Rattle.std.specs.Prelude.{take, drop, find, is_none, nat_le, slice_get, slice_set, IsErr, IsErrAnd, MatchResult}
-use Rattle.std.proofs.lemmas.List.{take-append-drop, length-take-le}
+use Rattle.std.specs.Prelude.{take, drop, find, is_none, is_some, nat_le, slice_get, slice_set, IsErr, IsErrAnd, MatchResult}
+use Rattle.std.proofs.lemmas.List.{take-append-drop, length-take-le, length-map}
 use Rattle.std.proofs.Math.Seq.{take-append_seam, drop-append_seam}
 use Rattle.std.proofs.lemmas.Option.{slice_get-get_or}
 use Rattle.pb_messages.specs.RequestFields.{RequestFields}
@@ -10,7 +10,7 @@ use Rattle.pb_model.specs.Trace.{Hit, Record, cut_end, cut_at, Entry, Sent, Nois
 use Rattle.pb_model.specs.Medium.{Tap, entry_at, ends_between, reaches, heard_by}
 use Rattle.pb_turn.specs.Turns.{turn_of}
 use Rattle.pb_model.specs.World as world
-use Rattle.pb_model.specs.World.{World, Event, Turn, Pass, Damage, Start, Stop, Queue, Reply, Fault, NoSuchTap, Running, NotRunning, NothingInAir, ZeroTime, QueueFull, TraceFull, unless, is_in_air_by, queue_limit}
+use Rattle.pb_model.specs.World.{World, Event, Turn, Pass, Damage, Start, Stop, Queue, Reply, Fault, NoSuchTap, Running, NotRunning, NothingInAir, ZeroTime, QueueFull, TraceFull, unless, is_in_air_by, queue_limit, trace_limit}
 use Rattle.pb_model.specs.Step.{told, pass_faults, step_pass, with_hit, change_first, has_place, step_damage, step_start, halted, step_stop, step_queue, with_noise, is_noisy, step_noise, step_unheard, with_said, after_turn, step_turn, sending, step, world_after}
 use Rattle.pb_model.specs.Laws.{AllBegun, AllOver, AllFrom, IsEvent, IsSound}
 use Rattle.pb_model.proofs.Cases.{by_test}
@@ -23,12 +23,16 @@ use Rattle.pb_medium.specs.Losing.{has_nothing_to_lose}
 use Rattle.pb_medium.specs.Noising.{has_noise, has_no_room, RefusesNoise}
 use Rattle.pb_medium.specs.Senses.{at_once}
 use Rattle.pb_medium.specs.Speaking.{is_full, RefusesSaid}
+use Rattle.pb_medium.specs.Traces as traces
+use Rattle.pb_medium.specs.Traces.{entries_of, over_of, HasRoom, RecentBecomes, StaysAs}
+use Rattle.pb_medium.specs.Entries.{entry_of}
+use Rattle.pb_medium.specs.declared.traces.Trace.{Trace}
 use Rattle.pb_taps.specs.declared.faults.WorldFault.{WorldFault}
 use Rattle.pb_taps.specs.declared.faults.WorldFault.TheVariants as fault
-use Rattle.pb_bus.proofs.Cutting.{begun-behind}
+use Rattle.pb_medium.proofs.Closing.{begun-behind}
 use Rattle.pb_medium.proofs.Entering.{entered-behind}
 use Rattle.pb_medium.proofs.Widening.{widened, pass-whole, damage-whole, is_sending, started_amid, start-whole, cut-whole, noisy-behind, noise-whole, unheard-whole}
-use Rattle.std.proofs.lemmas.Bool.{not-true, not-false}
+use Rattle.std.proofs.lemmas.Bool.{not-true, not-false, lt-leb}
 
 -- the world of the recent entries
 abbrev pub recent_of : ℕ → World → World
@@ -71,6 +75,14 @@ cut-with now over es recent from (m, at, some, old, begun) =
     let same : take over (front ++ recent) ≡ front = ap (λ n. take n (front ++ recent)) (sym size) ∙ take-append_seam front recent in
     let rest : drop over (front ++ recent) ≡ recent = ap (λ n. drop n (front ++ recent)) (sym size) ∙ drop-append_seam front recent in
     (m, at, omega (arith, size, length-append front recent), subst (AllOver m) (sym same) old, subst (AllFrom m) (sym rest) (from m at begun))
+
+-- the recent entries of a trace change, none of which began before the others had ended
+pub cut-after : (now : ℕ) (change : List Entry → List Entry) (before after : Trace) → RecentBecomes change before after
+    → ((m : ℕ) → m ≤ now → AllFrom m (traces.recent_of before) → AllFrom m (change (traces.recent_of before)))
+    → IsCut now (over_of before) (entries_of before) → IsCut now (over_of after) (entries_of after)
+cut-after now change before after becomes from cut =
+    subst (λ over. IsCut now over (entries_of after)) (sym becomes.over)
+    (subst (IsCut now (over_of before)) (sym becomes.entries) (cut-with now (over_of before) (entries_of before) (change (traces.recent_of before)) from cut))
 
 pub from-changed : (m : ℕ) (test : Entry → Bool) (change : Entry → Entry) (es : List Entry) → ((e : Entry) → entry_begin (change e) ≡ entry_begin e) → AllFrom m es
     → AllFrom m (change_first test change es)
@@ -377,3 +389,10 @@ turn-refused w tap t s said other at runs turns wrong = absurd wrong
 pub from-said : (m tap now : ℕ) (said : Option (List ℕ)) (ts : List Tap) (es : List Entry) → m ≤ now → AllFrom m es → AllFrom m (with_said tap said now ts es)
 from-said m tap now None ts es at from = from
 from-said m tap now (Some octets) ts es at from = from-entered m (Sent (sending tap octets now ts)) es at from
+
+-- where a trace has room for what is said, it is not full
+pub room-said : (said : Option (List ℕ)) (before roomy : Trace) → StaysAs before roomy → (is_some said ≡ true → HasRoom roomy) → is_full said (length (entries_of before)) ≡ false
+room-said None before roomy same room = refl
+room-said (Some octets) before roomy same room =
+    let few = (room refl).few in
+    lt-leb trace_limit (length (entries_of before)) (omega (arith, few, length-map roomy.entries.items entry_of, ap length same.entries))

@@ -1,14 +1,16 @@
 -- A bus as the model says it.
-use Rattle.std.specs.Prelude.{◌≡◌, ◌≤◌, [], length, map}
-use Rattle.pb_model.specs.World.{World, clock_limit, tap_limit}
+use Rattle.std.specs.Prelude.{◌≡◌, ◌≤◌, [], length, map, Result}
+use Rattle.pb_model.specs.World.{World, Event, clock_limit, tap_limit}
+use Rattle.pb_bus.specs.Worlds.{Sends}
+use Rattle.pb_taps.specs.declared.faults.WorldFault.{WorldFault}
 use Rattle.pb_model.specs.Laws.{IsSound}
 use Rattle.pb_medium.specs.Airs.{IsCut}
-use Rattle.pb_medium.specs.Entries.{entry_of}
+use Rattle.pb_medium.specs.Traces.{entries_of, over_of}
 use Rattle.pb_taps.specs.Taps.{tap_of, seat_of, AreSeated}
 use Rattle.pb_bus.specs.declared.buses.Bus.{Bus}
 
 abbrev pub world_of : Bus → World
-world_of w = record { params = w.params; now = w.now; trace = map entry_of w.trace.items; taps = map tap_of w.taps.items }
+world_of w = record { params = w.params; now = w.now; trace = entries_of w.trace; taps = map tap_of w.taps.items }
 
 -- what its fields keep
 pub record IsKept (w : Bus) : Type 0 where
@@ -16,9 +18,13 @@ pub record IsKept (w : Bus) : Type 0 where
   pub clock : w.now ≤ clock_limit
   pub room : length w.taps.items ≤ tap_limit
   pub seats : AreSeated w.params 0 (map seat_of w.taps.items)
-  pub cut : IsCut w.now w.over (map entry_of w.trace.items)
+  pub cut : IsCut w.now (over_of w.trace) (entries_of w.trace)
 
 -- nothing has happened yet
 pub record IsBlank (w : World) : Type 0 where
   pub start : w.now ≡ 0
   pub empty : w.trace ≡ []
+
+-- a bus does an event, and says what it has sent, or refuses it
+abbrev pub Does : Bus → Event → Result (Unit {0}) WorldFault → Bus → Type 0
+Does before event result after = Sends (world_of before) event result after.sent (world_of after)

@@ -27,10 +27,6 @@ IsFault (Err f) reason = reason ≡ world_fault f
 abbrev pub IsFirstOf : List (Bool × Fault) → WorldFault → Type 0
 IsFirstOf tests reason = option_map world_fault (first_fault tests) ≡ Some reason
 
--- how many entries are over: all of them, where none behind those that were over is in the air
-abbrev pub over_after : ℕ → ℕ → List Entry → ℕ
-over_after now over entries = if is_some (next_end_of at_once now (drop over entries)) then over else length entries
-
 -- time passes to a moment: these are the entries behind those that are over, and the taps
 abbrev pub PassesTo : World → ℕ → List Entry → ℕ → List Entry → List Tap → Type 0
 PassesTo w bits old to entries taps = (recent : List Entry) × (entries ≡ old ++ recent)

@@ -1,8 +1,10 @@
--- What a pass does to the taps and to the entries of the trace.
-use Rattle.std.specs.Prelude.{ℕ, ◌+◌, List, [], ◌∷◌, ◌++◌, if◌then◌else◌, Option, Some, None}
-use Rattle.pb_turn.specs.Marks.{Mark}
-use Rattle.pb_model.specs.Trace.{Heard, Record, Entry, Sent, Noise}
-use Rattle.pb_model.specs.Medium.{Tap, is_whole_at, heard_in_the_end}
+-- What a pass tells the taps.
+use Rattle.std.specs.Prelude.{ℕ, ◌+◌, List, [], ◌∷◌, ◌++◌, if◌then◌else◌, length, map}
+use Rattle.pb_turn.specs.Marks.{Mark, End}
+use Rattle.pb_model.specs.Trace.{Entry}
+use Rattle.pb_model.specs.Medium.{Tap, burst_characters}
+use Rattle.pb_taps.specs.declared.taps.Tap as declared
+use Rattle.pb_taps.specs.Taps.{tap_of}
 use Rattle.pb_model.specs.Laws.{marks_of_pass}
 
 -- what a pass tells a tap, if it runs
@@ -18,17 +20,10 @@ abbrev pub told_news : ℕ → List Entry → ℕ → ℕ → ℕ → List Tap �
 told_news delay trace from to tap [] = []
 told_news delay trace from to tap (t ∷ ts) = record t { marks = t.marks ++ news delay tap t trace from to } ∷ told_news delay trace from to (tap + 1) ts
 
--- what a telegram that has ended was to the tap at a position, if there is one
-abbrev pub heard_with : ℕ → List Entry → Record → ℕ → Option Tap → Heard → Heard
-heard_with delay trace r tap None h = h
-heard_with delay trace r tap (Some t) h = heard_in_the_end (is_whole_at delay tap t trace r) h
+-- how many marks a tap has unread with its news
+abbrev pub unread_after : ℕ → ℕ → Tap → List Entry → ℕ → ℕ → ℕ
+unread_after delay tap t trace from to = length t.marks + length (news delay tap t trace from to)
 
--- an entry whose telegram, if it is one, was this to the taps
-abbrev pub with_heard : List Heard → Entry → Entry
-with_heard hs (Noise span) = Noise span
-with_heard hs (Sent r) = Sent (record r { heard = hs })
-
--- an entry whose telegram is known by now, or not yet
-abbrev pub settled_as : Option (List Heard) → Entry → Entry
-settled_as None e = e
-settled_as (Some hs) e = with_heard hs e
+-- the tap that is told of the end of a burst
+abbrev pub with_end : ℕ → ℕ → declared.Tap → List Entry → ℕ → declared.Tap
+with_end delay tap t trace to = record t { marks = t.marks ++ End to to (burst_characters delay tap (tap_of t) trace to) ∷ [] }

@@ -1,7 +1,7 @@
 -- What comes of events, and what readers of a world are told.
 use Rattle.std.specs.Prelude.{◌≡◌, ℕ, List, if◌then◌else◌, Option, Some, None, Result, Ok, slice_get, MatchResult, take}
 use Rattle.std.specs.Option.{option_and_then}
-use Rattle.pb_model.specs.World.{World, Event}
+use Rattle.pb_model.specs.World.{World, Event, Reply}
 use Rattle.pb_model.specs.Medium as medium
 use Rattle.pb_turn.specs.Stations.{due_of}
 use Rattle.pb_model.specs.Step.{step, RunsTo}
@@ -15,6 +15,18 @@ use Rattle.pb_taps.specs.Events.{reply_of}
 abbrev pub Follows : World → Event → Result events.Reply WorldFault → World → Type 0
 Follows w event result next = MatchResult result
     (λ reply. step w event ≡ Ok (next, reply_of reply))
+    (λ fault. (next ≡ w) × Refuses w event (step w event) fault)
+
+-- the same of an event that has sent something, or nothing
+abbrev pub Sends : World → Event → Result (Unit {0}) WorldFault → Option (List ℕ) → World → Type 0
+Sends w event result sent next = MatchResult result
+    (λ _. step w event ≡ Ok (next, record { now = next.now; spoke = sent }))
+    (λ fault. (next ≡ w) × Refuses w event (step w event) fault)
+
+-- the same, whatever it has sent
+abbrev pub Goes : World → Event → Result (Unit {0}) WorldFault → World → Type 0
+Goes w event result next = MatchResult result
+    (λ _. (reply : Reply) × (step w event ≡ Ok (next, reply)))
     (λ fault. (next ≡ w) × Refuses w event (step w event) fault)
 
 -- when a tap is due, if it runs

@@ -6,6 +6,7 @@ mod buses;
 mod clocks;
 mod making;
 mod passes;
+mod rooms;
 mod starting;
 mod stopping;
 

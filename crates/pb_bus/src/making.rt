@@ -5,6 +5,8 @@ ghost use Rattle.pb_taps.specs.Faults.{RefusesNew};
 ghost use Rattle.pb_taps.specs.Taps.{spec_of};
 
 use crate::buses::Bus;
+use pb_medium::Trace;
+use pb_station::SendBuffer;
 use pb_taps::{NewFault, TapSpec, beginning, check_taps, new_taps};
 use pb_timers::BusParams;
 use std::alloc::Global;
@@ -21,8 +23,8 @@ pub fn new_bus(alloc: Global, params: BusParams, specs: &[TapSpec]) -> Result<Bu
     Ok(Bus {
         params,
         now: beginning(),
-        trace: Vec::new(alloc),
-        over: 0,
+        trace: Trace::new(alloc),
         taps,
+        sent: SendBuffer::new(),
     })
 }

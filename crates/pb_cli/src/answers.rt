@@ -7,17 +7,11 @@ use crate::streams::{ReadFault, WriteFault};
 use std::io;
 use std::io::{Error, ErrorKind};
 
-/// Whether the error is an interruption.
-fn is_interrupted(error: &Error) -> bool
-    ensures { IsTrue result ↔ (error_kind error.now ≡ ErrorKind.Interrupted) }
-{
-    error.kind() == ErrorKind::Interrupted
-}
-
 /// What the answer of a read comes to.
 pub fn read_answer(answer: io::Result<usize>) -> Result<usize, ReadFault>
     ensures count { IfOk result (λ count. answer ≡ Ok count) }
-    ensures interrupted { IsErrOf result ReadFault.Interrupted ↔ MatchResult answer (λ _. ⊥) (λ error. error_kind error ≡ ErrorKind.Interrupted) }
+    ensures interrupted { IsErrOf result ReadFault.Interrupted ↔ MatchResult answer (λ _. ⊥)
+        (λ error. error_kind error ≡ ErrorKind.Interrupted) }
     ensures failed { IsErrOf result ReadFault.Failed → IsErr answer }
 {
     match answer {
@@ -31,12 +25,21 @@ pub fn read_answer(answer: io::Result<usize>) -> Result<usize, ReadFault>
 pub fn write_answer(answer: io::Result<usize>, is_empty: bool) -> Result<usize, WriteFault>
     ensures count { IfOk result (λ count. answer ≡ Ok count) }
     ensures some { IfOk result (λ count. IsFalse is_empty → 0 < count) }
-    ensures interrupted { IsErrOf result WriteFault.Interrupted ↔ MatchResult answer (λ _. ⊥) (λ error. error_kind error ≡ ErrorKind.Interrupted) }
-    ensures failed { IsErrOf result WriteFault.Failed → IfOk answer (λ count. (count ≡ 0) × IsFalse is_empty) }
+    ensures interrupted { IsErrOf result WriteFault.Interrupted ↔ MatchResult answer (λ _. ⊥)
+        (λ error. error_kind error ≡ ErrorKind.Interrupted) }
+    ensures failed { IsErrOf result WriteFault.Failed
+        → IfOk answer (λ count. (count ≡ 0) × IsFalse is_empty) }
 {
     match answer {
         Ok(count) if count > 0 || is_empty => Ok(count),
         Err(error) if is_interrupted(&error) => Err(WriteFault::Interrupted),
         _ => Err(WriteFault::Failed),
     }
+}
+
+/// Whether the error is an interruption.
+fn is_interrupted(error: &Error) -> bool
+    ensures { IsTrue result ↔ (error_kind error.now ≡ ErrorKind.Interrupted) }
+{
+    error.kind() == ErrorKind::Interrupted
 }

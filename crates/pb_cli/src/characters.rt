@@ -10,7 +10,8 @@ use std::alloc::AllocError;
 /// hex: spaces and tabs apart, pairs of hex digits of either case, or `--` for a damaged character.
 /// What `chars` has when the line is no hex is left open.
 pub fn read_characters(chars: &mut Vec<RxChar>, line: &[u8]) -> Result<bool, AllocError>
-    ensures { IfOk result (λ is_hex. characters_of line.now ≡ (if is_hex then Some chars.new.items else None)) }
+    ensures { IfOk result (λ is_hex. characters_of line.now
+        ≡ (if is_hex then Some chars.new.items else None)) }
 {
     chars.clear();
     let mut first = None;

@@ -33,7 +33,8 @@ fn write_some<W: Sink>(writer: &mut W, bytes: &[u8]) -> Result<usize, CliFault>
     requires { 0 < length bytes.now }
     ensures some { IfOk result (λ count. 0 < count) }
     ensures bound { IfOk result (λ count. count ≤ length bytes.now) }
-    ensures front { IfOk result (λ count. Appends (W.contents writer.old) (W.contents writer.new) (take count bytes.now)) }
+    ensures front { IfOk result
+        (λ count. Appends (W.contents writer.old) (W.contents writer.new) (take count bytes.now)) }
     ensures nothing { OnErr result (Keeps (W.contents writer.old) (W.contents writer.new)) }
     ensures write { IfErr result (λ fault. fault ≡ CliFault.Write) }
     ensures cause { OnErr result (IsWriteCause (W.failures writer.old) (W.failures writer.new)

@@ -24,10 +24,6 @@ answered f o xs r is same = is ∙ ap (λ (x : Option (List ℕ)). option_map f 
     twice None = refl
     twice (Some a) = refl
 
-pub or-mapped : {A B : Type 0} (f : A → B) (o before : Option A) → option_map f (option_or o before) ≡ option_or (option_map f o) (option_map f before)
-or-mapped f None before = refl
-or-mapped f (Some x) before = refl
-
 -- a station that answers, from the parts that are computed
 pub answers_by : (p : Params) (s : Station) (at station_type : ℕ) (m : Message) (ready ts code : ℕ) (octets : Option (List ℕ)) (reply waits : Option turn.Reply) (responder : ResponderTable)
     → waits ≡ option_or reply s.reply → reply ≡ option_map (λ xs. record { ready = ready; octets = xs; joins = false }) octets → octets ≡ option_map reply_octets (reply_to_message s.cycles.responder ts code m)

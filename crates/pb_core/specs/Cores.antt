@@ -1,7 +1,8 @@
 -- The core of a station as a turn says it.
-use Rattle.std.specs.Prelude.{Option, IsSome}
+use Rattle.std.specs.Prelude.{◌≡◌, Option, IsSome}
 use Rattle.std.specs.Option.{option_map}
 use Rattle.pb_rotation.specs.Rotation.{Receipt}
+use Rattle.pb_messages.specs.Queued.{Queued}
 use Rattle.pb_turn.specs.Phases as turn
 use Rattle.pb_turn.specs.Stations as turn_station
 use Rattle.pb_tokenfsm.specs.Phases.{phase_of}
@@ -10,9 +11,9 @@ use Rattle.pb_core.specs.declared.cores.Kept.{Kept}
 use Rattle.pb_core.specs.Cycles.{cycles_of}
 use Rattle.pb_core.specs.Replies.{reply_of}
 
--- what a station keeps, with a phase
-abbrev pub with_phase : Kept → turn.Phase → turn_station.Station
-with_phase k phase = record {
+-- what a station keeps, with the requests that wait, and a phase
+abbrev pub station_with : Kept → Queued → turn.Phase → turn_station.Station
+station_with k queue phase = record {
   address = k.address;
   phase = phase;
   busy = k.busy;
@@ -22,11 +23,15 @@ with_phase k phase = record {
   las = k.las;
   gap = k.gap;
   rotation = k.rotation;
-  cycles = cycles_of k.cycles;
+  cycles = cycles_of k.cycles queue;
 }
 
 abbrev pub station_of : Core → turn_station.Station
-station_of c = with_phase c.kept (phase_of c.phase)
+station_of c = station_with c.kept c.waiting (phase_of c.phase)
+
+-- what becomes of a station, whatever requests wait: what it keeps and its phase, before and after
+abbrev pub Becomes : (turn_station.Station → turn_station.Station) → Kept → turn.Phase → Kept → turn.Phase → Type 0
+Becomes change before phase after next = (queue : Queued) → station_with after queue next ≡ change (station_with before queue phase)
 
 -- a phase that uses the token has received it
 abbrev pub has_received : turn.Phase → Option Receipt → Type 0

@@ -3,3 +3,4 @@ pub mod Clocks
 pub mod Cores
 pub mod Cycles
 pub mod Replies
+pub mod Sending

@@ -1,17 +1,19 @@
-ghost use Rattle.std.specs.Prelude.{◌≡◌, ◌≤◌};
+ghost use Rattle.std.specs.Prelude.{◌≡◌, ◌≤◌, IfOk};
 ghost use Rattle.pb_core.specs.Clocks.{last_end};
 
 use crate::addresses::Address;
 use crate::cycles::Cycles;
 use crate::past::Past;
 use crate::replies::Reply;
+use crate::waiting::Waiting;
 use pb_ring::{Gap, Las};
 use pb_rotation::Rotation;
 use pb_telegram::copy_octets;
 use pb_timers::Moment;
 use pb_tokenfsm::Phase;
+use std::alloc::{AllocError, Global};
 
-/// What a station keeps beside its phase.
+/// What a station keeps beside its phase and the requests that wait.
 #[derive(Debug, Drop)]
 pub struct Kept {
     pub address: Address,
@@ -30,6 +32,8 @@ pub struct Kept {
 pub struct Core {
     pub phase: Phase,
     pub kept: Kept,
+    /// The requests that wait.
+    pub waiting: Waiting,
 }
 
 impl Reply {
@@ -60,7 +64,8 @@ impl Kept {
         self.past.end.get()
     }
 
-    fn copy(&self) -> Kept
+    /// The same.
+    pub fn copy(&self) -> Kept
         ensures { result ≡ self.now }
     {
         Kept {
@@ -77,13 +82,15 @@ impl Kept {
 }
 
 impl Core {
-    /// An equal core.
-    pub fn copy(&self) -> Core
-        ensures { result ≡ self.now }
+    /// An equal core. Its fault: memory was refused.
+    pub fn copy(&self, alloc: Global) -> Result<Core, AllocError>
+        ensures { IfOk result (λ c. c ≡ self.now) }
     {
-        Core {
+        let waiting = self.waiting.copy(alloc)?;
+        Ok(Core {
             phase: self.phase.copy(),
             kept: self.kept.copy(),
-        }
+            waiting,
+        })
     }
 }

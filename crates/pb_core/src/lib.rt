@@ -10,12 +10,16 @@ mod lists;
 mod moments;
 mod past;
 mod replies;
+mod sending;
+mod waiting;
 
 pub use addresses::Address;
 pub use arrivals::whole_telegram;
 pub use cores::{Core, Kept};
-pub use cycles::{Cycles, closed, copy_outcome, push};
+pub use cycles::{Cycles, copy_outcome, give_up};
 pub use lists::{entered, heard, readied, removed};
 pub use moments::{PastMoment, after};
 pub use past::Past;
-pub use replies::{Head, Reply, StationType, answering, status_answer};
+pub use replies::{Head, Reply, StationType, answer, status_answer};
+pub use sending::SendBuffer;
+pub use waiting::Waiting;

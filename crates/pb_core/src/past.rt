@@ -44,7 +44,8 @@ impl Past {
     pub fn said(self, now: Moment, octets: usize) -> Past
         requires clock { now ≤ last_turn }
         requires octets { octets ≤ 255 }
-        ensures { result ≡ record { quiet = max self.quiet (now + bits octets); begin = now; end = now + bits octets } }
+        ensures { result
+            ≡ record { quiet = max self.quiet (now + bits octets); begin = now; end = now + bits octets } }
     {
         let end = PastMoment::end_of(now, octets);
         Past {

@@ -5,7 +5,7 @@ ghost use Rattle.pb_messages.specs.Messages.{frame_octets, address_in, message_o
 ghost use Rattle.pb_turn.specs.Hearing.{asks_status};
 ghost use Rattle.pb_core.specs.Clocks.{last_turn};
 ghost use Rattle.pb_turn.specs.Phases.{Phase};
-ghost use Rattle.pb_core.specs.Cores.{with_phase};
+ghost use Rattle.pb_core.specs.Cores.{Becomes};
 ghost use Rattle.pb_core.specs.Replies.{reply_of, code_of, joins, fields_of, answer_to, answers};
 
 use crate::cores::Kept;
@@ -81,26 +81,6 @@ impl Head {
     }
 }
 
-/// When the reply to a request is sent that ended at a moment.
-fn reply_moment(params: &BusParams, at: Moment) -> Moment
-    requires { at ≤ last_turn }
-    ensures { result ≡ at + params.now.tsdr }
-{
-    after(at, u64::from(params.tsdr()))
-}
-
-/// The octets of the reply of the station `ts` to the station that asked for its status.
-fn status_octets(ts: u8, head: Head, station_type: StationType) -> ArrayVec<u8, 255>
-    requires { ts ≤ 126 }
-    ensures { result.items ≡ frame_octets (record { da = address_in head.sa; sa = ts; fc = 16 * code_of station_type + 0; unit = [] }) }
-{
-    write(&Telegram::Short(ShortTelegram {
-        da: head.sa % 128,
-        sa: ts,
-        fc: 16 * station_type.code(),
-    }))
-}
-
 /// The answer to a telegram that ended at a moment, if it is a request for the station's status.
 pub fn status_answer(
     kept: &Kept,
@@ -110,7 +90,8 @@ pub fn status_answer(
     station_type: StationType,
 ) -> Option<Reply>
     requires { at ≤ last_turn }
-    ensures { option_map reply_of result ≡ answer_to params.now kept.now.address at (fields_of head) station_type }
+    ensures { option_map reply_of result
+        ≡ answer_to params.now kept.now.address at (fields_of head) station_type }
 {
     let ts = kept.address.get();
     if !head.asks_status(ts) {
@@ -123,39 +104,50 @@ pub fn status_answer(
     })
 }
 
-/// What a responder answers, as a reply that is sent at a moment.
-fn reply_at(answer: Option<Telegram>, ready: Moment) -> Option<Reply>
-    ensures { option_map reply_of result ≡ option_map (λ octets. record { ready = ready; octets = octets; joins = false }) (option_map spelling answer) }
-{
-    match answer {
-        Some(telegram) => Some(Reply {
-            ready,
-            octets: write(&telegram),
-            joins: false,
-        }),
-        None => None,
-    }
-}
-
 /// A station of some type answers a telegram that ended at a moment, which it executes, if it is a request
 /// that it has not executed before. Its answer takes the place of a reply that is not sent yet.
-pub fn answering(
-    kept: Kept,
+pub fn answer(
+    kept: &mut Kept,
     params: &BusParams,
     at: Moment,
     telegram: &Telegram,
     station_type: StationType,
-) -> Kept
+)
     requires { at ≤ last_turn }
-    ensures { (phase : Phase) → with_phase result phase ≡ answers params.now (with_phase kept phase) at (code_of station_type) (message_of telegram.now) }
+    ensures { (phase : Phase)
+        → Becomes (λ s. answers params.now s at (code_of station_type) (message_of telegram.now))
+        kept.old phase kept.new phase }
 {
-    let mut cycles = kept.cycles;
     let ts = kept.address.get();
-    let answer = cycles.responder.answer(ts, station_type.code(), telegram);
-    let reply = reply_at(answer, reply_moment(params, at)).or(kept.reply);
-    Kept {
-        reply,
-        cycles,
-        ..kept
+    let ready = reply_moment(params, at);
+    let code = station_type.code();
+    if let Some(answer) = kept.cycles.responder.answer(ts, code, telegram) {
+        kept.reply = Some(Reply {
+            ready,
+            octets: write(&answer),
+            joins: false,
+        });
     }
+}
+
+/// When the reply to a request is sent that ended at a moment.
+fn reply_moment(params: &BusParams, at: Moment) -> Moment
+    requires { at ≤ last_turn }
+    ensures { result ≡ at + params.now.tsdr }
+{
+    after(at, u64::from(params.tsdr()))
+}
+
+/// The octets of the reply of the station `ts` to the station that asked for its status.
+fn status_octets(ts: u8, head: Head, station_type: StationType) -> ArrayVec<u8, 255>
+    requires { ts ≤ 126 }
+    ensures { result.items
+        ≡ frame_octets (record
+        { da = address_in head.sa; sa = ts; fc = 16 * code_of station_type + 0; unit = [] }) }
+{
+    write(&Telegram::Short(ShortTelegram {
+        da: head.sa % 128,
+        sa: ts,
+        fc: 16 * station_type.code(),
+    }))
 }

@@ -51,7 +51,8 @@ impl Model for Initiator {
 
     ghost view = { λ i. record { retries = i.retries; counts = i.counts; pending = i.pending } };
 
-    ghost invariant = { λ i. IsInitiator (record { retries = i.retries; counts = i.counts; pending = i.pending }) };
+    ghost invariant = { λ i. IsInitiator
+        (record { retries = i.retries; counts = i.counts; pending = i.pending }) };
 
     ghost inverse = { λ t. record { retries = t.retries; counts = t.counts; pending = t.pending } };
 }

@@ -21,12 +21,17 @@ ghost use Rattle.pb_cycles.specs.declared.outcomes.Outcome.TheVariants.{Acked, D
 /// What each function code of a reply means, with the data of the reply: OK and NR acknowledge; UE, RR
 /// and RS have no resource; DL, DH, RDL and RDH bring data; no other code is known.
 pub fn what_reply_codes_mean()
-    ensures acked { (unit : List ℕ) → (code_outcome 0 unit ≡ Some Acked) × (code_outcome 9 unit ≡ Some Acked) }
-    ensures no_resource { (unit : List ℕ) → (code_outcome 1 unit ≡ Some NoResource) × (code_outcome 2 unit ≡ Some NoResource)
+    ensures acked { (unit : List ℕ)
+        → (code_outcome 0 unit ≡ Some Acked) × (code_outcome 9 unit ≡ Some Acked) }
+    ensures no_resource { (unit : List ℕ)
+        → (code_outcome 1 unit ≡ Some NoResource) × (code_outcome 2 unit ≡ Some NoResource)
         × (code_outcome 3 unit ≡ Some NoResource) }
-    ensures data_back { (unit : List ℕ) → (code_outcome 8 unit ≡ Some (Data (record { items = unit }))) × (code_outcome 10 unit ≡ Some (Data (record { items = unit })))
+    ensures data_back { (unit : List ℕ)
+        → (code_outcome 8 unit ≡ Some (Data (record { items = unit })))
+        × (code_outcome 10 unit ≡ Some (Data (record { items = unit })))
         × (code_outcome 12 unit ≡ Some (Data (record { items = unit }))) × (code_outcome 13 unit ≡ Some (Data (record { items = unit }))) }
-    ensures unknown { (unit : List ℕ) → (code_outcome 4 unit ≡ None) × (code_outcome 5 unit ≡ None) × (code_outcome 6 unit ≡ None)
+    ensures unknown { (unit : List ℕ)
+        → (code_outcome 4 unit ≡ None) × (code_outcome 5 unit ≡ None) × (code_outcome 6 unit ≡ None)
         × (code_outcome 7 unit ≡ None) × (code_outcome 11 unit ≡ None) × (code_outcome 14 unit ≡ None) × (code_outcome 15 unit ≡ None) }
     ensures above { (code : ℕ) (unit : List ℕ) → 16 ≤ code → code_outcome code unit ≡ None }
 {}
@@ -35,15 +40,19 @@ pub fn what_reply_codes_mean()
 /// means what was meant: an SDA is acknowledged, an SRD gets the reply data, or an acknowledgement
 /// where there is none, and an address extension finds no resource.
 pub fn a_reply_means_what_was_meant()
-    ensures extension { (ts d station_type : ℕ) (f : Fields) (service : Service) (high : Bool) (unit : List ℕ) → ts ≤ 126 → d ≤ 126 → station_type ≤ 3 → f.sa ≡ ts
+    ensures extension { (ts d station_type : ℕ) (f : Fields) (service : Service) (high : Bool)
+        (unit : List ℕ) → ts ≤ 126 → d ≤ 126 → station_type ≤ 3 → f.sa ≡ ts
         → IsTrue (is_answered service) → IsTrue (has_bit f.da 7)
         → reply_outcome ts d (heard_as (service_reply d station_type f service high unit)) ≡ Some NoResource }
-    ensures sda { (ts d station_type : ℕ) (f : Fields) (high : Bool) (unit : List ℕ) → IsFalse (has_bit f.da 7)
+    ensures sda { (ts d station_type : ℕ) (f : Fields) (high : Bool) (unit : List ℕ)
+        → IsFalse (has_bit f.da 7)
         → reply_outcome ts d (heard_as (service_reply d station_type f Sda high unit)) ≡ Some Acked }
-    ensures srd { (ts d station_type : ℕ) (f : Fields) (high : Bool) (x : ℕ) (unit : List ℕ) → ts ≤ 126 → d ≤ 126 → station_type ≤ 3 → f.sa ≡ ts
+    ensures srd { (ts d station_type : ℕ) (f : Fields) (high : Bool) (x : ℕ) (unit : List ℕ) → ts ≤ 126
+        → d ≤ 126 → station_type ≤ 3 → f.sa ≡ ts
         → IsFalse (has_bit f.da 7)
         → reply_outcome ts d (heard_as (service_reply d station_type f Srd high (x ∷ unit))) ≡ Some (Data (record { items = x ∷ unit })) }
-    ensures srd_without_data { (ts d station_type : ℕ) (f : Fields) (high : Bool) → ts ≤ 126 → d ≤ 126 → station_type ≤ 3 → f.sa ≡ ts
+    ensures srd_without_data { (ts d station_type : ℕ) (f : Fields) (high : Bool) → ts ≤ 126 → d ≤ 126
+        → station_type ≤ 3 → f.sa ≡ ts
         → IsFalse (has_bit f.da 7)
         → reply_outcome ts d (heard_as (service_reply d station_type f Srd high [])) ≡ Some Acked }
 {}
@@ -53,19 +62,26 @@ pub fn a_reply_means_what_was_meant()
 /// afterwards. So the k-th SDA or SRD to an address since the start, or since the last outcome
 /// "no answer" there, has its frame count bits, and a retry is the telegram that opened the cycle.
 pub fn an_initiator_stands_for_its_acts()
-    ensures fresh { (retries : ℕ) → InitiatorStandsFor (record { retries = retries; counts = replicate 127 First; pending = None }) [] }
-    ensures bits { (t : InitiatorTable) (acts : List Act) (r : RequestFields) → InitiatorStandsFor t acts → IsAddressed r.da r.service
+    ensures fresh { (retries : ℕ)
+        → InitiatorStandsFor (record { retries = retries; counts = replicate 127 First; pending = None }) [] }
+    ensures bits { (t : InitiatorTable) (acts : List Act) (r : RequestFields) → InitiatorStandsFor t acts
+        → IsAddressed r.da r.service
         → IsTrue (is_answered r.service) → bits_for t r ≡ kth_bits (number_to r.da acts + 1) }
-    ensures request { (t : InitiatorTable) (acts : List Act) (ts : ℕ) (r : RequestFields) → InitiatorStandsFor t acts → IsAddressed r.da r.service
+    ensures request { (t : InitiatorTable) (acts : List Act) (ts : ℕ) (r : RequestFields)
+        → InitiatorStandsFor t acts → IsAddressed r.da r.service
         → InitiatorStandsFor (after_request t ts r) (acts ++ sending_act r (first_sending t ts r) ∷ []) }
-    ensures same_octets { (t : InitiatorTable) (acts : List Act) (f : Fields) → InitiatorStandsFor t acts → retry_of t.pending ≡ Some f
+    ensures same_octets { (t : InitiatorTable) (acts : List Act) (f : Fields) → InitiatorStandsFor t acts
+        → retry_of t.pending ≡ Some f
         → open_in (reverse acts) ≡ Some f }
-    ensures retry { (t : InitiatorTable) (acts : List Act) (f : Fields) → InitiatorStandsFor t acts → retry_of t.pending ≡ Some f
+    ensures retry { (t : InitiatorTable) (acts : List Act) (f : Fields) → InitiatorStandsFor t acts
+        → retry_of t.pending ≡ Some f
         → InitiatorStandsFor (after_retry t) (acts ++ Resent f ∷ []) }
-    ensures outcome { (t : InitiatorTable) (acts : List Act) (o : OpenRequest) (reply : Option Message) (outcome : Outcome)
+    ensures outcome { (t : InitiatorTable) (acts : List Act) (o : OpenRequest) (reply : Option Message)
+        (outcome : Outcome)
         → InitiatorStandsFor t acts → t.pending ≡ Some o → o.sent.da ≤ 126 → outcome_of t reply ≡ Some outcome
         → InitiatorStandsFor (after_outcome t reply) (acts ++ Closed o.sent.da outcome ∷ []) }
-    ensures no_outcome { (t : InitiatorTable) (reply : Option Message) → outcome_of t reply ≡ None → after_outcome t reply ≡ t }
+    ensures no_outcome { (t : InitiatorTable) (reply : Option Message) → outcome_of t reply ≡ None
+        → after_outcome t reply ≡ t }
 {}
 
 /// A responder's table stands for the list of what the station `ts` heard: a new one for the empty
@@ -73,8 +89,10 @@ pub fn an_initiator_stands_for_its_acts()
 /// at its end afterwards. So it has executed the SDA, SRD and SDN that are no repeats, and keeps the
 /// last SDA or SRD with its reply.
 pub fn a_responder_stands_for_what_it_heard()
-    ensures fresh { (ts : ℕ) (reply : List ℕ) → ResponderStandsFor ts (record { reply = reply; kept = None; executed = 0 }) [] }
-    ensures message { (ts station_type : ℕ) (t : ResponderTable) (heard : List Heard) (m : Message) → ResponderStandsFor ts t heard
+    ensures fresh { (ts : ℕ) (reply : List ℕ)
+        → ResponderStandsFor ts (record { reply = reply; kept = None; executed = 0 }) [] }
+    ensures message { (ts station_type : ℕ) (t : ResponderTable) (heard : List Heard) (m : Message)
+        → ResponderStandsFor ts t heard
         → ResponderStandsFor ts (after_message t ts station_type m) (heard ++ record { station_type = station_type; message = m } ∷ []) }
 {}
 
@@ -86,7 +104,8 @@ pub fn a_responder_stands_for_what_it_heard()
 ///
 /// The initiator has sent nothing before; what the responder has heard before does not matter.
 pub fn a_request_is_executed_once()
-    ensures { (l : Link) (retries : ℕ) (t : ResponderTable) (requests : List (RequestFields × List Fate)) → l.d ≤ 126
+    ensures { (l : Link) (retries : ℕ) (t : ResponderTable) (requests : List (RequestFields × List Fate))
+        → l.d ≤ 126
         → All (λ x. IsCallTo l x.0) requests
         → All ExecutesOnce (cycles l (record { retries = retries; counts = replicate 127 First; pending = None }) t requests) }
 {}

@@ -33,26 +33,6 @@ impl Outcome {
     }
 }
 
-/// The meaning of a reply's function code, with the data of the reply.
-fn code_outcome(code: u8, unit: &[u8]) -> Option<Outcome>
-    requires { length unit.now ≤ 246 }
-    ensures { result ≡ code_outcome code unit.now }
-{
-    match code {
-        0 | 9 => Some(Outcome::Acked),
-        1 | 2 | 3 => Some(Outcome::NoResource),
-        8 | 10 | 12 | 13 => Some(Outcome::Data(copy_octets(unit))),
-        _ => None,
-    }
-}
-
-/// Whether it is a reply telegram from the station `da` to the station `ts`.
-fn is_reply_between(ts: u8, da: u8, frame: &Frame) -> bool
-    ensures { result ≡ is_reply_between ts da frame.now }
-{
-    !Fc(frame.fc()).is_request() && frame.da() % 128 == ts && frame.sa() % 128 == da
-}
-
 /// The outcome of an SDA or SRD that `ts` sent to `da`, where the message is a reply to it.
 pub(crate) fn reply_outcome(ts: u8, da: u8, message: &Message) -> Option<Outcome>
     ensures { result ≡ reply_outcome ts da message.now }
@@ -82,5 +62,25 @@ pub fn status_reply(ts: u8, da: u8, telegram: &Telegram) -> Option<Fc>
             }
         }
         Message::Framed(_) | Message::Acknowledgement | Message::TokenPass => None,
+    }
+}
+
+/// Whether it is a reply telegram from the station `da` to the station `ts`.
+fn is_reply_between(ts: u8, da: u8, frame: &Frame) -> bool
+    ensures { result ≡ is_reply_between ts da frame.now }
+{
+    !Fc(frame.fc()).is_request() && frame.da() % 128 == ts && frame.sa() % 128 == da
+}
+
+/// The meaning of a reply's function code, with the data of the reply.
+fn code_outcome(code: u8, unit: &[u8]) -> Option<Outcome>
+    requires { length unit.now ≤ 246 }
+    ensures { result ≡ code_outcome code unit.now }
+{
+    match code {
+        0 | 9 => Some(Outcome::Acked),
+        1 | 2 | 3 => Some(Outcome::NoResource),
+        8 | 10 | 12 | 13 => Some(Outcome::Data(copy_octets(unit))),
+        _ => None,
     }
 }

@@ -168,8 +168,10 @@ impl Responder {
     pub fn answer(&mut self, ts: u8, station_type: u8, telegram: &Telegram) -> Option<Telegram>
         requires station { ts ≤ 126 }
         requires type_bits { station_type ≤ 3 }
-        ensures octets { option_map spelling result ≡ option_map reply_octets (reply_to_message self.old ts station_type (message_of telegram.now)) }
-        ensures message { option_map message_of result ≡ option_map heard_as (reply_to_message self.old ts station_type (message_of telegram.now)) }
+        ensures octets { option_map spelling result
+            ≡ option_map reply_octets (reply_to_message self.old ts station_type (message_of telegram.now)) }
+        ensures message { option_map message_of result
+            ≡ option_map heard_as (reply_to_message self.old ts station_type (message_of telegram.now)) }
         ensures table { self.new ≡ after_message self.old ts station_type (message_of telegram.now) }
     {
         match Message::read(telegram) {

@@ -1,6 +1,9 @@
 -- What a tap senses without a cable delay: tests and choices over mapped lists, the next end, bursts and characters.
 use Rattle.std.proofs.Common.{◌≡◌, ℕ, ◌+◌, ◌<◌, List, [], ◌∷◌, ◌++◌, Bool, true, false, cond, if◌then◌else◌, not, ◌||◌, ◌&&◌, ◌==◌, refl, ap, sym, ◌∙◌, arith, Option, Some, None, map, length, get_or, drop, append_assoc, add-one, drop-cons}
-use Rattle.std.specs.Prelude.{nat_lt, min, filter, filter_map, find, fold, count_by, slice_get}
+use Rattle.std.proofs.Math.Bool.{and-true}
+use Rattle.std.proofs.lemmas.List.{length-take-le}
+use Rattle.pb_timers.specs.Timers.{bits}
+use Rattle.std.specs.Prelude.{◌-◌, ◌/◌, ◌≤◌, take, nat_lt, min, filter, filter_map, find, fold, count_by, slice_get}
 use Rattle.std.specs.List.{list_any, list_all, cons_option, reduce}
 use Rattle.std.specs.Option.{option_map}
 use Rattle.pb_telegram.specs.Faults.{is_bad}
@@ -121,3 +124,21 @@ characters-step tap hits place octets chars char within e =
     let rest = characters_from tap hits (place + 1) (drop (place + 1) octets) in
     let next : drop place octets ≡ get_or octets place 0 ∷ drop (place + 1) octets = rw add-one (drop-cons octets place 0 within) in
     append_assoc chars (char ∷ []) rest ∙ ap (λ (c : RxChar). chars ++ c ∷ rest) e ∙ ap (λ (xs : List ℕ). chars ++ characters_from tap hits place xs) (sym next)
+
+characters-length : (tap place : ℕ) (hits : List Hit) (octets : List ℕ) → length (characters_from tap hits place octets) ≡ length octets
+characters-length tap place hits [] = refl
+characters-length tap place hits (octet ∷ octets) = omega (arith, characters-length tap (place + 1) hits octets)
+
+unhit-good : (tap place : ℕ) (octets : List ℕ) → list_all (λ char. not (is_bad char)) (characters_from tap [] place octets) ≡ true
+unhit-good tap place [] = refl
+unhit-good tap place (octet ∷ octets) = unhit-good tap (place + 1) octets
+
+-- a telegram without a hit comes undamaged where all its octets went out
+pub unhit-undamaged : (tap : ℕ) (r : Record) (sent : ℕ) → r.hits ≡ [] → take sent r.octets ≡ take ((r.end - r.begin) / bits 1) r.octets → sent ≤ length r.octets
+    → (sent == length r.octets) ≡ is_undamaged tap r
+unhit-undamaged tap r sent none taken few =
+    let out = take ((r.end - r.begin) / bits 1) r.octets in
+    let count : length (characters_at tap r) ≡ sent = characters-length tap 0 r.hits out ∙ ap length (sym taken) ∙ length-take-le sent r.octets few in
+    let good : list_all (λ char. not (is_bad char)) (characters_at tap r) ≡ true =
+        ap (λ (hits : List Hit). list_all (λ char. not (is_bad char)) (characters_from tap hits 0 out)) none ∙ unhit-good tap 0 out in
+    sym (ap (λ (b : Bool). length (characters_at tap r) == length r.octets && b) good ∙ and-true _ ∙ ap (λ (n : ℕ). n == length r.octets) count)

@@ -4,9 +4,7 @@ use Rattle.pb_timers.specs.Timers.{Params}
 use Rattle.pb_model.specs.World as model
 use Rattle.pb_model.specs.Trace as trace
 use Rattle.pb_model.specs.Laws.{AllOver, AllFrom}
-use Rattle.pb_medium.specs.declared.entries.Entry.{Entry}
 use Rattle.pb_taps.specs.declared.taps.Tap.{Tap}
-use Rattle.pb_medium.specs.Entries.{entry_of}
 use Rattle.pb_medium.specs.Senses.{at_once}
 use Rattle.pb_taps.specs.Taps.{tap_of}
 
@@ -15,8 +13,8 @@ abbrev pub plain : Params
 plain = record { tsl = 0; tid1 = 0; tid2 = 0; tsdr = 0; lag = 0; ttr = 0; gap = 0; hsa = 0; retries = 0; ttd = at_once }
 
 -- some entries and taps as a world of the model, at a moment
-abbrev pub air : ℕ → List Entry → List Tap → model.World
-air now entries taps = record { params = plain; now = now; trace = map entry_of entries; taps = map tap_of taps }
+abbrev pub air : ℕ → List trace.Entry → List Tap → model.World
+air now entries taps = record { params = plain; now = now; trace = entries; taps = map tap_of taps }
 
 -- some entries have ended by a moment that is not later than the clock, before all others began
 abbrev pub IsCut : ℕ → ℕ → List trace.Entry → Type 0

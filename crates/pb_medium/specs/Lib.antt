@@ -1,8 +1,9 @@
 pub mod Entries
+pub mod Traces
 pub mod Senses
 pub mod Airs
-pub mod Tracing
 pub mod Speaking
 pub mod Damaging
 pub mod Noising
 pub mod Losing
+pub mod Settling

@@ -1,40 +1,40 @@
-ghost use Rattle.std.specs.Prelude.{◌≡◌, ◌≤◌, ◌++◌, length, take, drop, true, false, IfErr, IfSome, OnErr, OnOk, Some, None, map, find};
+ghost use Rattle.std.specs.Prelude.{◌≡◌, true, false, IfErr, IfSome, OnErr, OnOk, Some, None, length, map, find};
 ghost use Rattle.pb_model.specs.Step as step;
 ghost use Rattle.pb_model.specs.Step.{change_first, with_hit};
 ghost use Rattle.pb_model.specs.World as world;
-ghost use Rattle.pb_medium.specs.Damaging.{can_hit, IsFirstPlace, RefusesHit, IsNoMemory};
+ghost use Rattle.pb_medium.specs.Damaging.{can_hit, damaged, IsFirstPlace, RefusesHit, IsNoMemory};
 ghost use Rattle.pb_medium.specs.Entries.{entry_of, hit_of};
 ghost use Rattle.pb_medium.specs.Senses.{at_once};
 
 use crate::entries::{Entry, Hit};
 use crate::senses::is_in_air_by;
+use crate::traces::Trace;
 use pb_taps::WorldFault;
 use pb_timers::Moment;
 
-/// Damages the first telegram of a speaker in the air, at another tap; nothing that is over is in the
-/// air. Faults, the first that applies: `NothingInAir`; `NoMemory`.
-pub fn damage_recent(
-    trace: &mut [Entry],
-    over: usize,
-    speaker: usize,
-    now: Moment,
-    hit: Hit,
-) -> Result<(), WorldFault>
-    requires { over ≤ length trace.old }
-    ensures length { length trace.new ≡ length trace.old }
-    ensures ok { OnOk result (map entry_of trace.new ≡ take over (map entry_of trace.old)
-        ++ change_first (world.is_in_air_by at_once now speaker) (with_hit (hit_of hit)) (drop over (map entry_of trace.old))) }
-    ensures found { OnOk result (can_hit speaker now (hit_of hit) (drop over (map entry_of trace.old)) ≡ true) }
-    ensures err { OnErr result (map entry_of trace.new ≡ map entry_of trace.old) }
-    ensures fault { IfErr result (RefusesHit (can_hit speaker now (hit_of hit) (drop over (map entry_of trace.old)))) }
-{
-    damage(&mut trace[over..], speaker, now, hit)
+impl Trace {
+    ghost use Rattle.std.specs.Prelude.{◌≡◌, true, IfErr, OnErr, OnOk};
+    ghost use Rattle.pb_medium.specs.Damaging.{can_hit, damaged, RefusesHit};
+    ghost use Rattle.pb_medium.specs.Entries.{hit_of};
+    ghost use Rattle.pb_medium.specs.Traces.{recent_of, RecentBecomes, StaysAs};
+
+    /// Damages the first telegram of a speaker in the air, at another tap. Faults, the first that applies:
+    /// `NothingInAir`; `NoMemory`.
+    pub fn damage(&mut self, speaker: usize, now: Moment, hit: Hit) -> Result<(), WorldFault>
+        ensures ok { OnOk result (RecentBecomes (damaged speaker now (hit_of hit)) self.old self.new) }
+        ensures found { OnOk result (can_hit speaker now (hit_of hit) (recent_of self.old) ≡ true) }
+        ensures err { OnErr result (StaysAs self.old self.new) }
+        ensures fault { IfErr result (RefusesHit (can_hit speaker now (hit_of hit) (recent_of self.old))) }
+    {
+        damage(&mut self.entries[self.over..], speaker, now, hit)
+    }
 }
 
 /// Damages the first telegram of a speaker in the air, at another tap.
 fn damage(entries: &mut [Entry], speaker: usize, now: Moment, hit: Hit) -> Result<(), WorldFault>
     ensures length { length entries.new ≡ length entries.old }
-    ensures ok { OnOk result (map entry_of entries.new ≡ change_first (world.is_in_air_by at_once now speaker) (with_hit (hit_of hit)) (map entry_of entries.old)) }
+    ensures ok { OnOk result (map entry_of entries.new
+        ≡ damaged speaker now (hit_of hit) (map entry_of entries.old)) }
     ensures found { OnOk result (can_hit speaker now (hit_of hit) (map entry_of entries.old) ≡ true) }
     ensures err { OnErr result (map entry_of entries.new ≡ map entry_of entries.old) }
     ensures fault { IfErr result (RefusesHit (can_hit speaker now (hit_of hit) (map entry_of entries.old))) }
@@ -52,7 +52,8 @@ fn damage(entries: &mut [Entry], speaker: usize, now: Moment, hit: Hit) -> Resul
 fn target(entries: &[Entry], speaker: usize, now: Moment, hit: Hit) -> Option<usize>
     ensures none { result ≡ None → can_hit speaker now (hit_of hit) (map entry_of entries.now) ≡ false }
     ensures some { IfSome result (λ i. can_hit speaker now (hit_of hit) (map entry_of entries.now) ≡ true) }
-    ensures place { IfSome result (IsFirstPlace (world.is_in_air_by at_once now speaker) (map entry_of entries.now)) }
+    ensures place { IfSome result
+        (IsFirstPlace (world.is_in_air_by at_once now speaker) (map entry_of entries.now)) }
 {
     if hit.tap == speaker {
         return None;
@@ -65,8 +66,10 @@ fn target(entries: &[Entry], speaker: usize, now: Moment, hit: Hit) -> Option<us
 }
 
 fn first_in_air(entries: &[Entry], speaker: usize, now: Moment) -> Option<usize>
-    ensures none { result ≡ None → find (world.is_in_air_by at_once now speaker) (map entry_of entries.now) ≡ None }
-    ensures place { IfSome result (IsFirstPlace (world.is_in_air_by at_once now speaker) (map entry_of entries.now)) }
+    ensures none { result ≡ None → find (world.is_in_air_by at_once now speaker) (map entry_of entries.now)
+        ≡ None }
+    ensures place { IfSome result
+        (IsFirstPlace (world.is_in_air_by at_once now speaker) (map entry_of entries.now)) }
 {
     for (place, entry) in entries.iter().enumerate() {
         if is_in_air_by(entry, speaker, now.get()) {

@@ -2,22 +2,21 @@
 //! All times are in bit times.
 #![tactic(auto)]
 
+mod cutting;
 mod damaging;
 mod entries;
 mod losing;
 mod noising;
-mod recents;
+mod placing;
 mod senses;
+mod settling;
 mod spans;
 mod speaking;
-mod tracing;
+mod traces;
 
-pub use damaging::damage_recent;
 pub use entries::{Entry, Heard, Hit, Record};
-pub use losing::lose_recent;
-pub use noising::make_noise;
-pub use recents::recent;
 pub use senses::{
-    burst_begins, burst_characters, burst_ends, is_in_air_by, is_reached, is_whole_at, next_end,
+    burst_begins, burst_characters, burst_ends, is_in_air_by, is_reached, next_end,
 };
-pub use speaking::{Speaker, say};
+pub use speaking::Speaker;
+pub use traces::Trace;

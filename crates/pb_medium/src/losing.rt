@@ -1,41 +1,37 @@
-ghost use Rattle.std.specs.Prelude.{◌≡◌, ◌≤◌, ◌++◌, true, false, IfErr, OnOk, OnErr, length, map, take, drop};
+ghost use Rattle.std.specs.Prelude.{◌≡◌, map};
 ghost use Rattle.std.specs.List.{position};
-ghost use Rattle.pb_model.specs.Step.{change_first};
 ghost use Rattle.pb_model.specs.Trace as model;
 ghost use Rattle.pb_medium.specs.Entries.{entry_of};
-ghost use Rattle.pb_medium.specs.Losing.{has_nothing_to_lose, IsNothingInAir};
 
 use crate::entries::{Entry, Heard};
-use crate::recents::recent;
+use crate::traces::Trace;
 use pb_taps::WorldFault;
 use pb_timers::Moment;
 
-/// The telegram that a speaker has begun at the clock never comes to another tap; nothing that is over
-/// begins at the clock. Its fault: `NothingInAir`.
-pub fn lose_recent(
-    trace: &mut Vec<Entry>,
-    over: usize,
-    tap: usize,
-    speaker: usize,
-    now: Moment,
-) -> Result<(), WorldFault>
-    requires { over ≤ length trace.old.items }
-    ensures ok { OnOk result (map entry_of trace.new.items ≡ take over (map entry_of trace.old.items)
-        ++ change_first (model.begins_from now speaker) (model.unheard_at tap) (drop over (map entry_of trace.old.items))) }
-    ensures found { OnOk result (has_nothing_to_lose tap speaker now (drop over (map entry_of trace.old.items)) ≡ false) }
-    ensures err { OnErr result (trace.new.items ≡ trace.old.items) }
-    ensures nothing { OnErr result (has_nothing_to_lose tap speaker now (drop over (map entry_of trace.old.items)) ≡ true) }
-    ensures fault { IfErr result IsNothingInAir }
-{
-    if tap == speaker {
-        return Err(WorldFault::NothingInAir);
-    }
-    match begun_at_clock(recent(trace, over), speaker, now) {
-        Some(place) => {
-            lose(&mut trace[over + place], tap);
-            Ok(())
+impl Trace {
+    ghost use Rattle.std.specs.Prelude.{◌≡◌, true, false, IfErr, OnOk, OnErr};
+    ghost use Rattle.pb_medium.specs.Losing.{has_nothing_to_lose, lost, IsNothingInAir};
+    ghost use Rattle.pb_medium.specs.Traces.{recent_of, RecentBecomes};
+
+    /// The telegram that a speaker has begun at the clock never comes to another tap. Its fault:
+    /// `NothingInAir`.
+    pub fn lose(&mut self, tap: usize, speaker: usize, now: Moment) -> Result<(), WorldFault>
+        ensures ok { OnOk result (RecentBecomes (lost tap speaker now) self.old self.new) }
+        ensures found { OnOk result (has_nothing_to_lose tap speaker now (recent_of self.old) ≡ false) }
+        ensures err { OnErr result (self.new ≡ self.old) }
+        ensures nothing { OnErr result (has_nothing_to_lose tap speaker now (recent_of self.old) ≡ true) }
+        ensures fault { IfErr result IsNothingInAir }
+    {
+        if tap == speaker {
+            return Err(WorldFault::NothingInAir);
         }
-        None => Err(WorldFault::NothingInAir),
+        match begun_at_clock(self.recent(), speaker, now) {
+            Some(place) => {
+                lose_at(&mut self.entries[self.over + place], tap);
+                Ok(())
+            }
+            None => Err(WorldFault::NothingInAir),
+        }
     }
 }
 
@@ -58,7 +54,7 @@ fn begins_from(entry: &Entry, speaker: usize, moment: u64) -> bool
 }
 
 /// A telegram never comes to a tap.
-fn lose(entry: &mut Entry, tap: usize)
+fn lose_at(entry: &mut Entry, tap: usize)
     ensures { entry_of entry.new ≡ model.unheard_at tap (entry_of entry.old) }
 {
     if let Entry::Sent(telegram) = entry {

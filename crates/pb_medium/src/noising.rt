@@ -1,50 +1,47 @@
-ghost use Rattle.std.specs.Prelude.{◌≡◌, ◌==◌, ◌≤◌, ◌+◌, ◌++◌, false, IfErr, OnOk, OnErr, length, map, take, drop};
+ghost use Rattle.std.specs.Prelude.{◌≡◌, map};
 ghost use Rattle.std.specs.List.{position};
-ghost use Rattle.pb_model.specs.Step.{with_noise};
 ghost use Rattle.pb_model.specs.Trace as trace;
-ghost use Rattle.pb_model.specs.World.{clock_limit};
 ghost use Rattle.pb_medium.specs.Entries.{entry_of};
-ghost use Rattle.pb_medium.specs.Noising.{has_noise, has_no_room, RefusesNoise};
 
 use crate::entries::Entry;
-use crate::recents::recent;
-use crate::tracing::put;
+use crate::traces::Trace;
 use pb_taps::WorldFault;
 use pb_timers::Moment;
 
-/// Noise for some time from the clock on, in bit times. What is in the air lasts so long, or there is new noise.
-/// Faults, the first that applies: `ZeroTime`; for new noise, `TraceFull` and `NoMemory`.
-pub fn make_noise(
-    trace: &mut Vec<Entry>,
-    over: usize,
-    now: Moment,
-    bits: u32,
-) -> Result<(), WorldFault>
-    requires { (over ≤ length trace.old.items) × (now ≤ clock_limit) }
-    ensures ok { OnOk result (map entry_of trace.new.items ≡ take over (map entry_of trace.old.items)
-        ++ with_noise now (now + bits) (has_noise now (drop over (map entry_of trace.old.items))) (drop over (map entry_of trace.old.items))) }
-    ensures some { OnOk result ((bits == 0) ≡ false) }
-    ensures room { OnOk result (has_no_room (has_noise now (drop over (map entry_of trace.old.items))) (length trace.old.items) ≡ false) }
-    ensures err { OnErr result (trace.new.items ≡ trace.old.items) }
-    ensures fault { IfErr result (RefusesNoise bits (has_noise now (drop over (map entry_of trace.old.items))) (length trace.old.items)) }
-{
-    if bits == 0 {
-        return Err(WorldFault::ZeroTime);
-    }
-    let end = now.get() + u64::from(bits);
-    match noise_in_air(recent(trace, over), now) {
-        Some(place) => {
-            prolong(&mut trace[over + place], end);
-            Ok(())
+impl Trace {
+    ghost use Rattle.std.specs.Prelude.{◌≡◌, ◌==◌, ◌≤◌, ◌+◌, false, IfErr, OnOk, OnErr, length};
+    ghost use Rattle.pb_model.specs.Step.{with_noise};
+    ghost use Rattle.pb_model.specs.World.{clock_limit};
+    ghost use Rattle.pb_medium.specs.Noising.{has_noise, has_no_room, RefusesNoise};
+    ghost use Rattle.pb_medium.specs.Traces.{entries_of, recent_of, RecentBecomes, StaysAs};
+
+    /// Noise for some time from the clock on, in bit times. What is in the air lasts so long, or there is new
+    /// noise. Faults, the first that applies: `ZeroTime`; for new noise, `TraceFull` and `NoMemory`.
+    pub fn make_noise(&mut self, now: Moment, bits: u32) -> Result<(), WorldFault>
+        requires { now ≤ clock_limit }
+        ensures ok { OnOk result
+            (RecentBecomes (with_noise now (now + bits) (has_noise now (recent_of self.old)))
+            self.old self.new) }
+        ensures some { OnOk result ((bits == 0) ≡ false) }
+        ensures room { OnOk result
+            (has_no_room (has_noise now (recent_of self.old)) (length (entries_of self.old)) ≡ false) }
+        ensures err { OnErr result (StaysAs self.old self.new) }
+        ensures fault { IfErr result
+            (RefusesNoise bits (has_noise now (recent_of self.old)) (length (entries_of self.old))) }
+    {
+        if bits == 0 {
+            return Err(WorldFault::ZeroTime);
         }
-        None => put(
-            trace,
-            over,
-            Entry::Noise {
-                begin: now.get(),
-                end,
-            },
-        ),
+        let begin = now.get();
+        let end = begin + u64::from(bits);
+        match noise_in_air(self.recent(), now) {
+            Some(place) => prolong(&mut self.entries[self.over + place], end),
+            None => {
+                self.make_room()?;
+                self.put(Entry::Noise { begin, end });
+            }
+        }
+        Ok(())
     }
 }
 

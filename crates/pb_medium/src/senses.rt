@@ -20,51 +20,6 @@ use pb_taps::Tap;
 use pb_telegram::RxChar;
 use pb_timers::CHARACTER_BITS;
 
-/// An entry at a tap: noise, and what other taps send, save what is unheard there.
-fn at_tap(entry: &Entry, tap: usize) -> Option<Span>
-    ensures { result ≡ at_tap at_once tap (entry_of entry.now) }
-{
-    match entry {
-        Entry::Noise { begin, end } => Some(Span::new(*begin, *end)),
-        Entry::Sent(telegram) if telegram.tap == tap || telegram.is_unheard(tap) => None,
-        Entry::Sent(telegram) => Some(telegram.span()),
-    }
-}
-
-/// What of an entry a tap has sensed since a moment.
-fn sensed(entry: &Entry, tap: usize, since: u64) -> Option<Span>
-    ensures { result ≡ option_and_then (part_after since) (at_tap at_once tap (entry_of entry.now)) }
-{
-    at_tap(entry, tap).and_then(|span| span.part_after(since))
-}
-
-fn begins_at(entries: &[Entry], tap: usize, since: u64, moment: u64) -> bool
-    ensures { result ≡ list_any (begins_at moment) (sensed at_once tap since (map entry_of entries.now)) }
-{
-    entries
-        .iter()
-        .filter_map(|entry| sensed(entry, tap, since))
-        .any(|span| span.begin() == moment)
-}
-
-fn ends_at(entries: &[Entry], tap: usize, since: u64, moment: u64) -> bool
-    ensures { result ≡ list_any (ends_at moment) (sensed at_once tap since (map entry_of entries.now)) }
-{
-    entries
-        .iter()
-        .filter_map(|entry| sensed(entry, tap, since))
-        .any(|span| span.end() == moment)
-}
-
-fn lasts_through(entries: &[Entry], tap: usize, since: u64, moment: u64) -> bool
-    ensures { result ≡ list_any (lasts_through moment) (sensed at_once tap since (map entry_of entries.now)) }
-{
-    entries
-        .iter()
-        .filter_map(|entry| sensed(entry, tap, since))
-        .any(|span| span.lasts_through(moment))
-}
-
 /// Whether a burst begins at a tap, which has sensed since a moment.
 pub fn burst_begins(entries: &[Entry], tap: usize, since: u64, moment: u64) -> bool
     ensures { result ≡ model.burst_begins (sensed at_once tap since (map entry_of entries.now)) moment }
@@ -79,114 +34,13 @@ pub fn burst_ends(entries: &[Entry], tap: usize, since: u64, moment: u64) -> boo
     ends_at(entries, tap, since, moment) && !lasts_through(entries, tap, since, moment)
 }
 
-/// How many stretches that a tap has sensed overlap a stretch.
-fn count_overlapping(entries: &[Entry], tap: usize, since: u64, span: Span) -> usize
-    ensures { result ≡ count_by (overlaps span) (sensed at_once tap since (map entry_of entries.now)) }
-{
-    entries
-        .iter()
-        .filter_map(|entry| sensed(entry, tap, since))
-        .filter(|other| span.overlaps(*other))
-        .count()
-}
-
-fn sends_during(entry: &Entry, tap: usize, span: Span) -> bool
-    ensures { result ≡ model.sends_during tap span (entry_of entry.now) }
-{
-    match entry {
-        Entry::Noise { .. } => false,
-        Entry::Sent(telegram) => telegram.tap == tap && telegram.span().overlaps(span),
-    }
-}
-
-/// Whether the tap at a position sends during a stretch.
-fn sends_in(entries: &[Entry], position: usize, span: Span) -> bool
-    ensures { result ≡ list_any (model.sends_during position span) (map entry_of entries.now) }
-{
-    entries
-        .iter()
-        .any(|entry| sends_during(entry, position, span))
-}
-
-/// Whether a telegram comes to the tap at a position with nothing else, while that tap sends nothing.
-fn is_alone(entries: &[Entry], position: usize, since: u64, telegram: &Record) -> bool
-    ensures { result ≡ is_alone position since (map entry_of entries.now) (record_of telegram.now) }
-{
-    let span = telegram.span();
-    !(telegram.tap == position || telegram.is_unheard(position))
-        && count_overlapping(entries, position, since, span) == 1
-        && !sends_in(entries, position, span)
-}
-
 /// Whether a telegram fills a burst of the tap at a position alone.
 pub(crate) fn fills_burst(entries: &[Entry], position: usize, tap: &Tap, telegram: &Record) -> bool
-    ensures { result ≡ model.fills_burst at_once position (tap_of tap.now) (map entry_of entries.now) (record_of telegram.now) }
+    ensures { result
+        ≡ model.fills_burst at_once position (tap_of tap.now) (map entry_of entries.now)
+        (record_of telegram.now) }
 {
     tap.hears_from(telegram.begin) && is_alone(entries, position, tap.since, telegram)
-}
-
-/// The character at a place of a telegram, as the tap at a position gets it.
-fn character_at(telegram: &Record, position: usize, place: usize, octet: u8) -> RxChar
-    ensures { result ≡ (if list_any (trace.hits_place position place) (record_of telegram.now).hits then Bad else Good octet) }
-{
-    if telegram.is_hit(position, place) {
-        return RxChar::Bad;
-    }
-    RxChar::Good(octet)
-}
-
-/// The characters of octets that went out, as the tap at a position gets them.
-fn characters_of(telegram: &Record, position: usize, octets: &[u8]) -> ArrayVec<RxChar, 255>
-    requires { length octets.now ≤ 255 }
-    ensures { result.items ≡ trace.characters_from position (record_of telegram.now).hits 0 octets.now }
-{
-    let mut chars = ArrayVec::new();
-    for (place, octet) in octets.iter().enumerate() {
-        chars.push(character_at(telegram, position, place, *octet));
-    }
-    chars
-}
-
-/// How many octets of a telegram went out.
-fn sent_octets(telegram: &Record) -> usize
-    ensures count { take result telegram.now.octets.items ≡ take ((telegram.now.end - telegram.now.begin) / timers.bits 1) telegram.now.octets.items }
-    ensures bound { result ≤ length telegram.now.octets.items }
-{
-    let sent = telegram.end.saturating_sub(telegram.begin) / CHARACTER_BITS;
-    usize::try_from(sent)
-        .unwrap_or(usize::MAX)
-        .min(telegram.octets.len())
-}
-
-/// The characters of a telegram that went out, as the tap at a position gets them.
-fn characters_at(telegram: &Record, position: usize) -> ArrayVec<RxChar, 255>
-    ensures { result.items ≡ trace.characters_at position (record_of telegram.now) }
-{
-    let sent = sent_octets(telegram);
-    characters_of(telegram, position, &telegram.octets[..sent])
-}
-
-/// Whether an entry is a telegram that ends at a moment and fills a burst alone.
-fn fills_burst_to(entries: &[Entry], position: usize, tap: &Tap, moment: u64, entry: &Entry) -> bool
-    ensures { result ≡ model.fills_burst_to at_once position (tap_of tap.now) (map entry_of entries.now) moment (entry_of entry.now) }
-{
-    match entry {
-        Entry::Noise { .. } => false,
-        Entry::Sent(telegram) => telegram.end == moment
-            && fills_burst(entries, position, tap, telegram),
-    }
-}
-
-/// The characters of a telegram, else one damaged character.
-fn entry_characters(entry: Option<&Entry>, position: usize) -> ArrayVec<RxChar, 255>
-    ensures { result.items ≡ model.entry_characters position (option_map (λ e. entry_of e.now) entry.entry) }
-{
-    if let Some(Entry::Sent(telegram)) = entry {
-        return characters_at(telegram, position);
-    }
-    let mut chars = ArrayVec::new();
-    chars.push(RxChar::Bad);
-    chars
 }
 
 /// The characters of the burst of a tap that ends at a moment.
@@ -196,7 +50,8 @@ pub fn burst_characters(
     tap: &Tap,
     moment: u64,
 ) -> ArrayVec<RxChar, 255>
-    ensures { result.items ≡ model.burst_characters at_once position (tap_of tap.now) (map entry_of entries.now) moment }
+    ensures { result.items
+        ≡ model.burst_characters at_once position (tap_of tap.now) (map entry_of entries.now) moment }
 {
     let filling = entries.iter().find(|entry| fills_burst_to(
         entries, position, tap, moment, entry,
@@ -204,23 +59,11 @@ pub fn burst_characters(
     entry_characters(filling, position)
 }
 
-fn are_good(chars: &[RxChar]) -> bool
-    ensures { result ≡ list_all (λ char. not (is_bad char)) chars.now }
-{
-    chars.iter().all(|char| *char != RxChar::Bad)
-}
-
-/// Whether every character of a telegram went out, and comes good to the tap at a position.
-fn is_undamaged_at(telegram: &Record, position: usize) -> bool
-    ensures { result ≡ is_undamaged position (record_of telegram.now) }
-{
-    let chars = characters_at(telegram, position);
-    chars.len() == telegram.octets.len() && are_good(&chars)
-}
-
 /// Whether a telegram of the entries came whole to the tap at a position.
 pub fn is_whole_at(entries: &[Entry], position: usize, tap: &Tap, telegram: &Record) -> bool
-    ensures { result ≡ model.is_whole_at at_once position (tap_of tap.now) (map entry_of entries.now) (record_of telegram.now) }
+    ensures { result
+        ≡ model.is_whole_at at_once position (tap_of tap.now) (map entry_of entries.now)
+        (record_of telegram.now) }
 {
     if !tap.running {
         return false;
@@ -251,4 +94,173 @@ pub fn is_in_air_by(entry: &Entry, speaker: usize, now: u64) -> bool
     ensures { result ≡ world.is_in_air_by at_once now speaker (entry_of entry.now) }
 {
     matches!(entry, Entry::Sent(telegram) if telegram.tap == speaker && now < telegram.end)
+}
+
+fn begins_at(entries: &[Entry], tap: usize, since: u64, moment: u64) -> bool
+    ensures { result ≡ list_any (begins_at moment) (sensed at_once tap since (map entry_of entries.now)) }
+{
+    entries
+        .iter()
+        .filter_map(|entry| sensed(entry, tap, since))
+        .any(|span| span.begin() == moment)
+}
+
+fn lasts_through(entries: &[Entry], tap: usize, since: u64, moment: u64) -> bool
+    ensures { result ≡ list_any (lasts_through moment) (sensed at_once tap since (map entry_of entries.now)) }
+{
+    entries
+        .iter()
+        .filter_map(|entry| sensed(entry, tap, since))
+        .any(|span| span.lasts_through(moment))
+}
+
+fn ends_at(entries: &[Entry], tap: usize, since: u64, moment: u64) -> bool
+    ensures { result ≡ list_any (ends_at moment) (sensed at_once tap since (map entry_of entries.now)) }
+{
+    entries
+        .iter()
+        .filter_map(|entry| sensed(entry, tap, since))
+        .any(|span| span.end() == moment)
+}
+
+/// Whether a telegram comes to the tap at a position with nothing else, while that tap sends nothing.
+fn is_alone(entries: &[Entry], position: usize, since: u64, telegram: &Record) -> bool
+    ensures { result ≡ is_alone position since (map entry_of entries.now) (record_of telegram.now) }
+{
+    let span = telegram.span();
+    !(telegram.tap == position || telegram.is_unheard(position))
+        && count_overlapping(entries, position, since, span) == 1
+        && !sends_in(entries, position, span)
+}
+
+/// Whether an entry is a telegram that ends at a moment and fills a burst alone.
+fn fills_burst_to(entries: &[Entry], position: usize, tap: &Tap, moment: u64, entry: &Entry) -> bool
+    ensures { result ≡ model.fills_burst_to at_once position (tap_of tap.now) (map entry_of entries.now)
+        moment (entry_of entry.now) }
+{
+    match entry {
+        Entry::Noise { .. } => false,
+        Entry::Sent(telegram) => telegram.end == moment
+            && fills_burst(entries, position, tap, telegram),
+    }
+}
+
+/// The characters of a telegram, else one damaged character.
+fn entry_characters(entry: Option<&Entry>, position: usize) -> ArrayVec<RxChar, 255>
+    ensures { result.items ≡ model.entry_characters position (option_map (λ e. entry_of e.now) entry.entry) }
+{
+    if let Some(Entry::Sent(telegram)) = entry {
+        return characters_at(telegram, position);
+    }
+    let mut chars = ArrayVec::new();
+    chars.push(RxChar::Bad);
+    chars
+}
+
+/// Whether every character of a telegram went out, and comes good to the tap at a position.
+fn is_undamaged_at(telegram: &Record, position: usize) -> bool
+    ensures { result ≡ is_undamaged position (record_of telegram.now) }
+{
+    if telegram.hits.is_empty() {
+        return sent_octets(telegram) == telegram.octets.len();
+    }
+    let chars = characters_at(telegram, position);
+    chars.len() == telegram.octets.len() && are_good(&chars)
+}
+
+/// An entry at a tap: noise, and what other taps send, save what is unheard there.
+fn at_tap(entry: &Entry, tap: usize) -> Option<Span>
+    ensures { result ≡ at_tap at_once tap (entry_of entry.now) }
+{
+    match entry {
+        Entry::Noise { begin, end } => Some(Span::new(*begin, *end)),
+        Entry::Sent(telegram) if telegram.tap == tap || telegram.is_unheard(tap) => None,
+        Entry::Sent(telegram) => Some(telegram.span()),
+    }
+}
+
+/// What of an entry a tap has sensed since a moment.
+fn sensed(entry: &Entry, tap: usize, since: u64) -> Option<Span>
+    ensures { result ≡ option_and_then (part_after since) (at_tap at_once tap (entry_of entry.now)) }
+{
+    at_tap(entry, tap).and_then(|span| span.part_after(since))
+}
+
+/// How many stretches that a tap has sensed overlap a stretch.
+fn count_overlapping(entries: &[Entry], tap: usize, since: u64, span: Span) -> usize
+    ensures { result ≡ count_by (overlaps span) (sensed at_once tap since (map entry_of entries.now)) }
+{
+    entries
+        .iter()
+        .filter_map(|entry| sensed(entry, tap, since))
+        .filter(|other| span.overlaps(*other))
+        .count()
+}
+
+/// Whether the tap at a position sends during a stretch.
+fn sends_in(entries: &[Entry], position: usize, span: Span) -> bool
+    ensures { result ≡ list_any (model.sends_during position span) (map entry_of entries.now) }
+{
+    entries
+        .iter()
+        .any(|entry| sends_during(entry, position, span))
+}
+
+/// The characters of a telegram that went out, as the tap at a position gets them.
+fn characters_at(telegram: &Record, position: usize) -> ArrayVec<RxChar, 255>
+    ensures { result.items ≡ trace.characters_at position (record_of telegram.now) }
+{
+    let sent = sent_octets(telegram);
+    characters_of(telegram, position, &telegram.octets[..sent])
+}
+
+/// How many octets of a telegram went out.
+fn sent_octets(telegram: &Record) -> usize
+    ensures count { take result telegram.now.octets.items
+        ≡ take ((telegram.now.end - telegram.now.begin) / timers.bits 1) telegram.now.octets.items }
+    ensures bound { result ≤ length telegram.now.octets.items }
+{
+    let sent = telegram.end.saturating_sub(telegram.begin) / CHARACTER_BITS;
+    usize::try_from(sent)
+        .unwrap_or(usize::MAX)
+        .min(telegram.octets.len())
+}
+
+fn are_good(chars: &[RxChar]) -> bool
+    ensures { result ≡ list_all (λ char. not (is_bad char)) chars.now }
+{
+    chars.iter().all(|char| *char != RxChar::Bad)
+}
+
+fn sends_during(entry: &Entry, tap: usize, span: Span) -> bool
+    ensures { result ≡ model.sends_during tap span (entry_of entry.now) }
+{
+    match entry {
+        Entry::Noise { .. } => false,
+        Entry::Sent(telegram) => telegram.tap == tap && telegram.span().overlaps(span),
+    }
+}
+
+/// The characters of octets that went out, as the tap at a position gets them.
+fn characters_of(telegram: &Record, position: usize, octets: &[u8]) -> ArrayVec<RxChar, 255>
+    requires { length octets.now ≤ 255 }
+    ensures { result.items ≡ trace.characters_from position (record_of telegram.now).hits 0 octets.now }
+{
+    let mut chars = ArrayVec::new();
+    for (place, octet) in octets.iter().enumerate() {
+        chars.push(character_at(telegram, position, place, *octet));
+    }
+    chars
+}
+
+/// The character at a place of a telegram, as the tap at a position gets it.
+fn character_at(telegram: &Record, position: usize, place: usize, octet: u8) -> RxChar
+    ensures { result
+        ≡ (if list_any (trace.hits_place position place) (record_of telegram.now).hits then Bad else Good
+        octet) }
+{
+    if telegram.is_hit(position, place) {
+        return RxChar::Bad;
+    }
+    RxChar::Good(octet)
 }

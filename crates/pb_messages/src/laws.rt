@@ -12,7 +12,8 @@ ghost use Rattle.pb_messages.specs.declared.messages.Reply.TheVariants.{Answer, 
 pub fn octets_say_what_the_telegram_says()
     ensures telegram { (t : Telegram) → message_in (spelling t) ≡ message_of t }
     ensures frame { (f : Fields) → length f.unit ≤ 246 → message_in (frame_octets f) ≡ Framed f }
-    ensures reply { (f : Fields) → length f.unit ≤ 246 → message_in (reply_octets (Answer f)) ≡ heard_as (Answer f) }
+    ensures reply { (f : Fields) → length f.unit ≤ 246
+        → message_in (reply_octets (Answer f)) ≡ heard_as (Answer f) }
     ensures acknowledgement { message_in (reply_octets Acknowledge) ≡ heard_as Acknowledge }
 {}
 

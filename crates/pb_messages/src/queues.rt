@@ -50,7 +50,8 @@ fn push(list: &mut ArrayVec<Request, 16>, request: Request) -> Result<(), QueueF
 
 /// Takes the request that has waited longest.
 fn take(list: &mut ArrayVec<Request, 16>) -> Option<Request>
-    ensures first { MatchOption result (list.old.items ≡ []) (λ request. list.old.items ≡ request ∷ list.new.items) }
+    ensures first { MatchOption result (list.old.items ≡ []) (λ request. list.old.items
+        ≡ request ∷ list.new.items) }
     ensures none { IfNone result (list.new.items ≡ []) }
 {
     list.pop_at(0)
@@ -91,7 +92,8 @@ impl Queue {
     /// Puts a request behind the others in the list of high priority. QueueFull, which hands the
     /// request back: 16 wait there; the queue stays as it was.
     pub fn push_high(&mut self, request: Request) -> Result<(), QueueFull>
-        ensures outcome { MatchResult result (λ _. self.new ≡ record { high = put self.old.high request; low = self.old.low })
+        ensures outcome { MatchResult result
+            (λ _. self.new ≡ record { high = put self.old.high request; low = self.old.low })
             (λ refused. (refused.request ≡ request) × (self.new ≡ self.old)) }
         ensures room { OnOk result (length self.old.high < 16) }
         ensures full { OnErr result (length self.old.high ≡ 16) }
@@ -102,7 +104,8 @@ impl Queue {
     /// Puts a request behind the others in the list of low priority. QueueFull, which hands the
     /// request back: 16 wait there; the queue stays as it was.
     pub fn push_low(&mut self, request: Request) -> Result<(), QueueFull>
-        ensures outcome { MatchResult result (λ _. self.new ≡ record { high = self.old.high; low = put self.old.low request })
+        ensures outcome { MatchResult result
+            (λ _. self.new ≡ record { high = self.old.high; low = put self.old.low request })
             (λ refused. (refused.request ≡ request) × (self.new ≡ self.old)) }
         ensures room { OnOk result (length self.old.low < 16) }
         ensures full { OnErr result (length self.old.low ≡ 16) }
@@ -124,6 +127,14 @@ impl Queue {
             (λ request. (self.old.low ≡ request ∷ self.new.low) × (self.new ≡ record { high = self.old.high; low = drop 1 self.old.low })) }
     {
         take(&mut self.low)
+    }
+
+    /// No request waits any more.
+    pub fn clear(&mut self)
+        ensures { self.new ≡ record { high = []; low = [] } }
+    {
+        self.high.clear();
+        self.low.clear();
     }
 
     /// How many requests of high priority wait, 0 to 16.

@@ -71,7 +71,8 @@ impl Request {
         high: bool,
         unit: ArrayVec<u8, 246>,
     ) -> Result<Request, RequestFault>
-        ensures value { IfOk result (λ r. r ≡ record { da = da; service = service; high = high; unit = unit.items }) }
+        ensures value { IfOk result
+            (λ r. r ≡ record { da = da; service = service; high = high; unit = unit.items }) }
         ensures addressed { OnOk result (first_fault (request_faults da service) ≡ None) }
         ensures fault { IfErr result (λ fault. first_fault (request_faults da service) ≡ Some fault) }
     {

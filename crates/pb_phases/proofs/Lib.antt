@@ -1,3 +1,4 @@
 pub mod Looking
+pub mod Speaking
 pub mod Taking
 pub mod TimeOuts

@@ -10,5 +10,5 @@ mod timers;
 
 pub use beginnings::begun;
 pub use hearing::ended;
-pub use speeches::{Spoken, speaks_at, speech};
+pub use speeches::{speak, speaks_at, would_say};
 pub use timers::{after_timer, timer};

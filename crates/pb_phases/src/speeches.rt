@@ -1,28 +1,29 @@
 //! What a station says.
 
-ghost use Rattle.std.specs.Prelude.{◌≡◌, ◌+◌, ◌≤◌, ◌<◌, ◌&&◌, not, max, length, if◌then◌else◌, true, is_some, Some, None, IsSome};
+ghost use Rattle.std.specs.Prelude.{◌≡◌, ℕ, ◌+◌, ◌≤◌, ◌<◌, ◌&&◌, not, max, length, if◌then◌else◌, true, is_some, Some, None, IsSome};
 ghost use Rattle.std.specs.Option.{option_map};
-ghost use Rattle.pb_timers.specs.Timers.{bits};
+ghost use Rattle.pb_timers.specs.Timers.{Params, bits};
 ghost use Rattle.pb_telegram.specs.Grammar.{spelling};
 ghost use Rattle.pb_telegram.specs.Initiators.{IsInitiator};
+ghost use Rattle.pb_messages.specs.Queued.{Queued};
+ghost use Rattle.pb_messages.specs.Requests.{is_answered};
 ghost use Rattle.pb_ring.specs.Las.{readied};
 ghost use Rattle.pb_ring.specs.Gap.{is_due, last_asked, next_asked, round_after};
 ghost use Rattle.pb_ring.specs.declared.gaps.Round.TheVariants.{Open};
 ghost use Rattle.pb_rotation.specs.Rotation.{fresh, may_low};
-ghost use Rattle.pb_messages.specs.Requests.{is_answered};
 ghost use Rattle.pb_cycles.specs.Initiating.{retry_of};
 ghost use Rattle.pb_turn.specs.Phases as turn;
 ghost use Rattle.pb_turn.specs.Stations.{next_station, reply_moment, speaks_at};
 ghost use Rattle.pb_turn.specs.Turns.{token_octets, status_request_octets, saying, says_token, says_claim, looks_at_gap, says_look, says_no_request, says_request, says_low, says_in_use, high_request, low_request, high_taken, low_taken, says_again, joining, says_reply, says_ready, phase_says, speech};
 ghost use Rattle.pb_tokenfsm.specs.Phases.{phase_of, claims_sent, has_asked, was_asked, tries_of};
 ghost use Rattle.pb_core.specs.Clocks.{last_turn};
-ghost use Rattle.pb_core.specs.Cores.{with_phase, station_of, HasReceived};
+ghost use Rattle.pb_core.specs.Cores.{station_with, Becomes, HasReceived};
 ghost use Rattle.pb_core.specs.Replies.{reply_of};
-ghost use Rattle.pb_phases.specs.Speeches.{spoken_of};
+ghost use Rattle.pb_phases.specs.Speeches.{spoken_with, Says, after_taking};
 
 use crate::rotations::received_if;
 use arrayvec::ArrayVec;
-use pb_core::{Core, Kept, Past, Reply, after, readied};
+use pb_core::{Kept, Past, Reply, SendBuffer, Waiting, after, readied};
 use pb_cycles::{Request, Service};
 use pb_ring::Gap;
 use pb_rotation::Rotation;
@@ -33,20 +34,260 @@ use pb_tokenfsm::{AwaitData, Claim, Holding, Listening, Pass, Phase, Use};
 /// The control octet of Request FDL Status: a request, whose frame count bit does not count.
 const STATUS_REQUEST: u8 = 0x49;
 
-/// A station after it may have spoken.
-#[derive(Debug, Drop)]
-pub struct Spoken {
-    pub after: Core,
-    pub octets: Option<ArrayVec<u8, 255>>,
+// ---- the use of the token
+
+// ---- tokens
+
+// ---- replies
+
+/// The station at the clock speaks, if its moment has come.
+pub fn speak(
+    phase: &mut Phase,
+    kept: &mut Kept,
+    waiting: &mut Waiting,
+    params: &BusParams,
+    now: Moment,
+    out: &mut SendBuffer,
+)
+    requires clock { now ≤ last_turn }
+    requires received { HasReceived (station_with kept.old waiting.old (phase_of phase.old)) }
+    ensures { let before = station_with kept.old waiting.old (phase_of phase.old) in
+        spoken_with kept.new waiting.new (phase_of phase.new) out.new ≡ speech params.now before (speaks_at before) now }
+{
+    match speaks_at(phase, kept) {
+        Some(moment) if moment.get() <= now.get() => {
+            let before = phase.take();
+            *phase = says(before, kept, waiting, params, now, out);
+        }
+        _ => out.clear(),
+    }
 }
 
-fn silent(core: Core) -> Spoken
-    ensures { spoken_of result ≡ (station_of core, None) }
+/// Whether the station at the clock says something. It changes nothing.
+pub fn would_say(phase: &Phase, kept: &Kept, now: Moment) -> bool
+    ensures { (p : Params) (queue : Queued)
+        → let s = station_with kept.now queue (phase_of phase.now) in result
+        ≡ is_some (speech p s (speaks_at s) now).1 }
 {
-    Spoken {
-        after: core,
-        octets: None,
+    match speaks_at(phase, kept) {
+        Some(moment) if moment.get() <= now.get() => has_words(phase, kept),
+        _ => false,
     }
+}
+
+/// The moment at which the station speaks.
+pub fn speaks_at(phase: &Phase, kept: &Kept) -> Option<Moment>
+    ensures { (queue : Queued) → result ≡ speaks_at (station_with kept.now queue (phase_of phase.now)) }
+{
+    match phase {
+        Phase::PassiveIdle(_) | Phase::Listening(_) | Phase::Idle(_) => reply_moment(&kept.reply),
+        Phase::Claim(holder) => Some(holder.ready()),
+        Phase::Use(holder) => Some(holder.ready()),
+        Phase::AwaitData(holder) => holder.retry(),
+        Phase::Pass(holder) => Some(holder.ready()),
+        Phase::Offline(_) | Phase::AwaitStatus(_) | Phase::Checking(_) => None,
+    }
+}
+
+/// What a phase says at the clock.
+fn says(
+    phase: Phase,
+    kept: &mut Kept,
+    waiting: &mut Waiting,
+    params: &BusParams,
+    now: Moment,
+    out: &mut SendBuffer,
+) -> Phase
+    requires clock { now ≤ last_turn }
+    requires received { HasReceived (station_with kept.old waiting.old (phase_of phase)) }
+    ensures { spoken_with kept.new waiting.new (phase_of result) out.new
+        ≡ phase_says params.now (station_with kept.old waiting.old (phase_of phase)) (phase_of phase) now }
+{
+    match phase {
+        Phase::Listening(listening) => says_ready(listening, kept, now, out),
+        Phase::PassiveIdle(_) | Phase::Idle(_) => says_reply(phase, kept, now, out),
+        Phase::Claim(holder) => says_claim(holder, kept, params, now, out),
+        Phase::Use(holder) => says_in_use(holder, kept, waiting, params, now, out),
+        Phase::AwaitData(holder) => says_again(holder, kept, now, out),
+        Phase::Pass(holder) => says_token(holder, kept, params, now, out),
+        other => silent(other, out),
+    }
+}
+
+/// Whether the station says something where it speaks: a request is sent again only where a retry is left.
+fn has_words(phase: &Phase, kept: &Kept) -> bool
+    ensures { (p : Params) (queue : Queued) (now : ℕ)
+        → let s = station_with kept.now queue (phase_of phase.now) in IsSome (speaks_at s) → result
+        ≡ is_some (phase_says p s s.phase now).1 }
+{
+    match phase {
+        Phase::AwaitData(_) => kept.cycles.initiator.retry_left(),
+        _ => true,
+    }
+}
+
+/// When the reply is sent, if there is one.
+fn reply_moment(reply: &Option<Reply>) -> Option<Moment>
+    ensures { result ≡ reply_moment (option_map reply_of reply.now) }
+{
+    match reply {
+        Some(reply) => Some(reply.ready),
+        None => None,
+    }
+}
+
+/// One that listens sends its reply, if it has one.
+fn says_ready(listening: Listening, kept: &mut Kept, now: Moment, out: &mut SendBuffer) -> Phase
+    requires { now ≤ last_turn }
+    ensures { Says (λ s. says_ready s s.reply now)
+        kept.old (phase_of (Phase.Listening listening)) kept.new (phase_of result) out.new }
+{
+    match kept.reply.take() {
+        None => silent(Phase::Listening(listening), out),
+        Some(reply) => {
+            kept.past = said(kept.past, now, &reply.octets);
+            out.send(&reply.octets);
+            ready_if(listening, kept, reply.joins)
+        }
+    }
+}
+
+/// A station without the token sends its reply, if it has one.
+fn says_reply(phase: Phase, kept: &mut Kept, now: Moment, out: &mut SendBuffer) -> Phase
+    requires { now ≤ last_turn }
+    ensures { Says (λ s. says_reply s s.reply now)
+        kept.old (phase_of phase) kept.new (phase_of result) out.new }
+{
+    match kept.reply.take() {
+        None => silent(phase, out),
+        Some(reply) => {
+            kept.past = said(kept.past, now, &reply.octets);
+            out.send(&reply.octets);
+            phase
+        }
+    }
+}
+
+/// A claim is a token to the own address. The second one is a receipt.
+fn says_claim(
+    holder: Holding<Claim>,
+    kept: &mut Kept,
+    params: &BusParams,
+    now: Moment,
+    out: &mut SendBuffer,
+) -> Phase
+    requires { now ≤ last_turn }
+    ensures { Says (λ s. says_claim params.now s (claims_sent holder) now)
+        kept.old (phase_of (Phase.Claim holder)) kept.new (phase_of result) out.new }
+{
+    let ts = kept.address.get();
+    let octets = holder.initiate(&token(ts, ts));
+    kept.past = said(kept.past, now, &octets);
+    out.send(&octets);
+    let end = kept.past.end.get();
+    let phase = holder.on_sent(after(end, u64::from(params.tid1())));
+    let receipt = match &phase {
+        Phase::Claim(_) => false,
+        _ => true,
+    };
+    kept.rotation = received_if(kept.rotation, receipt, end);
+    phase
+}
+
+/// The use of the token: a request, of high priority first, a look into the GAP, or the token.
+fn says_in_use(
+    holder: Holding<Use>,
+    kept: &mut Kept,
+    waiting: &mut Waiting,
+    params: &BusParams,
+    now: Moment,
+    out: &mut SendBuffer,
+) -> Phase
+    requires clock { now ≤ last_turn }
+    requires received { IsSome kept.old.rotation.last }
+    ensures { let before = station_with kept.old waiting.old (phase_of (Phase.Use holder)) in
+        spoken_with kept.new waiting.new (phase_of result) out.new ≡ says_in_use params.now before (has_asked holder) now }
+{
+    if waiting.has_high() {
+        says_high(holder, kept, waiting, params, now, out)
+    } else {
+        says_low(holder, kept, waiting, params, now, out)
+    }
+}
+
+/// The open request is sent again.
+fn says_again(
+    holder: Holding<AwaitData>,
+    kept: &mut Kept,
+    now: Moment,
+    out: &mut SendBuffer,
+) -> Phase
+    requires { now ≤ last_turn }
+    ensures { Says (λ s. says_again s (was_asked holder) (retry_of s.cycles.initiator.pending) now)
+        kept.old (phase_of (Phase.AwaitData holder)) kept.new (phase_of result) out.new }
+{
+    match kept.cycles.initiator.again() {
+        Some(telegram) => {
+            let octets = holder.initiate(&telegram);
+            kept.past = said(kept.past, now, &octets);
+            out.send(&octets);
+            Phase::AwaitData(holder.again())
+        }
+        None => silent(Phase::AwaitData(holder.on_no_retry()), out),
+    }
+}
+
+/// The token goes to the next station. One that goes to the own address is a receipt.
+fn says_token(
+    holder: Holding<Pass>,
+    kept: &mut Kept,
+    params: &BusParams,
+    now: Moment,
+    out: &mut SendBuffer,
+) -> Phase
+    requires { now ≤ last_turn }
+    ensures { Says (λ s. says_token params.now s (tries_of (Phase.Pass holder)) now)
+        kept.old (phase_of (Phase.Pass holder)) kept.new (phase_of result) out.new }
+{
+    let ts = kept.address.get();
+    let ns = kept.las.ns(ts);
+    let octets = holder.initiate(&token(ns, ts));
+    kept.past = said(kept.past, now, &octets);
+    out.send(&octets);
+    let end = kept.past.end.get();
+    kept.rotation = received_if(kept.rotation, ns == ts, end);
+    holder.on_sent(ns, ts, after(end, u64::from(params.tid1())))
+}
+
+/// Nothing is sent, and the phase is as it was.
+fn silent(phase: Phase, out: &mut SendBuffer) -> Phase
+    ensures phase { result ≡ phase }
+    ensures sent { out.new ≡ None }
+{
+    out.clear();
+    phase
+}
+
+/// The past of a station that says octets at a moment.
+fn said(past: Past, now: Moment, octets: &ArrayVec<u8, 255>) -> Past
+    requires { now ≤ last_turn }
+    ensures { result
+        ≡ record { quiet = max past.quiet (now + bits (length octets.now.items)); begin = now;
+        end = now + bits (length octets.now.items) } }
+{
+    past.said(now, octets.len())
+}
+
+/// One that listens and has said whether it is ready: with the reply that it is, it joins the ring.
+fn ready_if(listening: Listening, kept: &mut Kept, joins: bool) -> Phase
+    ensures { Becomes (λ s. if joins then joining s else s)
+        kept.old (phase_of (Phase.Listening listening)) kept.new (phase_of result) }
+{
+    if !joins {
+        return Phase::Listening(listening);
+    }
+    join(kept);
+    Phase::Idle(listening.on_ready())
 }
 
 fn token(da: u8, sa: u8) -> Telegram
@@ -58,148 +299,135 @@ fn token(da: u8, sa: u8) -> Telegram
     Telegram::Token(TokenTelegram { da, sa })
 }
 
-fn status_request(da: u8, sa: u8) -> Telegram
-    requires { sa < 127 }
-    ensures octets { spelling result ≡ status_request_octets da sa }
-    ensures initiator { IsInitiator result }
+/// Requests of high priority wait: the first is sent, if it may be.
+fn says_high(
+    holder: Holding<Use>,
+    kept: &mut Kept,
+    waiting: &mut Waiting,
+    params: &BusParams,
+    now: Moment,
+    out: &mut SendBuffer,
+) -> Phase
+    requires clock { now ≤ last_turn }
+    requires received { IsSome kept.old.rotation.last }
+    ensures { let before = station_with kept.old waiting.old (phase_of (Phase.Use holder)) in
+        spoken_with kept.new waiting.new (phase_of result) out.new ≡ says_in_use params.now before (has_asked holder) now }
 {
-    Telegram::Short(ShortTelegram {
-        da,
-        sa,
-        fc: STATUS_REQUEST,
-    })
-}
-
-/// The past of a station that says octets at a moment.
-fn said(past: Past, now: Moment, octets: &ArrayVec<u8, 255>) -> Past
-    requires { now ≤ last_turn }
-    ensures { result ≡ record { quiet = max past.quiet (now + bits (length octets.now.items)); begin = now; end = now + bits (length octets.now.items) } }
-{
-    past.said(now, octets.len())
-}
-
-/// The token goes to the next station. One that goes to the own address is a receipt.
-fn says_token(holder: Holding<Pass>, kept: Kept, params: &BusParams, now: Moment) -> Spoken
-    requires { now ≤ last_turn }
-    ensures { spoken_of result ≡ says_token params.now (with_phase kept (phase_of (Phase.Pass holder))) (tries_of (Phase.Pass holder)) now }
-{
-    let ts = kept.address.get();
-    let ns = kept.las.ns(ts);
-    let octets = holder.initiate(&token(ns, ts));
-    let past = said(kept.past, now, &octets);
-    let end = past.end.get();
-    let ready = after(end, u64::from(params.tid1()));
-    let rotation = received_if(kept.rotation, ns == ts, end);
-    Spoken {
-        after: Core {
-            phase: holder.on_sent(ns, ts, ready),
-            kept: Kept {
-                past,
-                rotation,
-                ..kept
-            },
-        },
-        octets: Some(octets),
+    match take_high(kept, waiting, now) {
+        Some(request) => says_request(holder, kept, params, now, request, out),
+        None => says_low(holder, kept, waiting, params, now, out),
     }
 }
 
-/// A claim is a token to the own address. The second one is a receipt.
-fn says_claim(holder: Holding<Claim>, kept: Kept, params: &BusParams, now: Moment) -> Spoken
-    requires { now ≤ last_turn }
-    ensures { spoken_of result ≡ says_claim params.now (with_phase kept (phase_of (Phase.Claim holder))) (claims_sent holder) now }
+/// No request of high priority may be sent: one of low priority, or what follows if none may be sent.
+fn says_low(
+    holder: Holding<Use>,
+    kept: &mut Kept,
+    waiting: &mut Waiting,
+    params: &BusParams,
+    now: Moment,
+    out: &mut SendBuffer,
+) -> Phase
+    requires clock { now ≤ last_turn }
+    requires received { IsSome kept.old.rotation.last }
+    ensures { let before = station_with kept.old waiting.old (phase_of (Phase.Use holder)) in
+        spoken_with kept.new waiting.new (phase_of result) out.new ≡ says_low params.now before (has_asked holder) (low_request before now) now }
 {
-    let ts = kept.address.get();
-    let octets = holder.initiate(&token(ts, ts));
-    let past = said(kept.past, now, &octets);
-    let end = past.end.get();
-    let phase = holder.on_sent(after(end, u64::from(params.tid1())));
-    let receipt = match &phase {
-        Phase::Claim(_) => false,
-        _ => true,
-    };
-    let rotation = received_if(kept.rotation, receipt, end);
-    Spoken {
-        after: Core {
-            phase,
-            kept: Kept {
-                past,
-                rotation,
-                ..kept
-            },
-        },
-        octets: Some(octets),
+    if waiting.has_low() {
+        says_first_low(holder, kept, waiting, params, now, out)
+    } else {
+        says_no_request(holder, kept, params, now, out)
     }
 }
 
-/// Whether the station looks for others in its GAP: time is left, it asked none since the receipt, and a
-/// round is due.
-fn looks_at_gap(kept: &Kept, params: &BusParams, asked: bool, now: Moment) -> bool
-    requires { IsSome kept.now.rotation.last }
-    ensures { result ≡ (may_low kept.now.rotation now && (not asked && is_due kept.now.gap now params.now.ttr params.now.gap)) }
+/// A station joins the ring.
+fn join(kept: &mut Kept)
+    ensures { kept.new ≡ record
+        kept.old { las = readied kept.old.las kept.old.address; gap = Open None; rotation = fresh
+        kept.old.rotation.ttr } }
 {
-    kept.rotation.may_low(now) && !asked && kept.gap.due(now.get(), params.ttr(), params.gap())
+    kept.las = readied(kept.las, kept.address.get());
+    kept.gap = Gap::fresh();
+    kept.rotation = Rotation::new(kept.rotation.ttr());
 }
 
-/// A look for a station in a round of the GAP: the round after it, and the address to ask, if one is left.
-#[derive(Clone, Copy, Debug)]
-struct Look {
-    gap: Gap,
-    address: Option<u8>,
-}
-
-fn next_look(kept: &Kept, params: &BusParams, ns: u8, now: Moment) -> Look
-    ensures { result ≡ record {
-      gap = round_after (next_asked kept.now.address ns params.now.hsa (last_asked kept.now.gap)) now;
-      address = next_asked kept.now.address ns params.now.hsa (last_asked kept.now.gap);
-    } }
+/// The request of high priority that may be sent.
+fn take_high(kept: &mut Kept, waiting: &mut Waiting, now: Moment) -> Option<Request>
+    requires { IsSome kept.old.rotation.last }
+    ensures request { (phase : turn.Phase) → result
+        ≡ high_request (station_with kept.old waiting.old phase) now }
+    ensures kept { (phase : turn.Phase) → station_with kept.new waiting.new phase
+        ≡ after_taking high_taken (station_with kept.old waiting.old phase) result }
 {
-    let mut gap = kept.gap;
-    let hsa = params.hsa() as u8;
-    let address = gap.next_to_ask(kept.address.get(), ns, hsa, now.get());
-    Look { gap, address }
-}
-
-/// A station of the GAP is asked for its status.
-fn asks_status(holder: Holding<Use>, kept: Kept, now: Moment, address: u8) -> Spoken
-    requires { now ≤ last_turn }
-    ensures { spoken_of result ≡ (record (saying (with_phase kept (phase_of (Phase.Use holder))) now (status_request_octets address kept.address)) { phase = turn.AwaitStatus address true }, Some (status_request_octets address kept.address)) }
-{
-    let octets = holder.initiate(&status_request(address, kept.address.get()));
-    let past = said(kept.past, now, &octets);
-    Spoken {
-        after: Core {
-            phase: Phase::AwaitStatus(holder.ask_status(address)),
-            kept: Kept { past, ..kept },
-        },
-        octets: Some(octets),
+    if !kept.rotation.may_high(now) {
+        return None;
     }
+    let request = waiting.take_high();
+    if request.is_some() {
+        kept.rotation.started_high();
+    }
+    request
 }
 
-/// The look into the GAP: where no address is left, the token goes on.
-fn says_look(holder: Holding<Use>, kept: Kept, params: &BusParams, now: Moment) -> Spoken
+/// A request is sent.
+fn says_request(
+    holder: Holding<Use>,
+    kept: &mut Kept,
+    params: &BusParams,
+    now: Moment,
+    request: Request,
+    out: &mut SendBuffer,
+) -> Phase
     requires { now ≤ last_turn }
-    ensures { spoken_of result ≡ says_look params.now (with_phase kept (phase_of (Phase.Use holder)))
-        (next_asked kept.address (next_station (with_phase kept (phase_of (Phase.Use holder)))) params.now.hsa (last_asked kept.gap)) now }
+    ensures { Says (λ s. says_request params.now s (has_asked holder) request now)
+        kept.old (phase_of (Phase.Use holder)) kept.new (phase_of result) out.new }
 {
-    let ns = kept.las.ns(kept.address.get());
-    let Look { gap, address } = next_look(&kept, params, ns, now);
-    let kept = Kept { gap, ..kept };
-    match address {
-        Some(address) => asks_status(holder, kept, now, address),
-        None => says_token(holder.done(), kept, params, now),
+    let answered = is_answered(&request);
+    let telegram = kept.cycles.initiator.request(kept.address.get(), request);
+    let octets = holder.initiate(&telegram);
+    kept.past = said(kept.past, now, &octets);
+    out.send(&octets);
+    let ready = after(kept.past.end.get(), u64::from(params.tid2()));
+    asked(holder, answered, ready)
+}
+
+/// Requests of low priority wait: the first is sent, if it may be.
+fn says_first_low(
+    holder: Holding<Use>,
+    kept: &mut Kept,
+    waiting: &mut Waiting,
+    params: &BusParams,
+    now: Moment,
+    out: &mut SendBuffer,
+) -> Phase
+    requires clock { now ≤ last_turn }
+    requires received { IsSome kept.old.rotation.last }
+    ensures { let before = station_with kept.old waiting.old (phase_of (Phase.Use holder)) in
+        spoken_with kept.new waiting.new (phase_of result) out.new ≡ says_low params.now before (has_asked holder) (low_request before now) now }
+{
+    match take_low(kept, waiting, now) {
+        Some(request) => says_request(holder, kept, params, now, request, out),
+        None => says_no_request(holder, kept, params, now, out),
     }
 }
 
 /// No request may be sent: a look into the GAP, or the token.
-fn says_no_request(holder: Holding<Use>, kept: Kept, params: &BusParams, now: Moment) -> Spoken
+fn says_no_request(
+    holder: Holding<Use>,
+    kept: &mut Kept,
+    params: &BusParams,
+    now: Moment,
+    out: &mut SendBuffer,
+) -> Phase
     requires clock { now ≤ last_turn }
-    requires received { IsSome kept.rotation.last }
-    ensures { spoken_of result ≡ says_no_request params.now (with_phase kept (phase_of (Phase.Use holder))) (has_asked holder) now }
+    requires received { IsSome kept.old.rotation.last }
+    ensures { Says (λ s. says_no_request params.now s (has_asked holder) now)
+        kept.old (phase_of (Phase.Use holder)) kept.new (phase_of result) out.new }
 {
-    if looks_at_gap(&kept, params, holder.asked(), now) {
-        says_look(holder, kept, params, now)
+    if looks_at_gap(kept, params, holder.asked(), now) {
+        says_look(holder, kept, params, now, out)
     } else {
-        says_token(holder.done(), kept, params, now)
+        says_token(holder.done(), kept, params, now, out)
     }
 }
 
@@ -215,7 +443,9 @@ fn is_answered(request: &Request) -> bool
 
 /// A holder after a request: it waits for the reply, or speaks again.
 fn asked(holder: Holding<Use>, answered: bool, ready: Moment) -> Phase
-    ensures { phase_of result ≡ (if answered then turn.AwaitData (has_asked holder) None true else turn.Use (has_asked holder) ready) }
+    ensures { phase_of result
+        ≡ (if answered then turn.AwaitData (has_asked holder) None true else turn.Use (has_asked holder)
+        ready) }
 {
     if answered {
         Phase::AwaitData(holder.ask())
@@ -224,259 +454,92 @@ fn asked(holder: Holding<Use>, answered: bool, ready: Moment) -> Phase
     }
 }
 
-/// A request is sent.
-fn says_request(
+/// The request of low priority that may be sent.
+fn take_low(kept: &Kept, waiting: &mut Waiting, now: Moment) -> Option<Request>
+    requires { IsSome kept.now.rotation.last }
+    ensures request { (phase : turn.Phase) → result
+        ≡ low_request (station_with kept.now waiting.old phase) now }
+    ensures kept { (phase : turn.Phase) → station_with kept.now waiting.new phase
+        ≡ after_taking low_taken (station_with kept.now waiting.old phase) result }
+{
+    if !kept.rotation.may_low(now) {
+        return None;
+    }
+    waiting.take_low()
+}
+
+/// Whether the station looks for others in its GAP: time is left, it asked none since the receipt, and a
+/// round is due.
+fn looks_at_gap(kept: &Kept, params: &BusParams, asked: bool, now: Moment) -> bool
+    requires { IsSome kept.now.rotation.last }
+    ensures { result
+        ≡ (may_low kept.now.rotation now &&
+        (not asked && is_due kept.now.gap now params.now.ttr params.now.gap)) }
+{
+    kept.rotation.may_low(now) && !asked && kept.gap.due(now.get(), params.ttr(), params.gap())
+}
+
+/// The look into the GAP: where no address is left, the token goes on.
+fn says_look(
     holder: Holding<Use>,
-    kept: Kept,
+    kept: &mut Kept,
     params: &BusParams,
     now: Moment,
-    request: Request,
-) -> Spoken
+    out: &mut SendBuffer,
+) -> Phase
     requires { now ≤ last_turn }
-    ensures { spoken_of result ≡ says_request params.now (with_phase kept (phase_of (Phase.Use holder))) (has_asked holder) request now }
+    ensures { Says
+        (λ s. says_look params.now s
+        (next_asked s.address (next_station s) params.now.hsa (last_asked s.gap)) now)
+        kept.old (phase_of (Phase.Use holder)) kept.new (phase_of result) out.new }
 {
-    let answered = is_answered(&request);
-    let mut cycles = kept.cycles;
-    let telegram = cycles.initiator.request(kept.address.get(), request);
-    let octets = holder.initiate(&telegram);
-    let past = said(kept.past, now, &octets);
-    let ready = after(past.end.get(), u64::from(params.tid2()));
-    Spoken {
-        after: Core {
-            phase: asked(holder, answered, ready),
-            kept: Kept {
-                past,
-                cycles,
-                ..kept
-            },
-        },
-        octets: Some(octets),
+    match next_look(kept, params, now) {
+        Some(address) => asks_status(holder, kept, now, address, out),
+        None => says_token(holder.done(), kept, params, now, out),
     }
 }
 
-/// What is left after a request was taken from the queue, if one may be sent.
-#[derive(Debug, Drop)]
-struct Taken {
-    kept: Kept,
-    request: Option<Request>,
-}
-
-/// The request of high priority that may be sent.
-fn take_high(kept: Kept, now: Moment) -> Taken
-    requires { IsSome kept.rotation.last }
-    ensures request { (phase : turn.Phase) → result.request ≡ high_request (with_phase kept phase) now }
-    ensures kept { (phase : turn.Phase) → with_phase result.kept phase ≡ (if is_some result.request then high_taken (with_phase kept phase) else with_phase kept phase) }
+/// The next address of the GAP that is to be asked, if one is left; the round goes on.
+fn next_look(kept: &mut Kept, params: &BusParams, now: Moment) -> Option<u8>
+    ensures address { (queue : Queued) (phase : turn.Phase) → let s = station_with
+        kept.old queue phase in result
+        ≡ next_asked s.address (next_station s) params.now.hsa (last_asked s.gap) }
+    ensures round { (phase : turn.Phase) → Becomes (λ s. record s { gap = round_after result now })
+        kept.old phase kept.new phase }
 {
-    let mut kept = kept;
-    if !kept.rotation.may_high(now) {
-        return Taken {
-            kept,
-            request: None,
-        };
-    }
-    let request = kept.cycles.queue.take_high();
-    if request.is_some() {
-        kept.rotation.started_high();
-    }
-    Taken { kept, request }
+    let ts = kept.address.get();
+    let ns = kept.las.ns(ts);
+    kept.gap.next_to_ask(ts, ns, params.hsa() as u8, now.get())
 }
 
-/// The request of low priority that may be sent.
-fn take_low(kept: Kept, now: Moment) -> Taken
-    requires { IsSome kept.rotation.last }
-    ensures request { (phase : turn.Phase) → result.request ≡ low_request (with_phase kept phase) now }
-    ensures kept { (phase : turn.Phase) → with_phase result.kept phase ≡ (if is_some result.request then low_taken (with_phase kept phase) else with_phase kept phase) }
-{
-    let mut kept = kept;
-    if !kept.rotation.may_low(now) {
-        return Taken {
-            kept,
-            request: None,
-        };
-    }
-    let request = kept.cycles.queue.take_low();
-    Taken { kept, request }
-}
-
-/// No request of high priority may be sent: one of low priority, or what follows if none may be sent.
-fn says_low(holder: Holding<Use>, kept: Kept, params: &BusParams, now: Moment) -> Spoken
-    requires clock { now ≤ last_turn }
-    requires received { IsSome kept.rotation.last }
-    ensures { spoken_of result ≡ says_low params.now (with_phase kept (phase_of (Phase.Use holder))) (has_asked holder) (low_request (with_phase kept (phase_of (Phase.Use holder))) now) now }
-{
-    let Taken { kept, request } = take_low(kept, now);
-    match request {
-        Some(request) => says_request(holder, kept, params, now, request),
-        None => says_no_request(holder, kept, params, now),
-    }
-}
-
-/// The use of the token: a request, of high priority first, a look into the GAP, or the token.
-fn says_in_use(holder: Holding<Use>, kept: Kept, params: &BusParams, now: Moment) -> Spoken
-    requires clock { now ≤ last_turn }
-    requires received { IsSome kept.rotation.last }
-    ensures { spoken_of result ≡ says_in_use params.now (with_phase kept (phase_of (Phase.Use holder))) (has_asked holder) now }
-{
-    let Taken { kept, request } = take_high(kept, now);
-    match request {
-        Some(request) => says_request(holder, kept, params, now, request),
-        None => says_low(holder, kept, params, now),
-    }
-}
-
-/// The open request is sent again.
-fn says_again(holder: Holding<AwaitData>, kept: Kept, now: Moment) -> Spoken
+/// A station of the GAP is asked for its status.
+fn asks_status(
+    holder: Holding<Use>,
+    kept: &mut Kept,
+    now: Moment,
+    address: u8,
+    out: &mut SendBuffer,
+) -> Phase
     requires { now ≤ last_turn }
-    ensures { spoken_of result ≡ says_again (with_phase kept (phase_of (Phase.AwaitData holder))) (was_asked holder) (retry_of kept.cycles.initiator.pending) now }
+    ensures { Says
+        (λ s. (record (saying s now (status_request_octets address s.address))
+        { phase = turn.AwaitStatus address true }, Some (status_request_octets address s.address)))
+        kept.old (phase_of (Phase.Use holder)) kept.new (phase_of result) out.new }
 {
-    let mut cycles = kept.cycles;
-    match cycles.initiator.again() {
-        Some(telegram) => {
-            let octets = holder.initiate(&telegram);
-            let past = said(kept.past, now, &octets);
-            Spoken {
-                after: Core {
-                    phase: Phase::AwaitData(holder.again()),
-                    kept: Kept {
-                        past,
-                        cycles,
-                        ..kept
-                    },
-                },
-                octets: Some(octets),
-            }
-        }
-        None => silent(Core {
-            phase: Phase::AwaitData(holder.on_no_retry()),
-            kept: Kept { cycles, ..kept },
-        }),
-    }
+    let octets = holder.initiate(&status_request(address, kept.address.get()));
+    kept.past = said(kept.past, now, &octets);
+    out.send(&octets);
+    Phase::AwaitStatus(holder.ask_status(address))
 }
 
-/// A station without the token sends its reply, if it has one.
-fn says_reply(phase: Phase, kept: Kept, now: Moment) -> Spoken
-    requires { now ≤ last_turn }
-    ensures { spoken_of result ≡ says_reply (with_phase kept (phase_of phase)) (option_map reply_of kept.reply) now }
+fn status_request(da: u8, sa: u8) -> Telegram
+    requires { sa < 127 }
+    ensures octets { spelling result ≡ status_request_octets da sa }
+    ensures initiator { IsInitiator result }
 {
-    let mut kept = kept;
-    match kept.reply.take() {
-        None => silent(Core { phase, kept }),
-        Some(reply) => {
-            let past = said(kept.past, now, &reply.octets);
-            Spoken {
-                after: Core {
-                    phase,
-                    kept: Kept { past, ..kept },
-                },
-                octets: Some(reply.octets),
-            }
-        }
-    }
-}
-
-/// A station that joins the ring.
-fn joined(kept: Kept) -> Kept
-    ensures { result ≡ record kept { las = readied kept.las kept.address; gap = Open None; rotation = fresh kept.rotation.ttr } }
-{
-    let las = readied(kept.las, kept.address.get());
-    let rotation = Rotation::new(kept.rotation.ttr());
-    Kept {
-        las,
-        gap: Gap::fresh(),
-        rotation,
-        ..kept
-    }
-}
-
-/// One that listens and has said whether it is ready: with the reply that it is, it joins the ring.
-fn ready_if(listening: Listening, kept: Kept, joins: bool) -> Core
-    ensures { station_of result ≡ (if joins then joining (with_phase kept (phase_of (Phase.Listening listening))) else with_phase kept (phase_of (Phase.Listening listening))) }
-{
-    if !joins {
-        return Core {
-            phase: Phase::Listening(listening),
-            kept,
-        };
-    }
-    Core {
-        phase: Phase::Idle(listening.on_ready()),
-        kept: joined(kept),
-    }
-}
-
-/// One that listens sends its reply, if it has one.
-fn says_ready(listening: Listening, kept: Kept, now: Moment) -> Spoken
-    requires { now ≤ last_turn }
-    ensures { spoken_of result ≡ says_ready (with_phase kept (phase_of (Phase.Listening listening))) (option_map reply_of kept.reply) now }
-{
-    let mut kept = kept;
-    match kept.reply.take() {
-        None => silent(Core {
-            phase: Phase::Listening(listening),
-            kept,
-        }),
-        Some(reply) => {
-            let past = said(kept.past, now, &reply.octets);
-            Spoken {
-                after: ready_if(listening, Kept { past, ..kept }, reply.joins),
-                octets: Some(reply.octets),
-            }
-        }
-    }
-}
-
-/// What a phase says at the clock.
-fn says(core: Core, params: &BusParams, now: Moment) -> Spoken
-    requires clock { now ≤ last_turn }
-    requires received { HasReceived (station_of core) }
-    ensures { spoken_of result ≡ phase_says params.now (station_of core) (phase_of core.phase) now }
-{
-    let Core { phase, kept } = core;
-    match phase {
-        Phase::Listening(listening) => says_ready(listening, kept, now),
-        Phase::PassiveIdle(_) | Phase::Idle(_) => says_reply(phase, kept, now),
-        Phase::Claim(holder) => says_claim(holder, kept, params, now),
-        Phase::Use(holder) => says_in_use(holder, kept, params, now),
-        Phase::AwaitData(holder) => says_again(holder, kept, now),
-        Phase::Pass(holder) => says_token(holder, kept, params, now),
-        other => silent(Core { phase: other, kept }),
-    }
-}
-
-/// When the reply is sent, if there is one.
-fn reply_moment(reply: &Option<Reply>) -> Option<Moment>
-    ensures { result ≡ reply_moment (option_map reply_of reply.now) }
-{
-    match reply {
-        Some(reply) => Some(reply.ready),
-        None => None,
-    }
-}
-
-/// The moment at which the station speaks.
-pub fn speaks_at(core: &Core) -> Option<Moment>
-    ensures { result ≡ speaks_at (station_of core.now) }
-{
-    match &core.phase {
-        Phase::PassiveIdle(_) | Phase::Listening(_) | Phase::Idle(_) => {
-            reply_moment(&core.kept.reply)
-        }
-        Phase::Claim(holder) => Some(holder.ready()),
-        Phase::Use(holder) => Some(holder.ready()),
-        Phase::AwaitData(holder) => holder.retry(),
-        Phase::Pass(holder) => Some(holder.ready()),
-        Phase::Offline(_) | Phase::AwaitStatus(_) | Phase::Checking(_) => None,
-    }
-}
-
-/// The station at the clock speaks, if its moment has come.
-pub fn speech(core: Core, params: &BusParams, now: Moment) -> Spoken
-    requires clock { now ≤ last_turn }
-    requires received { HasReceived (station_of core) }
-    ensures { spoken_of result ≡ speech params.now (station_of core) (speaks_at (station_of core)) now }
-{
-    match speaks_at(&core) {
-        Some(moment) if moment.get() <= now.get() => says(core, params, now),
-        _ => silent(core),
-    }
+    Telegram::Short(ShortTelegram {
+        da,
+        sa,
+        fc: STATUS_REQUEST,
+    })
 }

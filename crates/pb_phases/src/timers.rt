@@ -2,6 +2,7 @@
 
 ghost use Rattle.std.specs.Prelude.{◌≡◌, ◌+◌, ◌≤◌, false, None};
 ghost use Rattle.pb_timers.specs.Timers.{tto};
+ghost use Rattle.pb_messages.specs.Queued.{Queued};
 ghost use Rattle.pb_ring.specs.Las.{claimed};
 ghost use Rattle.pb_ring.specs.declared.gaps.Round.TheVariants.{Open};
 ghost use Rattle.pb_rotation.specs.Rotation.{fresh};
@@ -9,22 +10,70 @@ ghost use Rattle.pb_turn.specs.Stations.{timer_of};
 ghost use Rattle.pb_turn.specs.Phases as turn;
 ghost use Rattle.pb_turn.specs.Hearing.{not_taken, cycle_closed, not_answered, phase_timed_out, after_timer};
 ghost use Rattle.pb_tokenfsm.specs.Phases.{phase_of, was_asked, tries_of};
-ghost use Rattle.pb_core.specs.Cores.{with_phase, station_of};
-ghost use Rattle.pb_core.specs.Cycles.{cycles_of};
+ghost use Rattle.pb_core.specs.Cores.{station_with, Becomes};
 
-use pb_core::{Core, Kept, after, closed, removed};
+use pb_core::{Kept, after, give_up, removed};
 use pb_ring::{Gap, Las};
 use pb_rotation::Rotation;
 use pb_timers::{BusParams, Moment};
 use pb_tokenfsm::{AwaitData, Checking, Holding, Phase, TRIES};
 
-/// How long the station waits in silence before it claims the token.
-#[tactic(auto, using(crate::proofs::TimeOuts::time_out_bound))]
-fn time_out(kept: &Kept, params: &BusParams) -> u64
-    ensures value { result ≡ tto params.now kept.now.address }
-    ensures bound { result ≤ 4226814 }
+/// The station after its timer, where that ends before the limit.
+pub fn after_timer(phase: Phase, kept: &mut Kept, params: &BusParams, limit: u64) -> Phase
+    ensures { Becomes (λ s. after_timer params.now limit s)
+        kept.old (phase_of phase) kept.new (phase_of result) }
 {
-    params.tto(kept.address.get())
+    match timer(&phase, kept, params) {
+        Some(moment) if moment.get() < limit => timed_out(phase, kept, moment),
+        _ => phase,
+    }
+}
+
+/// When the station's timer ends, which waits while the station is busy.
+pub fn timer(phase: &Phase, kept: &Kept, params: &BusParams) -> Option<Moment>
+    ensures { (queue : Queued) → result
+        ≡ timer_of params.now (station_with kept.now queue (phase_of phase.now)) }
+{
+    if kept.busy {
+        return None;
+    }
+    match phase {
+        Phase::Listening(_) | Phase::Idle(_) => Some(silence_timer(kept, params)),
+        Phase::AwaitData(holder) if holder.slot() => Some(slot_timer(kept, params)),
+        Phase::AwaitStatus(holder) if holder.slot() => Some(slot_timer(kept, params)),
+        Phase::Checking(_) => Some(slot_timer(kept, params)),
+        _ => None,
+    }
+}
+
+/// No answer came, and no retry is left: the request is given up, and the token used again.
+pub(crate) fn given_up(holder: Holding<AwaitData>, kept: &mut Kept, ready: Moment) -> Phase
+    ensures { Becomes (λ s. record s { cycles = cycle_closed s.cycles None })
+        kept.old (turn.Use (was_asked holder) ready) kept.new (phase_of result) }
+{
+    give_up(&mut kept.cycles);
+    Phase::Use(holder.on_outcome(ready))
+}
+
+/// The station after the timer of its phase has ended at a moment.
+fn timed_out(phase: Phase, kept: &mut Kept, t: Moment) -> Phase
+    ensures { Becomes (λ s. phase_timed_out s (phase_of phase) t)
+        kept.old (phase_of phase) kept.new (phase_of result) }
+{
+    match phase {
+        Phase::Listening(listening) => {
+            stand_alone(kept);
+            Phase::Claim(listening.on_timeout(t))
+        }
+        Phase::Idle(idle) => {
+            stand_alone(kept);
+            Phase::Claim(idle.on_timeout(t))
+        }
+        Phase::AwaitData(holder) => not_answered(holder, kept, t),
+        Phase::AwaitStatus(holder) => Phase::Use(holder.on_outcome(t)),
+        Phase::Checking(checking) => not_taken(checking, kept, t),
+        other => other,
+    }
 }
 
 /// When silence has lasted a time-out.
@@ -41,110 +90,46 @@ fn slot_timer(kept: &Kept, params: &BusParams) -> Moment
     after(kept.past.end.get(), u64::from(params.tsl()))
 }
 
-/// When the station's timer ends, which waits while the station is busy.
-pub fn timer(core: &Core, params: &BusParams) -> Option<Moment>
-    ensures { result ≡ timer_of params.now (station_of core.now) }
-{
-    if core.kept.busy {
-        return None;
-    }
-    match &core.phase {
-        Phase::Listening(_) | Phase::Idle(_) => Some(silence_timer(&core.kept, params)),
-        Phase::AwaitData(holder) if holder.slot() => Some(slot_timer(&core.kept, params)),
-        Phase::AwaitStatus(holder) if holder.slot() => Some(slot_timer(&core.kept, params)),
-        Phase::Checking(_) => Some(slot_timer(&core.kept, params)),
-        _ => None,
-    }
-}
-
 /// A station that claims the token is alone in its ring, and knows nothing of the others.
-fn alone(kept: Kept) -> Kept
-    ensures { result ≡ record kept { reply = None; las = claimed kept.address; gap = Open None; rotation = fresh kept.rotation.ttr } }
+fn stand_alone(kept: &mut Kept)
+    ensures { kept.new ≡ record
+        kept.old { reply = None; las = claimed kept.old.address; gap = Open None; rotation = fresh
+        kept.old.rotation.ttr } }
 {
-    let las = Las::claimed(kept.address.get());
-    let rotation = Rotation::new(kept.rotation.ttr());
-    Kept {
-        reply: None,
-        las,
-        gap: Gap::fresh(),
-        rotation,
-        ..kept
-    }
-}
-
-/// Nobody took the token: it is passed again, after the last try to the station behind.
-fn not_taken(checking: Checking, kept: Kept, t: Moment) -> Core
-    ensures { station_of result ≡ not_taken (with_phase kept (phase_of (Phase.Checking checking))) (tries_of (Phase.Checking checking)) t }
-{
-    let gives_up = checking.tries() >= TRIES;
-    let phase = Phase::Pass(checking.on_silence(t));
-    if !gives_up {
-        return Core { phase, kept };
-    }
-    let next = kept.las.ns(kept.address.get());
-    let las = removed(kept.las, next);
-    Core {
-        phase,
-        kept: Kept { las, ..kept },
-    }
-}
-
-/// No answer came, and no retry is left: the request is given up, and the token used again.
-pub(crate) fn given_up(holder: Holding<AwaitData>, kept: Kept, ready: Moment) -> Core
-    ensures { station_of result ≡ record (with_phase kept (turn.Use (was_asked holder) ready)) { cycles = cycle_closed (cycles_of kept.cycles) None } }
-{
-    Core {
-        phase: Phase::Use(holder.on_outcome(ready)),
-        kept: Kept {
-            cycles: closed(kept.cycles),
-            ..kept
-        },
-    }
+    kept.reply = None;
+    kept.las = Las::claimed(kept.address.get());
+    kept.gap = Gap::fresh();
+    kept.rotation = Rotation::new(kept.rotation.ttr());
 }
 
 /// The slot of a request ended: the request is sent again, if a retry is left.
-fn not_answered(holder: Holding<AwaitData>, kept: Kept, t: Moment) -> Core
-    ensures { station_of result ≡ not_answered (with_phase kept (phase_of (Phase.AwaitData holder))) (was_asked holder) false t }
+fn not_answered(holder: Holding<AwaitData>, kept: &mut Kept, t: Moment) -> Phase
+    ensures { Becomes (λ s. not_answered s (was_asked holder) false t)
+        kept.old (phase_of (Phase.AwaitData holder)) kept.new (phase_of result) }
 {
     if !kept.cycles.initiator.retry_left() {
         return given_up(holder, kept, t);
     }
-    Core {
-        phase: Phase::AwaitData(holder.on_silence(t)),
-        kept,
-    }
+    Phase::AwaitData(holder.on_silence(t))
 }
 
-/// The station after the timer of its phase has ended at a moment.
-fn timed_out(core: Core, t: Moment) -> Core
-    ensures { station_of result ≡ phase_timed_out (station_of core) (phase_of core.phase) t }
+/// Nobody took the token: it is passed again, after the last try to the station behind.
+fn not_taken(checking: Checking, kept: &mut Kept, t: Moment) -> Phase
+    ensures { Becomes (λ s. not_taken s (tries_of (Phase.Checking checking)) t)
+        kept.old (phase_of (Phase.Checking checking)) kept.new (phase_of result) }
 {
-    let Core { phase, kept } = core;
-    match phase {
-        Phase::Listening(listening) => Core {
-            phase: Phase::Claim(listening.on_timeout(t)),
-            kept: alone(kept),
-        },
-        Phase::Idle(idle) => Core {
-            phase: Phase::Claim(idle.on_timeout(t)),
-            kept: alone(kept),
-        },
-        Phase::AwaitData(holder) => not_answered(holder, kept, t),
-        Phase::AwaitStatus(holder) => Core {
-            phase: Phase::Use(holder.on_outcome(t)),
-            kept,
-        },
-        Phase::Checking(checking) => not_taken(checking, kept, t),
-        other => Core { phase: other, kept },
+    if checking.tries() >= TRIES {
+        let next = kept.las.ns(kept.address.get());
+        kept.las = removed(kept.las, next);
     }
+    Phase::Pass(checking.on_silence(t))
 }
 
-/// The station after its timer, where that ends before the limit.
-pub fn after_timer(core: Core, params: &BusParams, limit: u64) -> Core
-    ensures { station_of result ≡ after_timer params.now limit (station_of core) }
+/// How long the station waits in silence before it claims the token.
+#[tactic(auto, using(crate::proofs::TimeOuts::time_out_bound))]
+fn time_out(kept: &Kept, params: &BusParams) -> u64
+    ensures value { result ≡ tto params.now kept.now.address }
+    ensures bound { result ≤ 4226814 }
 {
-    match timer(&core, params) {
-        Some(moment) if moment.get() < limit => timed_out(core, moment),
-        _ => core,
-    }
+    params.tto(kept.address.get())
 }

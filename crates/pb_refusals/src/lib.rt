@@ -10,8 +10,10 @@ ghost use Rattle.pb_refusals.specs.FirstFault.{first_fault, IsFirst, NoneHolds};
 
 /// A fault is the first of the list exactly where its test holds and no test before it does.
 pub fn first_fault_is_first<F>()
-    ensures found { (tests : List (Bool × F)) (fault : F) → first_fault tests ≡ Some fault → IsFirst tests fault }
-    ensures only { (tests : List (Bool × F)) (fault : F) → IsFirst tests fault → first_fault tests ≡ Some fault }
+    ensures found { (tests : List (Bool × F)) (fault : F) → first_fault tests ≡ Some fault
+        → IsFirst tests fault }
+    ensures only { (tests : List (Bool × F)) (fault : F) → IsFirst tests fault
+        → first_fault tests ≡ Some fault }
 {}
 
 /// There is no first fault exactly where no test holds.

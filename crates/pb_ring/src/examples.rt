@@ -13,7 +13,8 @@ ghost use Rattle.pb_ring.specs.Worked.{all_heard, two_rotations, over_a_station}
 /// skipped twice by the token from 5 to 9.
 pub fn a_listener_learns_three_stations()
     ensures learnt { (all_heard listening two_rotations).stage ≡ Complete (2 ∷ 5 ∷ 9 ∷ []) None }
-    ensures joined { (readied (all_heard listening two_rotations) 7).stage ≡ Complete (2 ∷ 5 ∷ 7 ∷ 9 ∷ []) (Some (record { address = 7; skipped = 0 })) }
+    ensures joined { (readied (all_heard listening two_rotations) 7).stage
+        ≡ Complete (2 ∷ 5 ∷ 7 ∷ 9 ∷ []) (Some (record { address = 7; skipped = 0 })) }
     ensures skipped { (all_heard (readied (all_heard listening two_rotations) 7) over_a_station).stage
         ≡ Complete (2 ∷ 5 ∷ 7 ∷ 9 ∷ []) (Some (record { address = 7; skipped = 2 })) }
 {}
@@ -23,8 +24,10 @@ pub fn a_listener_learns_three_stations()
 pub fn a_claim_begins_a_list()
     ensures next { next_address 4 (members_of (entered (entered (claimed 4) 9) 7).stage) ≡ 7 }
     ensures previous { previous_address 4 (members_of (entered (entered (claimed 4) 9) 7).stage) ≡ 9 }
-    ensures skipped { (heard (entered (entered (claimed 4) 9) 7) 9 9).stage ≡ Complete (4 ∷ 9 ∷ []) (Some (record { address = 4; skipped = 1 })) }
-    ensures set_back { (heard (heard (entered (entered (claimed 4) 9) 7) 9 9) 9 4).stage ≡ Complete (4 ∷ 9 ∷ []) (Some (record { address = 4; skipped = 0 })) }
+    ensures skipped { (heard (entered (entered (claimed 4) 9) 7) 9 9).stage
+        ≡ Complete (4 ∷ 9 ∷ []) (Some (record { address = 4; skipped = 1 })) }
+    ensures set_back { (heard (heard (entered (entered (claimed 4) 9) 7) 9 9) 9 4).stage
+        ≡ Complete (4 ∷ 9 ∷ []) (Some (record { address = 4; skipped = 0 })) }
 {}
 
 /// The GAP of station 9 before station 2 wraps round; that of 2 before 3 is empty; a lone station asks all

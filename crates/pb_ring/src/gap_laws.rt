@@ -13,16 +13,20 @@ pub fn a_round_stands_for_its_looks()
     ensures fresh { StandsForLooks (Open None) [] }
     ensures look { (round : Round) (looks : List Look) (ts ns hsa now : ℕ) → StandsForLooks round looks
         → StandsForLooks (round_after (next_asked ts ns hsa (last_asked round)) now) (looks ++ look_of (next_asked ts ns hsa (last_asked round)) now ∷ []) }
-    ensures asked { (round : Round) (looks : List Look) → StandsForLooks round looks → last_asked round ≡ last_of (asked_in_round [] looks) }
+    ensures asked { (round : Round) (looks : List Look) → StandsForLooks round looks
+        → last_asked round ≡ last_of (asked_in_round [] looks) }
 {}
 
 /// The GAPs of all members of a list share out the other addresses up to the highest station address: each
 /// lies in the GAP of its previous station, and in no other's, and nothing else lies in a GAP.
 pub fn gaps_share_out_the_other_addresses()
-    ensures each { (members : List ℕ) (m a hsa : ℕ) → IsAscending members → is_member members m ≡ true → is_member members a ≡ false → a ≤ hsa
+    ensures each { (members : List ℕ) (m a hsa : ℕ) → IsAscending members → is_member members m ≡ true
+        → is_member members a ≡ false → a ≤ hsa
         → is_member (gap_range (previous_address a members) (next_address (previous_address a members) members) hsa) a ≡ true }
-    ensures owner { (members : List ℕ) (m a : ℕ) → IsAscending members → is_member members m ≡ true → is_member members (previous_address a members) ≡ true }
-    ensures once { (members : List ℕ) (m n a hsa : ℕ) → IsAscending members → is_member members m ≡ true → is_member members n ≡ true
+    ensures owner { (members : List ℕ) (m a : ℕ) → IsAscending members → is_member members m ≡ true
+        → is_member members (previous_address a members) ≡ true }
+    ensures once { (members : List ℕ) (m n a hsa : ℕ) → IsAscending members → is_member members m ≡ true
+        → is_member members n ≡ true
         → is_member (gap_range m (next_address m members) hsa) a ≡ true → is_member (gap_range n (next_address n members) hsa) a ≡ true → m ≡ n }
     ensures highest { (ts ns hsa a : ℕ) → is_member (gap_range ts ns hsa) a ≡ true → a ≤ hsa }
     ensures others { (members : List ℕ) (m a hsa : ℕ) → IsAscending members → is_member members m ≡ true
@@ -38,11 +42,13 @@ pub fn a_round_asks_each_address_once()
     ensures closes { (ts ns hsa now : ℕ) (round : Round) (moments : List ℕ) → last_asked round ≡ None
         → length moments ≡ length (from_behind ts (gap_range ts ns hsa))
         → round_at_end ts ns hsa round (moments ++ now ∷ []) ≡ Closed now }
-    ensures all { (ts ns hsa a : ℕ) → is_member (from_behind ts (gap_range ts ns hsa)) a ≡ is_member (gap_range ts ns hsa) a }
+    ensures all { (ts ns hsa a : ℕ)
+        → is_member (from_behind ts (gap_range ts ns hsa)) a ≡ is_member (gap_range ts ns hsa) a }
     ensures in_turn { (ts ns hsa : ℕ) → InTurn ts (from_behind ts (gap_range ts ns hsa)) }
 {}
 
 /// Whatever was asked before, and also where the next station has moved, only addresses of the GAP are asked.
 pub fn only_the_gap_is_asked()
-    ensures { (ts ns hsa a : ℕ) (asked : Option ℕ) → next_asked ts ns hsa asked ≡ Some a → is_member (gap_range ts ns hsa) a ≡ true }
+    ensures { (ts ns hsa a : ℕ) (asked : Option ℕ) → next_asked ts ns hsa asked ≡ Some a
+        → is_member (gap_range ts ns hsa) a ≡ true }
 {}

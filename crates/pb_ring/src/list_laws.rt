@@ -17,19 +17,24 @@ pub fn a_new_list_stands_for_nothing_heard()
 /// A list stands for all that was heard and done, since listening began or since the claim: whatever it
 /// stands for before a call, it stands for that with the call behind it.
 pub fn a_list_stands_for_what_was_heard_and_done()
-    ensures heard { (t : LasTable) (claim : Option ℕ) (is : List Item) (sa da : ℕ) → sa < 127 → da < 127 → StandsFor t claim is
+    ensures heard { (t : LasTable) (claim : Option ℕ) (is : List Item) (sa da : ℕ) → sa < 127 → da < 127
+        → StandsFor t claim is
         → StandsFor (heard t sa da) claim (is ++ Token sa da ∷ []) }
-    ensures entered { (t : LasTable) (claim : Option ℕ) (is : List Item) (a : ℕ) → a < 127 → StandsFor t claim is
+    ensures entered { (t : LasTable) (claim : Option ℕ) (is : List Item) (a : ℕ) → a < 127
+        → StandsFor t claim is
         → StandsFor (entered t a) claim (is ++ Enters a ∷ []) }
-    ensures removed { (t : LasTable) (claim : Option ℕ) (is : List Item) (a : ℕ) → a < 127 → StandsFor t claim is
+    ensures removed { (t : LasTable) (claim : Option ℕ) (is : List Item) (a : ℕ) → a < 127
+        → StandsFor t claim is
         → StandsFor (removed t a) claim (is ++ Leaves a ∷ []) }
-    ensures readied { (t : LasTable) (claim : Option ℕ) (is : List Item) (ts : ℕ) → ts < 127 → StandsFor t claim is
+    ensures readied { (t : LasTable) (claim : Option ℕ) (is : List Item) (ts : ℕ) → ts < 127
+        → StandsFor t claim is
         → StandsFor (readied t ts) claim (is ++ Joins ts ∷ []) }
 {}
 
 /// The members of a list that stands for something are a set of addresses, each below the next.
 pub fn the_members_are_a_set()
-    ensures ascending { (t : LasTable) (claim : Option ℕ) (is : List Item) → StandsFor t claim is → IsAscending (members_of t.stage) }
+    ensures ascending { (t : LasTable) (claim : Option ℕ) (is : List Item) → StandsFor t claim is
+        → IsAscending (members_of t.stage) }
     ensures stations { (t : LasTable) (claim : Option ℕ) (is : List Item) (a : ℕ) → StandsFor t claim is
         → is_member (members_of t.stage) a ≡ true → a < 127 }
 {}
@@ -58,14 +63,18 @@ pub fn a_lone_station_is_its_own_neighbour()
 /// A token between others that skips a station in the ring raises its count by one, up to 255; one from
 /// it or to it sets the count to 0; any other leaves it. A retry changes nothing in the list.
 pub fn skips_are_counted()
-    ensures skipped { (t : LasTable) (members : List ℕ) (place : Place) (sa da : ℕ) → t.stage ≡ Complete members (Some place)
+    ensures skipped { (t : LasTable) (members : List ℕ) (place : Place) (sa da : ℕ)
+        → t.stage ≡ Complete members (Some place)
         → is_retry t.last sa da ≡ false → is_between sa da place.address ≡ true
         → CountsTo (heard t sa da) place.address (min 255 (place.skipped + 1)) }
-    ensures about { (t : LasTable) (members : List ℕ) (place : Place) (sa da : ℕ) → t.stage ≡ Complete members (Some place)
+    ensures about { (t : LasTable) (members : List ℕ) (place : Place) (sa da : ℕ)
+        → t.stage ≡ Complete members (Some place)
         → is_retry t.last sa da ≡ false → (sa == place.address || da == place.address) ≡ true
         → CountsTo (heard t sa da) place.address 0 }
-    ensures other { (t : LasTable) (members : List ℕ) (place : Place) (sa da : ℕ) → t.stage ≡ Complete members (Some place)
+    ensures other { (t : LasTable) (members : List ℕ) (place : Place) (sa da : ℕ)
+        → t.stage ≡ Complete members (Some place)
         → is_retry t.last sa da ≡ false → (sa == place.address || da == place.address) ≡ false → is_between sa da place.address ≡ false
         → CountsTo (heard t sa da) place.address place.skipped }
-    ensures retry { (t : LasTable) (sa da : ℕ) → is_retry t.last sa da ≡ true → (heard t sa da).stage ≡ t.stage }
+    ensures retry { (t : LasTable) (sa da : ℕ) → is_retry t.last sa da ≡ true
+        → (heard t sa da).stage ≡ t.stage }
 {}

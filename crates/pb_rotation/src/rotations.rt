@@ -82,7 +82,9 @@ impl Rotation {
     /// over.
     pub fn received(&mut self, at: Moment)
         ensures value { self.new ≡ model.received self.old at }
-        ensures stands { (ttr : ℕ) (happenings : List heard.Happening) → model.StandsFor ttr self.old happenings → model.StandsFor ttr self.new (happenings ++ heard.Received at ∷ []) }
+        ensures stands { (ttr : ℕ) (happenings : List heard.Happening)
+            → model.StandsFor ttr self.old happenings
+            → model.StandsFor ttr self.new (happenings ++ heard.Received at ∷ []) }
     {
         self.last = Some(Receipt {
             previous: before(self.last, at),
@@ -97,7 +99,8 @@ impl Rotation {
     pub fn holding_left(&self, now: Moment) -> u64
         requires { IsSome self.now.last }
         ensures value { result ≡ model.holding_left self.now now }
-        ensures receipts { (ttr : ℕ) (happenings : List heard.Happening) → model.StandsFor ttr self.now happenings
+        ensures receipts { (ttr : ℕ) (happenings : List heard.Happening)
+            → model.StandsFor ttr self.now happenings
             → IfSome (heard.measured_from happenings) (λ from. result ≡ from + ttr - now) }
     {
         let Some(last) = self.last else {
@@ -111,7 +114,8 @@ impl Rotation {
     pub fn may_high(&self, now: Moment) -> bool
         requires { IsSome self.now.last }
         ensures value { result ≡ model.may_high self.now now }
-        ensures receipts { (ttr : ℕ) (happenings : List heard.Happening) → model.StandsFor ttr self.now happenings
+        ensures receipts { (ttr : ℕ) (happenings : List heard.Happening)
+            → model.StandsFor ttr self.now happenings
             → IfSome (heard.measured_from happenings) (λ from. result ≡ (nat_lt 0 (from + ttr - now) || not (heard.has_started_high happenings))) }
     {
         self.may_low(now) || self.last.is_some_and(|last| !last.high)
@@ -121,7 +125,9 @@ impl Rotation {
     pub fn started_high(&mut self)
         requires { IsSome self.old.last }
         ensures value { self.new ≡ model.started_high self.old }
-        ensures stands { (ttr : ℕ) (happenings : List heard.Happening) → model.StandsFor ttr self.old happenings → model.StandsFor ttr self.new (happenings ++ heard.StartedHigh ∷ []) }
+        ensures stands { (ttr : ℕ) (happenings : List heard.Happening)
+            → model.StandsFor ttr self.old happenings
+            → model.StandsFor ttr self.new (happenings ++ heard.StartedHigh ∷ []) }
     {
         self.last = used(self.last);
     }
@@ -131,7 +137,8 @@ impl Rotation {
     pub fn may_low(&self, now: Moment) -> bool
         requires { IsSome self.now.last }
         ensures value { result ≡ model.may_low self.now now }
-        ensures receipts { (ttr : ℕ) (happenings : List heard.Happening) → model.StandsFor ttr self.now happenings
+        ensures receipts { (ttr : ℕ) (happenings : List heard.Happening)
+            → model.StandsFor ttr self.now happenings
             → IfSome (heard.measured_from happenings) (λ from. result ≡ nat_lt 0 (from + ttr - now)) }
     {
         self.holding_left(now) > 0

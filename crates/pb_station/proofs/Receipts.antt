@@ -1,5 +1,5 @@
 -- A station that uses the token has received it, whatever it hears and says.
-use Rattle.std.proofs.Common.{◌≡◌, ◌∙◌, refl, ap, sym, subst, ℕ, ◌+◌, ◌==◌, List, [], ◌∷◌, Bool, false, Option, Some, None}
+use Rattle.std.proofs.Common.{refl, ℕ, ◌+◌, ◌==◌, List, [], ◌∷◌, Bool, false, Option, Some, None}
 use Rattle.std.specs.Prelude.{nat_lt, nat_le, max, is_some, IsSome}
 use Rattle.std.specs.Option.{option_map}
 use Rattle.pb_timers.specs.Timers.{Params}
@@ -145,7 +145,7 @@ by-marks p s (m ∷ ms) h =
     by-marks p (after_mark p (after_timer p (moment_of m) s) m) ms
     (by-mark p (after_timer p (moment_of m) s) m (by-timer p (moment_of m) s h))
 
-received-settled : (p : Params) (s : Station) (marks : List Mark) (now : ℕ) → HasReceived s → HasReceived (settled p s marks now)
+pub received-settled : (p : Params) (s : Station) (marks : List Mark) (now : ℕ) → HasReceived s → HasReceived (settled p s marks now)
 received-settled p s marks now h = by-timer p (now + 1) (after_marks p s marks) (by-marks p s marks h)
 
 -- ---- speech
@@ -211,11 +211,3 @@ pub received-speech : (p : Params) (s : Station) (o : Option ℕ) (now : ℕ) �
 received-speech p s None now h = h
 received-speech p s (Some moment) now h =
     by_test (λ (x : Station × Option (List ℕ)). HasReceived x.0) (nat_le moment now) (phase_says p s s.phase now) (s, None) (λ _. by-says p s s.phase now h) (λ _. h)
-
--- the station at the clock, from the parts that are computed
-pub received-at_clock : (p : Params) (s first read timed : Station) (marks : List Mark) (now limit : ℕ) → HasReceived s → first ≡ s → read ≡ after_marks p first marks
-    → limit ≡ now → timed ≡ after_timer p (limit + 1) read → HasReceived timed
-received-at_clock p s first read timed marks now limit h same is at later =
-    subst HasReceived
-    (sym (later ∙ ap (λ n. after_timer p (n + 1) read) at ∙ ap (after_timer p (now + 1)) (is ∙ ap (λ x. after_marks p x marks) same)))
-    (received-settled p s marks now h)

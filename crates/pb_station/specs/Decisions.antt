@@ -1,6 +1,6 @@
 -- What a decision is.
 use Rattle.std.specs.Prelude.{◌≡◌, ℕ, List, Option, map}
-use Rattle.std.specs.Option.{option_map}
+pub use Rattle.pb_core.specs.Sending.{octets_of}
 use Rattle.pb_turn.specs.Turns.{turn_of}
 use Rattle.pb_station.specs.MarkViews.{mark_of}
 use Rattle.pb_station.specs.Stations.{StationView}
@@ -28,7 +28,7 @@ decision_view d = record {
   marks = d.marks.items;
   now = d.now;
   after = d.after;
-  speak = option_map (λ octets. octets.items) d.speak;
+  speak = octets_of d.speak;
 }
 
 -- each decision is a turn

@@ -1,4 +1,4 @@
-ghost use Rattle.std.specs.Prelude.{◌≡◌, ◌≤◌, map, IfOk, MatchResult};
+ghost use Rattle.std.specs.Prelude.{◌≡◌, ◌≤◌, map, IfOk};
 ghost use Rattle.pb_station.specs.Decisions.{IsDecision};
 ghost use Rattle.pb_turn.specs.Stations as turn;
 ghost use Rattle.pb_core.specs.Clocks.{last_turn};
@@ -7,6 +7,7 @@ ghost use Rattle.pb_station.specs.MarkViews.{mark_of, AreOver};
 use crate::marks::Mark;
 use crate::stations::{NoMemory, Station};
 use arrayvec::ArrayVec;
+use pb_core::SendBuffer;
 use pb_timers::Moment;
 use std::alloc::Global;
 use std::marker::Model;
@@ -57,12 +58,13 @@ impl Model for Decision {
 /// layer). It changes nothing. `now` is at most 2^61, and no moment of a mark is later than `now`, both the
 /// caller's conditions.
 ///
-/// Fault: `NoMemory` where memory was refused; nothing takes any yet.
-pub fn decide(_alloc: Global, glance: Glance) -> Result<Decision, NoMemory>
+/// Fault: `NoMemory` where memory was refused, for the station before and after.
+pub fn decide(alloc: Global, glance: Glance) -> Result<Decision, NoMemory>
     requires clock { glance.now ≤ last_turn }
     requires over { AreOver glance.now glance.marks.items }
     ensures turn { IfOk result IsDecision }
-    ensures glance { MatchResult result (λ d. (d.tap ≡ glance.tap) × (d.before ≡ glance.station) × (d.marks ≡ glance.marks.items) × (d.now ≡ glance.now)) (λ _. ⊥) }
+    ensures glance { IfOk result (λ d. (d.tap ≡ glance.tap) × (d.before ≡ glance.station)
+        × (d.marks ≡ glance.marks.items) × (d.now ≡ glance.now)) }
 {
     let Glance {
         tap,
@@ -70,14 +72,16 @@ pub fn decide(_alloc: Global, glance: Glance) -> Result<Decision, NoMemory>
         marks,
         now,
     } = glance;
-    let turn = station.turn(&marks, now);
+    let mut after = station.copy(alloc)?;
+    let mut out = SendBuffer::new();
+    after.take_turn(&marks, now, &mut out);
     Ok(Decision {
         tap,
         before: station,
         marks,
         now,
-        after: turn.after,
-        speak: turn.speak,
+        after,
+        speak: out.copy(),
     })
 }
 

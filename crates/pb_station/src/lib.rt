@@ -13,7 +13,8 @@ mod turns;
 
 pub use decisions::{Decision, Glance, decide, due};
 pub use marks::Mark;
-pub use stations::{NoMemory, Station, Turn};
+pub use pb_core::SendBuffer;
+pub use stations::{NoMemory, Station};
 
 #[cfg(test)]
 mod tests;

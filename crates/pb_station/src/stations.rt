@@ -1,20 +1,21 @@
-ghost use Rattle.std.specs.Prelude.{◌≡◌, ◌≤◌, length};
+ghost use Rattle.std.specs.Prelude.{◌≡◌, ◌≤◌, [], length};
 ghost use Rattle.pb_turn.specs.Stations as turn;
 ghost use Rattle.pb_core.specs.Clocks.{last_turn};
-ghost use Rattle.pb_core.specs.Cores.{station_of};
+ghost use Rattle.pb_core.specs.Cores.{station_with, station_of};
+ghost use Rattle.pb_turn.specs.Phases as phases;
 ghost use Rattle.pb_tokenfsm.specs.Phases.{phase_of};
 
 use crate::marks::Mark;
-use crate::turns::{due_of, turn};
+use crate::turns::{due_of, take_turn, would_speak};
 use arrayvec::ArrayVec;
-use pb_core::{Address, Core, Cycles, Kept, Past, copy_outcome, push};
+use pb_core::{Address, Core, Cycles, Kept, Past, SendBuffer, Waiting, copy_outcome};
 use pb_cycles::{Outcome, Queue, Request};
 use pb_ring::{Gap, Las};
 use pb_rotation::Rotation;
 use pb_telegram::copy_octets;
 use pb_timers::{BusParams, Moment};
 use pb_tokenfsm::{Listening, Offline, PassiveIdle, Phase};
-use std::alloc::Global;
+use std::alloc::{AllocError, Global};
 use std::marker::Model;
 use thiserror::Error;
 
@@ -22,6 +23,12 @@ use thiserror::Error;
 #[derive(Clone, Copy, Debug, PartialEq, Eq, Error)]
 #[error("NoMemory")]
 pub struct NoMemory;
+
+impl From<AllocError> for NoMemory {
+    fn from(_: AllocError) -> NoMemory {
+        NoMemory
+    }
+}
 
 /// A station at a tap of the bus.
 #[derive(Debug, Drop)]
@@ -44,31 +51,22 @@ impl Model for Station {
     ghost invariant = { λ s. HasReceived (station_of s.core) };
 }
 
-/// A station after a turn, and what it said.
-#[derive(Debug, Drop)]
-pub struct Turn {
-    /// The station after its turn.
-    pub after: Station,
-    /// The octets that it says.
-    pub speak: Option<ArrayVec<u8, 255>>,
-}
-
-/// A core that does not run.
-fn new_core(address: Address, params: &BusParams, reply: ArrayVec<u8, 246>) -> Core
-    ensures { station_of result ≡ turn.new_station params.now address reply.items }
+/// What a station keeps that has neither heard nor said anything since a moment.
+fn new_kept(address: Address, params: &BusParams, reply: ArrayVec<u8, 246>, now: Moment) -> Kept
+    requires { now ≤ last_turn }
+    ensures { station_with result (record { high = []; low = [] }) phases.Offline
+        ≡ record (turn.new_station params.now address reply.items)
+        { quiet = now; own = record { begin = now; end = now } } }
 {
-    Core {
-        phase: Phase::Offline(Offline),
-        kept: Kept {
-            address,
-            busy: false,
-            past: Past::started(beginning()),
-            reply: None,
-            las: Las::listening(),
-            gap: Gap::fresh(),
-            rotation: Rotation::new(params.ttr()),
-            cycles: Cycles::new(params, reply),
-        },
+    Kept {
+        address,
+        busy: false,
+        past: Past::started(now),
+        reply: None,
+        las: Las::listening(),
+        gap: Gap::fresh(),
+        rotation: Rotation::new(params.ttr()),
+        cycles: Cycles::new(params, reply),
     }
 }
 
@@ -80,24 +78,18 @@ fn beginning() -> Moment
 }
 
 /// A core as its station starts: a master listens for the ring, a passive station waits for requests.
-fn started(core: &Core, params: &BusParams, master: bool, now: Moment) -> Core
+fn start_core(core: &mut Core, params: &BusParams, master: bool, now: Moment)
     requires { now ≤ last_turn }
-    ensures { station_of result ≡ turn.started params.now (station_of core.now) master now }
+    ensures { station_of core.new ≡ turn.started params.now (station_of core.old) master now }
 {
-    let phase = if master {
+    let reply = copy_octets(core.kept.cycles.responder.data());
+    core.kept = new_kept(core.kept.address, params, reply, now);
+    core.waiting.clear();
+    core.phase = if master {
         Phase::Listening(Listening::new())
     } else {
         Phase::PassiveIdle(PassiveIdle)
     };
-    let reply = copy_octets(core.kept.cycles.responder.data());
-    let new = new_core(core.kept.address, params, reply);
-    Core {
-        phase,
-        kept: Kept {
-            past: Past::started(now),
-            ..new.kept
-        },
-    }
 }
 
 /// A core whose station stops: it says nothing more.
@@ -109,11 +101,10 @@ fn stop_core(core: &mut Core)
 }
 
 impl Station {
-    ghost use Rattle.std.specs.Prelude.{◌≡◌, ◌≤◌, ◌<◌, List, length, Some, None, map, IfOk, OnOk, OnErr, MatchResult};
+    ghost use Rattle.std.specs.Prelude.{◌≡◌, ◌≤◌, ◌<◌, List, length, Some, None, map, is_some, IfOk, OnOk, OnErr, MatchResult};
     ghost use Rattle.pb_timers.specs.Timers.{Params};
     ghost use Rattle.pb_turn.specs.Stations as turn;
     ghost use Rattle.pb_tokenfsm.specs.Phases.{phase_of};
-    ghost use Rattle.std.specs.Option.{option_map};
     ghost use Rattle.pb_core.specs.Clocks.{last_turn};
     ghost use Rattle.pb_station.specs.Decisions.{turned};
     ghost use Rattle.pb_station.specs.MarkViews.{mark_of, AreOver};
@@ -121,9 +112,9 @@ impl Station {
     /// A station that doesn't run, at a tap, counted from 0: a master or a passive station, with an address,
     /// 0 to 126, the caller's condition, and the data that it replies to a request for data.
     ///
-    /// Fault: `NoMemory` where memory was refused; nothing takes any yet.
+    /// Fault: `NoMemory` where memory was refused, for the queue of its requests.
     pub fn new(
-        _alloc: Global,
+        alloc: Global,
         tap: usize,
         params: BusParams,
         address: u8,
@@ -131,16 +122,21 @@ impl Station {
         reply: ArrayVec<u8, 246>,
     ) -> Result<Station, NoMemory>
         requires { address ≤ 126 }
-        ensures { MatchResult result (λ s. s ≡ record {
+        ensures { IfOk result (λ s. s ≡ record {
           tap = tap;
           params = params;
           master = master;
           reply_data = reply.items;
           station = turn.new_station params address reply.items;
-        }) (λ _. ⊥) }
+        }) }
     {
+        let waiting = Waiting::new(alloc)?;
         let data = copy_octets(&reply);
-        let core = new_core(Address::new(address), &params, data);
+        let core = Core {
+            phase: Phase::Offline(Offline),
+            kept: new_kept(Address::new(address), &params, data, beginning()),
+            waiting,
+        };
         Ok(Station {
             tap,
             params,
@@ -197,7 +193,7 @@ impl Station {
     pub fn queue(&self) -> &Queue
         ensures { result.now ≡ self.now.station.cycles.queue }
     {
-        &self.core.kept.cycles.queue
+        self.core.waiting.queue()
     }
 
     /// How many requests of others it has executed since its start: those that are no repeats. The count stays
@@ -219,9 +215,10 @@ impl Station {
     /// a passive station waits for requests. All that it knew is forgotten.
     pub fn start(&mut self, now: Moment)
         requires { now ≤ last_turn }
-        ensures { self.new ≡ record self.old { station = turn.started self.old.params self.old.station self.old.master now } }
+        ensures { self.new ≡ record
+            self.old { station = turn.started self.old.params self.old.station self.old.master now } }
     {
-        self.core = started(&self.core, &self.params, self.master, now);
+        start_core(&mut self.core, &self.params, self.master, now);
     }
 
     /// The station stops: it is offline, and a reply that is not sent yet is dropped. All else stays.
@@ -234,33 +231,49 @@ impl Station {
     /// A request waits behind the others of its priority. It is handed back where 16 of them wait, and
     /// nothing changes then.
     pub fn push(&mut self, request: Request) -> Result<(), Request>
-        ensures outcome { MatchResult result (λ _. self.new ≡ record self.old { station = turn.pushed self.old.station request })
+        ensures outcome { MatchResult result (λ _. self.new ≡ record
+            self.old { station = turn.pushed self.old.station request })
             (λ refused. (refused ≡ request) × (self.new ≡ self.old)) }
         ensures room { OnOk result (length (turn.list_for self.old.station.cycles.queue request) < 16) }
         ensures full { OnErr result (length (turn.list_for self.old.station.cycles.queue request) ≡ 16) }
     {
-        push(&mut self.core.kept.cycles.queue, request)
+        self.core.waiting.push(request)
     }
 
-    /// The station after its turn at a moment, at most 2^61, with some unread marks, none of them of a later
-    /// moment, both the caller's conditions, and what it says: the turn of [`decide`](crate::decide), for one
-    /// who keeps the station and its marks where they are.
-    pub fn turn(&self, marks: &[Mark], now: Moment) -> Turn
+    /// An equal station.
+    ///
+    /// Fault: `NoMemory` where memory was refused, for the queue of its requests.
+    pub fn copy(&self, alloc: Global) -> Result<Station, NoMemory>
+        ensures { IfOk result (λ s. s ≡ self.now) }
+    {
+        let core = self.core.copy(alloc)?;
+        Ok(Station {
+            tap: self.tap,
+            params: self.params,
+            master: self.master,
+            reply_data: copy_octets(&self.reply_data),
+            core,
+        })
+    }
+
+    /// The station takes its turn at a moment, at most 2^61, with some unread marks, none of them of a later
+    /// moment, both the caller's conditions, and sends what it says. It is the turn of [`decide`](crate::decide), for
+    /// one who keeps the station and its marks where they are.
+    pub fn take_turn(&mut self, marks: &[Mark], now: Moment, out: &mut SendBuffer)
         requires clock { now ≤ last_turn }
         requires over { AreOver now marks.now }
-        ensures { (result.after, option_map (λ octets. octets.items) result.speak) ≡ turned self.now marks.now now }
+        ensures { (self.new, out.new) ≡ turned self.old marks.now now }
     {
-        let spoken = turn(&self.core, &self.params, marks, now);
-        Turn {
-            after: Station {
-                tap: self.tap,
-                params: self.params,
-                master: self.master,
-                reply_data: copy_octets(&self.reply_data),
-                core: spoken.after,
-            },
-            speak: spoken.octets,
-        }
+        take_turn(&mut self.core, &self.params, marks, now, out);
+    }
+
+    /// Whether the station would say anything in that turn. It changes nothing.
+    pub fn would_speak(&self, marks: &[Mark], now: Moment) -> bool
+        requires clock { now ≤ last_turn }
+        requires over { AreOver now marks.now }
+        ensures { result ≡ is_some (turned self.now marks.now now).1 }
+    {
+        would_speak(&self.core, &self.params, marks, now)
     }
 
     /// When the station has to take its turn.

@@ -1,30 +1,75 @@
 //! The turn of a station, and when it is due.
 
-ghost use Rattle.std.specs.Prelude.{◌≡◌, ◌≤◌, map};
+ghost use Rattle.std.specs.Prelude.{◌≡◌, ◌≤◌, map, is_some};
 ghost use Rattle.pb_turn.specs.Stations.{earlier, first_seen, due_of};
-ghost use Rattle.pb_turn.specs.Turns.{turn_of};
+ghost use Rattle.pb_turn.specs.Turns.{settled, turn_of};
+ghost use Rattle.pb_tokenfsm.specs.Phases.{phase_of};
 ghost use Rattle.pb_core.specs.Clocks.{last_turn};
-ghost use Rattle.pb_core.specs.Cores.{station_of, HasReceived};
+ghost use Rattle.pb_core.specs.Cores.{station_of, Becomes, HasReceived};
 ghost use Rattle.pb_station.specs.MarkViews.{mark_of, AreOver};
-ghost use Rattle.pb_phases.specs.Speeches.{spoken_of};
 
 use crate::marks::Mark;
 use crate::reading::after_marks;
-use pb_core::Core;
-use pb_phases::{Spoken, after_timer, speaks_at, speech, timer};
+use pb_core::{Core, Kept, SendBuffer};
+use pb_phases::{after_timer, speak, speaks_at, timer, would_say};
 use pb_timers::{BusParams, Moment};
+use pb_tokenfsm::Phase;
 
-/// The station after its turn, and what it says.
-pub(crate) fn turn(core: &Core, params: &BusParams, marks: &[Mark], now: Moment) -> Spoken
+/// The station takes its turn, and sends what it says.
+pub(crate) fn take_turn(
+    core: &mut Core,
+    params: &BusParams,
+    marks: &[Mark],
+    now: Moment,
+    out: &mut SendBuffer,
+)
     requires clock { now ≤ last_turn }
     requires over { AreOver now marks.now }
-    requires received { HasReceived (station_of core.now) }
-    ensures turn { spoken_of result ≡ turn_of params.now (station_of core.now) (map mark_of marks.now) now }
-    ensures received { HasReceived (station_of result.after) }
+    requires received { HasReceived (station_of core.old) }
+    ensures turn { (station_of core.new, out.new)
+        ≡ turn_of params.now (station_of core.old) (map mark_of marks.now) now }
+    ensures received { HasReceived (station_of core.new) }
 {
-    let read = after_marks(core.copy(), params, marks, now);
-    let settled = after_timer(read, params, now.get() + 1);
-    speech(settled, params, now)
+    let Core {
+        phase,
+        kept,
+        waiting,
+    } = core;
+    let before = phase.take();
+    *phase = settle(before, kept, params, marks, now);
+    speak(phase, kept, waiting, params, now, out);
+}
+
+/// Whether the station would speak in its turn, which it does not take.
+pub(crate) fn would_speak(core: &Core, params: &BusParams, marks: &[Mark], now: Moment) -> bool
+    requires clock { now ≤ last_turn }
+    requires over { AreOver now marks.now }
+    ensures { result ≡ is_some (turn_of params.now (station_of core.now) (map mark_of marks.now) now).1 }
+{
+    let mut kept = core.kept.copy();
+    let settled = settle(core.phase.copy(), &mut kept, params, marks, now);
+    would_say(&settled, &kept, now)
+}
+
+/// When the station has to take its turn: the first unread mark, the timer or the speaking moment.
+pub(crate) fn due_of(core: &Core, params: &BusParams, marks: &[Mark]) -> Option<Moment>
+    ensures { result ≡ due_of params.now (station_of core.now) (map mark_of marks.now) }
+{
+    let timer = timer(&core.phase, &core.kept, params);
+    let acts = earlier(timer, speaks_at(&core.phase, &core.kept));
+    earlier(first_seen(marks), acts)
+}
+
+/// The station at the clock, before it speaks: it has read its unread marks, and the timers between them and up to
+/// the clock.
+fn settle(phase: Phase, kept: &mut Kept, params: &BusParams, marks: &[Mark], now: Moment) -> Phase
+    requires clock { now ≤ last_turn }
+    requires over { AreOver now marks.now }
+    ensures { Becomes (λ s. settled params.now s (map mark_of marks.now) now)
+        kept.old (phase_of phase) kept.new (phase_of result) }
+{
+    let read = after_marks(phase, kept, params, marks, now);
+    after_timer(read, kept, params, now.get() + 1)
 }
 
 /// The earlier of two moments, of which either may be missing.
@@ -45,12 +90,4 @@ fn first_seen(marks: &[Mark]) -> Option<Moment>
         [mark, ..] => Some(mark.seen()),
         [] => None,
     }
-}
-
-/// When the station has to take its turn: the first unread mark, the timer or the speaking moment.
-pub(crate) fn due_of(core: &Core, params: &BusParams, marks: &[Mark]) -> Option<Moment>
-    ensures { result ≡ due_of params.now (station_of core.now) (map mark_of marks.now) }
-{
-    let acts = earlier(timer(core, params), speaks_at(core));
-    earlier(first_seen(marks), acts)
 }

@@ -1,7 +1,8 @@
 -- The part of a list behind a place, lent and given back.
-use Rattle.std.proofs.Common.{◌≡◌, ◌∙◌, ap, sym, arith, ℕ, ◌-◌, ◌++◌, List, length, map}
-use Rattle.std.specs.Prelude.{take, drop, Result, Ok, Err, OnOk, OnErr, IfOk, IfErr}
-use Rattle.std.proofs.lemmas.List.{take_all, drop_all, take-map, drop-map, map-append, append-nil, length-drop}
+use Rattle.std.proofs.Common.{◌≡◌, ◌∙◌, ap, sym, subst, arith, ℕ, ◌-◌, ◌≤◌, ◌++◌, List, length, map, length-append}
+use Rattle.std.specs.Prelude.{take, drop, Result, Ok, Err, OnOk, OnErr, IfOk, IfErr, IsErr}
+use Rattle.std.specs.Result.{IsErrAnd}
+use Rattle.std.proofs.lemmas.List.{take_all, drop_all, take-map, drop-map, map-append, append-nil, length-drop, length-take-le}
 use borrow.Rule.Slice.PartMut.{put_mid}
 
 pub rest-of : {X : Type 0} (xs : List X) (over : ℕ) → take (length xs - over) (drop over xs) ≡ drop over xs
@@ -36,7 +37,30 @@ pub if-err : {X F : Type 0} {P Q : F → Type 0} (r : Result X F) → ((e : F) �
 if-err (Ok x) f p = tt
 if-err (Err e) f p = f e p
 
+-- an error that is passed on
+pub err-of : {X F : Type 0} (P : F → Type 0) (r : Result X F) (f : F) → IsErr r → IsErrAnd r (λ e. e ≡ f) → P f → IfErr r P
+err-of P (Ok x) f err same p = tt
+err-of P (Err e) f err same p = subst P (sym same) p
+
 -- a vector that was lent as a slice has what the slice ends with
 pub written-back : {X : Type 0} (n : ℕ) (xs ys : List X) → length xs ≡ n → length ys ≡ length xs → take n (ys ++ drop (length ys) xs) ≡ ys
 written-back n xs ys size same =
     ap (λ zs. take n (ys ++ zs)) (drop_all (length ys) xs (omega (arith, same))) ∙ ap (take n) (append-nil ys) ∙ take_all n ys (omega (arith, size, same))
+
+-- a vector of which the part behind a place was lent, and given back as long as it was
+lent-own : {X Y : Type 0} (f : X → Y) (n over : ℕ) (xs ys : List X) → length xs ≡ n → over ≤ length xs → length ys ≡ length (take (length xs - over) (drop over xs))
+    → map f (take n (put_mid over (length xs - over) xs ys ++ drop (length (put_mid over (length xs - over) xs ys)) xs)) ≡ take over (map f xs) ++ map f ys
+lent-own f n over xs ys size some same =
+    let back = given-back xs ys over in
+    let long : length (take over xs ++ ys) ≡ length xs = omega (arith, length-append (take over xs) ys, length-take-le over xs some, same, ap length (rest-of xs over), length-drop over xs, some) in
+    ap (λ zs. map f (take n (zs ++ drop (length zs) xs))) back
+    ∙ ap (map f) (written-back n xs (take over xs ++ ys) size long)
+    ∙ map-append f (take over xs) ys ∙ ap (λ zs. zs ++ map f ys) (sym (take-map f over xs))
+
+pub lent-back : {X Y : Type 0} (f : X → Y) (n over : ℕ) (xs seen ys : List X) → seen ≡ xs → length xs ≡ n → over ≤ length xs
+    → length ys ≡ length (take (length seen - over) (drop over seen))
+    → map f (take n (put_mid over (length seen - over) seen ys ++ drop (length (put_mid over (length seen - over) seen ys)) xs)) ≡ take over (map f xs) ++ map f ys
+lent-back f n over xs seen ys is size some =
+    subst (λ zs. length ys ≡ length (take (length zs - over) (drop over zs))
+        → map f (take n (put_mid over (length zs - over) zs ys ++ drop (length (put_mid over (length zs - over) zs ys)) xs)) ≡ take over (map f xs) ++ map f ys)
+    (sym is) (lent-own f n over xs ys size some)

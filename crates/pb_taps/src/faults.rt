@@ -114,6 +114,14 @@ impl WorldFault {
     }
 }
 
+impl From<AllocError> for WorldFault {
+    ghost from_gives = { λ _ fault. fault ≡ world.NoMemory };
+
+    fn from(_refused: AllocError) -> WorldFault {
+        WorldFault::NoMemory
+    }
+}
+
 impl<T: Drop> From<AllocFailed<T>> for WorldFault {
     ghost from_gives = { λ _ fault. fault ≡ world.NoMemory };
 

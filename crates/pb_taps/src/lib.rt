@@ -18,4 +18,4 @@ pub use making::{check_taps, new_taps};
 pub use moments::beginning;
 pub use queueing::queue;
 pub use taps::{Kind, Tap, TapSpec};
-pub use turning::{keep_turn, turn_at};
+pub use turning::{check_running, take_turn, would_speak};

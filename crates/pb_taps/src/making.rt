@@ -32,7 +32,9 @@ pub fn check_taps(params: &BusParams, specs: &[TapSpec]) -> Result<(), NewFault>
     ensures ok { OnOk result (first_fault (new_faults params.now (map spec_of specs.now)) ≡ None) }
     ensures stations { OnOk result (AreStations specs.now) }
     ensures valid { IsValid params.now }
-    ensures err { IfErr result (λ fault. option_map new_fault (first_fault (new_faults params.now (map spec_of specs.now))) ≡ Some fault) }
+    ensures err { IfErr result
+        (λ fault. option_map new_fault (first_fault (new_faults params.now (map spec_of specs.now)))
+        ≡ Some fault) }
 {
     let highest = params.hsa();
     if specs.is_empty() {
@@ -47,34 +49,11 @@ pub fn check_taps(params: &BusParams, specs: &[TapSpec]) -> Result<(), NewFault>
     }
 }
 
-fn first_bad_address(highest: u32, specs: &[TapSpec]) -> Option<usize>
-    requires { highest ≤ 126 }
-    ensures first { (p : Params) → p.hsa ≡ highest → result ≡ world.first_bad_address p 0 (map spec_of specs.now) }
-    ensures stations { result ≡ None → All (λ s. s.address ≤ 126) specs.now }
-{
-    for (place, spec) in specs.iter().enumerate() {
-        if has_bad_address(highest, spec) {
-            return Some(place);
-        }
-    }
-    None
-}
-
-fn has_bad_address(highest: u32, spec: &TapSpec) -> bool
-    requires { highest ≤ 126 }
-    ensures bad { (p : Params) → p.hsa ≡ highest → result ≡ world.has_bad_address p (spec_of spec.now) }
-    ensures station { result ≡ false → spec.now.address ≤ 126 }
-{
-    match spec.kind {
-        Kind::Master => u32::from(spec.address) > highest,
-        Kind::Passive => u32::from(spec.address) > HIGHEST_ADDRESS,
-    }
-}
-
 /// The taps of a new world: none of them runs. Its fault: `NoMemory`.
 pub fn new_taps(alloc: Global, params: &BusParams, specs: &[TapSpec]) -> Result<Vec<Tap>, NewFault>
     requires { AreStations specs.now }
-    ensures taps { IfOk result (λ taps. map tap_of taps.items ≡ map (stopped_tap params.now) (map spec_of specs.now)) }
+    ensures taps { IfOk result
+        (λ taps. map tap_of taps.items ≡ map (stopped_tap params.now) (map spec_of specs.now)) }
     ensures seats { IfOk result (λ taps. AreSeated params.now 0 (map seat_of taps.items)) }
     ensures fit { OnOk result (AllFit (map spec_of specs.now)) }
     ensures fault { IfErr result IsNoMemory }
@@ -84,6 +63,20 @@ pub fn new_taps(alloc: Global, params: &BusParams, specs: &[TapSpec]) -> Result<
         taps.push_reserved(new_tap(alloc, params, tap, spec)?);
     }
     Ok(taps)
+}
+
+fn first_bad_address(highest: u32, specs: &[TapSpec]) -> Option<usize>
+    requires { highest ≤ 126 }
+    ensures first { (p : Params) → p.hsa ≡ highest → result
+        ≡ world.first_bad_address p 0 (map spec_of specs.now) }
+    ensures stations { result ≡ None → All (λ s. s.address ≤ 126) specs.now }
+{
+    for (place, spec) in specs.iter().enumerate() {
+        if has_bad_address(highest, spec) {
+            return Some(place);
+        }
+    }
+    None
 }
 
 fn new_tap(alloc: Global, params: &BusParams, tap: usize, spec: &TapSpec) -> Result<Tap, NewFault>
@@ -102,6 +95,17 @@ fn new_tap(alloc: Global, params: &BusParams, tap: usize, spec: &TapSpec) -> Res
         station,
         marks,
     })
+}
+
+fn has_bad_address(highest: u32, spec: &TapSpec) -> bool
+    requires { highest ≤ 126 }
+    ensures bad { (p : Params) → p.hsa ≡ highest → result ≡ world.has_bad_address p (spec_of spec.now) }
+    ensures station { result ≡ false → spec.now.address ≤ 126 }
+{
+    match spec.kind {
+        Kind::Master => u32::from(spec.address) > highest,
+        Kind::Passive => u32::from(spec.address) > HIGHEST_ADDRESS,
+    }
 }
 
 fn new_station(

@@ -1,29 +1,19 @@
-ghost use Rattle.std.specs.Prelude.{◌≡◌, ◌≤◌, ◌<◌, [], MatchResult, Some, slice_get, slice_set, length, map};
+ghost use Rattle.std.specs.Prelude.{◌≡◌, ◌≤◌, ◌<◌, is_some, OnOk, IfErr, Some, slice_get, length, map};
 ghost use Rattle.pb_model.specs.Laws.{AllInOrder, InOrder};
 ghost use Rattle.pb_model.specs.World.{clock_limit};
 ghost use Rattle.pb_taps.specs.Taps.{tap_of};
-ghost use Rattle.pb_taps.specs.Turning.{Turns, TurnsAt, RefusesStopped};
+ghost use Rattle.pb_taps.specs.Turning.{says, turned_tap, Runs, TakesTurn, RefusesStopped};
 ghost use Rattle.pb_taps.specs.declared.taps.Tap as declared;
 
 use crate::faults::WorldFault;
 use crate::taps::Tap;
-use pb_station::{Station, Turn};
+use pb_station::SendBuffer;
 use pb_timers::Moment;
 
-/// The turn of a tap's station, with the marks that it has not read.
-fn turn(tap: &Tap, now: Moment) -> Turn
-    requires clock { now ≤ clock_limit }
-    requires order { InOrder 0 tap.now.marks now }
-    ensures { Turns tap.now now result }
-{
-    tap.station.turn(tap.marks.marks(), now)
-}
-
-/// The turn of the station at a tap. Faults, the first that applies: `NoSuchTap`; `NotRunning`.
-pub fn turn_at(taps: &[Tap], tap: usize, now: Moment) -> Result<Turn, WorldFault>
-    requires clock { now ≤ clock_limit }
-    requires order { AllInOrder now (map tap_of taps.now) }
-    ensures { MatchResult result (TurnsAt taps.now tap now) (RefusesStopped taps.now tap) }
+/// Whether a tap runs. Faults, the first that applies: `NoSuchTap`; `NotRunning`.
+pub fn check_running(taps: &[Tap], tap: usize) -> Result<(), WorldFault>
+    ensures ok { OnOk result (Runs taps.now tap) }
+    ensures fault { IfErr result (RefusesStopped taps.now tap) }
 {
     let Some(tap) = taps.get(tap) else {
         return Err(WorldFault::NoSuchTap);
@@ -31,15 +21,43 @@ pub fn turn_at(taps: &[Tap], tap: usize, now: Moment) -> Result<Turn, WorldFault
     if !tap.running {
         return Err(WorldFault::NotRunning);
     }
-    Ok(turn(tap, now))
+    Ok(())
 }
 
-/// The tap's station after its turn, in which it has read all its marks.
-pub fn keep_turn(taps: &mut [Tap], tap: usize, after: Station)
-    requires { tap < length taps.old }
-    ensures { (t : declared.Tap) → slice_get taps.old tap ≡ Some t → taps.new ≡ slice_set taps.old tap (record t { station = after; marks = [] }) }
+/// Whether the station at a tap would say anything in its turn, which it does not take.
+pub fn would_speak(taps: &[Tap], tap: usize, now: Moment) -> bool
+    requires place { tap < length taps.now }
+    requires clock { now ≤ clock_limit }
+    requires order { AllInOrder now (map tap_of taps.now) }
+    ensures { (t : declared.Tap) → slice_get taps.now tap ≡ Some t → result ≡ is_some (says t now) }
 {
-    let kept = &mut taps[tap];
-    kept.station = after;
-    kept.marks.clear();
+    would_say(&taps[tap], now)
+}
+
+/// The station at a tap takes its turn, in which it reads all its marks, and sends what it says.
+pub fn take_turn(taps: &mut [Tap], tap: usize, now: Moment, out: &mut SendBuffer)
+    requires place { tap < length taps.old }
+    requires clock { now ≤ clock_limit }
+    requires order { AllInOrder now (map tap_of taps.old) }
+    ensures { TakesTurn taps.old tap now taps.new out.new }
+{
+    turn(&mut taps[tap], now, out);
+}
+
+fn would_say(tap: &Tap, now: Moment) -> bool
+    requires clock { now ≤ clock_limit }
+    requires order { InOrder 0 tap.now.marks now }
+    ensures { result ≡ is_some (says tap.now now) }
+{
+    tap.station.would_speak(tap.marks.marks(), now)
+}
+
+fn turn(tap: &mut Tap, now: Moment, out: &mut SendBuffer)
+    requires clock { now ≤ clock_limit }
+    requires order { InOrder 0 tap.old.marks now }
+    ensures tap { tap.new ≡ turned_tap tap.old now }
+    ensures said { out.new ≡ says tap.old now }
+{
+    tap.station.take_turn(tap.marks.marks(), now, out);
+    tap.marks.clear();
 }

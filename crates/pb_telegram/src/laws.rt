@@ -15,7 +15,8 @@ use pb_refusals::first_fault_is_first;
 /// Characters spell at most one telegram, and a telegram has one spelling.
 pub fn one_telegram_for_octets()
     ensures telegram { (chars : List RxChar) (t u : Telegram) → Spells chars t → Spells chars u → t ≡ u }
-    ensures spelling { (chars others : List RxChar) (t : Telegram) → Spells chars t → Spells others t → chars ≡ others }
+    ensures spelling { (chars others : List RxChar) (t : Telegram) → Spells chars t → Spells others t
+        → chars ≡ others }
 {}
 
 /// No spelling is a proper prefix of another.
@@ -25,7 +26,8 @@ pub fn no_spelling_begins_another()
 
 /// The fault of characters is the first of the table whose test holds.
 pub fn first_fault_comes_first()
-    ensures { (chars : List RxChar) (fault : TelegramFault) → fault_of chars ≡ Some fault → IsFirst (faults chars) fault }
+    ensures { (chars : List RxChar) (fault : TelegramFault) → fault_of chars ≡ Some fault
+        → IsFirst (faults chars) fault }
 {
     first_fault_is_first::<TelegramFault>()
 }

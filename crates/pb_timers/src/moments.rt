@@ -55,7 +55,8 @@ impl Moment {
     ///
     /// Fault: `ClockFull` where that is past 2^62; no sum wraps. The moment itself stays as it is.
     pub fn add(self, bits: u64) -> Result<Moment, ClockFull>
-        ensures { MatchResult result (λ later. (later ≡ self + bits) × (later ≤ last_moment)) (λ fault. last_moment < self + bits) }
+        ensures { MatchResult result (λ later. (later ≡ self + bits) × (later ≤ last_moment))
+            (λ fault. last_moment < self + bits) }
     {
         self.get()
             .checked_add(bits)

@@ -1,9 +1,11 @@
 ghost use Rattle.std.specs.Prelude.{◌≡◌};
+ghost use Rattle.pb_turn.specs.Phases as turn;
 ghost use Rattle.pb_turn.specs.Phases.{may_initiate};
 ghost use Rattle.pb_tokenfsm.specs.Phases.{phase_of, name_of};
 
 use crate::states::{AwaitData, AwaitStatus, Checking, Claim, Holding, Pass, Use};
 use crate::waiting::{Idle, Listening, Offline, PassiveIdle};
+use std::mem;
 
 /// The state that a station is in (IEC 61158-4-3, states of the data link layer of a master).
 #[derive(Debug, Drop)]
@@ -63,6 +65,16 @@ impl Phase {
             Phase::Pass(_) => "Pass",
             Phase::Checking(_) => "Checking",
         }
+    }
+
+    /// Takes the phase out of its place, where Offline is left.
+    pub fn take(&mut self) -> Phase
+        ensures taken { result ≡ self.old }
+        ensures left { phase_of self.new ≡ turn.Offline }
+    {
+        let mut taken = Phase::Offline(Offline);
+        mem::swap(self, &mut taken);
+        taken
     }
 
     /// An equal phase, with which one can see what a turn would do.

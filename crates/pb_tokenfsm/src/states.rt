@@ -195,7 +195,8 @@ impl Holding<Use> {
     /// Nothing is left to say but the token: it is passed at the moment at which the station was to
     /// speak, to a successor that it was not sent to before.
     pub fn done(self) -> Holding<Pass>
-        ensures { (asked : Bool) (ready : ℕ) → phase_of (Phase.Use self) ≡ turn.Use asked ready → phase_of (Phase.Pass result) ≡ turn.Pass 0 ready }
+        ensures { (asked : Bool) (ready : ℕ) → phase_of (Phase.Use self) ≡ turn.Use asked ready
+            → phase_of (Phase.Pass result) ≡ turn.Pass 0 ready }
     {
         let Holding {
             state: Use { asked: _, ready },
@@ -233,7 +234,8 @@ impl Holding<AwaitData> {
     /// Activity has begun at `at`: the request is not sent again before its end. The slot is over, save
     /// where the activity is older than the own telegram, which began at `own`.
     pub fn on_activity(self, own: Moment, at: Moment) -> Holding<AwaitData>
-        ensures { phase_of (Phase.AwaitData result) ≡ turn.AwaitData (was_asked self) None (has_data_slot self && nat_lt at own) }
+        ensures { phase_of (Phase.AwaitData result)
+            ≡ turn.AwaitData (was_asked self) None (has_data_slot self && nat_lt at own) }
     {
         let Holding { state } = self;
         let slot = state.slot && at.get() < own.get();
@@ -250,7 +252,8 @@ impl Holding<AwaitData> {
 
     /// Activity has ended that brought no reply: the request is sent again at `ready`.
     pub fn on_damaged(self, ready: Moment) -> Holding<AwaitData>
-        ensures { phase_of (Phase.AwaitData result) ≡ turn.AwaitData (was_asked self) (Some ready) (has_data_slot self) }
+        ensures { phase_of (Phase.AwaitData result)
+            ≡ turn.AwaitData (was_asked self) (Some ready) (has_data_slot self) }
     {
         let Holding { state } = self;
         Holding::awaiting(state.asked, Some(ready), state.slot)

@@ -6,20 +6,10 @@
 //! whole run. All times are in bit times.
 #![tactic(auto)]
 
-mod auditing;
-mod ends;
-mod findings;
-mod initiators;
-mod legality;
-mod premises;
 mod worlds;
 
-pub use auditing::audit;
-pub use findings::{Audit, AuditFault};
+pub use pb_audit::{Audit, AuditFault, audit};
 pub use pb_medium::{Entry, Heard, Record};
 pub use pb_station::Station;
 pub use pb_taps::{Event, Kind, NewFault, Reply, TapSpec, WorldFault};
 pub use worlds::{World, run};
-
-#[cfg(test)]
-mod tests;

@@ -1,7 +1,8 @@
-ghost use Rattle.std.specs.Prelude.{◌≡◌, OnOk, IfErr, map};
+ghost use Rattle.std.specs.Prelude.{◌≡◌, OnOk, IfErr, map, take};
 ghost use Rattle.pb_taps.specs.Events.{event_of};
 ghost use Rattle.pb_bus.specs.Worlds.{StopsAt};
 ghost use Rattle.pb_model.specs.Step.{RunsTo};
+ghost use Rattle.pb_token.specs.Promises.{LeavesOneToken};
 
 use pb_bus::{Bus, new_bus};
 use pb_medium::Entry;
@@ -32,21 +33,25 @@ impl Model for World {
 }
 
 impl World {
-    ghost use Rattle.std.specs.Prelude.{◌≡◌, Ok, None, IfOk, IfErr, MatchOption, map, slice_get};
+    ghost use Rattle.std.specs.Prelude.{◌≡◌, [], ◌∷◌, Ok, None, IfOk, IfErr, OnOk, MatchOption, map, slice_get};
     ghost use Rattle.pb_model.specs.World.{new_world};
     ghost use Rattle.pb_medium.specs.Entries.{entry_of};
     ghost use Rattle.pb_taps.specs.Events.{event_of};
     ghost use Rattle.pb_taps.specs.Faults.{RefusesNew};
     ghost use Rattle.pb_taps.specs.Taps.{spec_of};
-    ghost use Rattle.pb_bus.specs.Worlds.{due_at, Follows, IsStationAt};
+    ghost use Rattle.pb_bus.specs.Worlds.{due_at, Follows, Goes, IsStationAt};
+    ghost use Rattle.pb_token.specs.Promises.{HasOneToken, LeavesOneToken};
 
     /// A world whose taps don't run yet, at clock 0.
     ///
     /// Faults, the first that applies: `NoTaps` for an empty list; `TooManyTaps` over 32; `BadAddress` with
     /// the least tap that is a master with an address over the highest station address, or a passive
     /// station with one over 126; `NoMemory`. Equal addresses are taken.
+    ///
+    /// No station may initiate in it, and its trace is legal.
     pub fn new(alloc: Global, params: BusParams, specs: &[TapSpec]) -> Result<World, NewFault>
         ensures ok { IfOk result (λ w. new_world params (map spec_of specs.now) ≡ Ok w) }
+        ensures token { IfOk result HasOneToken }
         ensures fault { IfErr result (RefusesNew (new_world params (map spec_of specs.now))) }
     {
         let bus = new_bus(alloc, params, specs)?;
@@ -77,8 +82,24 @@ impl World {
     ///   `TraceFull` where the trace has 100,000 entries, and `NoMemory`.
     /// - `Unheard`: the telegram that the speaker has begun at the clock never comes to a tap. Faults:
     ///   `NoSuchTap`; `NothingInAir` where the speaker has begun none, or is the tap itself.
+    ///
+    /// Where the events that led to this world, and this one, break no premise, at most one station may initiate
+    /// after it, the trace names that one, and each telegram that only a holder sends is legal (medium access: token
+    /// passing).
     pub fn apply(&mut self, alloc: Global, event: Event) -> Result<Reply, WorldFault>
-        ensures { Follows self.old (event_of event) result self.new }
+        ensures follows { Follows self.old (event_of event) result self.new }
+        ensures token { OnOk result (LeavesOneToken self.old (event_of event ∷ []) self.new) }
+    {
+        self.bus.apply(alloc, &event)?;
+        Ok(Reply {
+            now: self.bus.now,
+            spoke: self.bus.sent.copy(),
+        })
+    }
+
+    /// Does an event, without a reply.
+    fn does(&mut self, alloc: Global, event: &Event) -> Result<(), WorldFault>
+        ensures { Goes self.old (event_of event.now) result self.new }
     {
         self.bus.apply(alloc, event)
     }
@@ -88,7 +109,7 @@ impl World {
     pub fn trace(&self) -> &[Entry]
         ensures { map entry_of result.now ≡ self.entry.now.trace }
     {
-        &self.bus.trace
+        self.bus.trace.entries()
     }
 
     /// The clock, in bit times.
@@ -109,7 +130,8 @@ impl World {
 
     /// The station at a tap, if there is such a tap.
     pub fn station(&self, tap: usize) -> Option<&Station>
-        ensures { MatchOption result (slice_get self.entry.now.taps tap ≡ None) (λ s. IsStationAt self.entry.now tap s.now) }
+        ensures { MatchOption result (slice_get self.entry.now.taps tap ≡ None)
+            (λ s. IsStationAt self.entry.now tap s.now) }
     {
         self.bus.station(tap)
     }
@@ -117,12 +139,18 @@ impl World {
 
 /// Does events one after another. It stops at the first that is refused, and answers its place in the list,
 /// counted from 0, and its fault; the events before it stand.
+///
+/// Where the events that led to the world, and those that it does, break no premise, at most one station may
+/// initiate after them, the trace names that one, and each telegram that only a holder sends is legal.
 pub fn run(alloc: Global, world: &mut World, events: &[Event]) -> Result<(), (usize, WorldFault)>
     ensures ok { OnOk result (RunsTo world.old (map event_of events.now) world.new) }
     ensures err { IfErr result (λ e. StopsAt world.old (map event_of events.now) e.0 e.1 world.new) }
+    ensures token { OnOk result (LeavesOneToken world.old (map event_of events.now) world.new) }
+    ensures token_before { IfErr result
+        (λ e. LeavesOneToken world.old (take e.0 (map event_of events.now)) world.new) }
 {
     for (place, event) in events.iter().enumerate() {
-        if let Err(fault) = world.apply(alloc, event.copy()) {
+        if let Err(fault) = world.does(alloc, event) {
             return Err((place, fault));
         }
     }

@@ -1,24 +1,22 @@
 -- The first full tap is the one at the position, or is among those behind it.
 use Rattle.std.proofs.Common.{◌≤◌, ◌<◌, ◌+◌, ◌∙◌, ap, sym, map, length, drop, arith, length-append}
-use Rattle.std.proofs.lemmas.List.{length-map}
 use Rattle.pb_model.specs.World.{mark_limit}
 use Rattle.pb_model.specs.Step as step
 use Rattle.pb_medium.specs.Entries.{entry_of}
-use Rattle.pb_station.specs.MarkViews.{mark_of}
 use Rattle.pb_bus.specs.Passes.{news, with_news, told_news}
 use Rattle.pb_medium.specs.Senses.{at_once}
 use Rattle.pb_taps.specs.Taps.{tap_of}
 use Rattle.pb_bus.proofs.Passing.{from-position, full-here, full-later}
 use Rattle.pb_bus.proofs.passes.first_full.Goals as goal
 
-pub returns-then-marks-news_count-gt-MARK_LIMIT : goal.returns-then-marks-news_count-gt-MARK_LIMIT
-returns-then-marks-news_count-gt-MARK_LIMIT c =
+pub returns-then-overflows : goal.returns-then-overflows
+returns-then-overflows c =
     let trace = map entry_of c.args.entries.now in
     let at = c.loop-position.position in
     let x = c.index-taps-position.result in
     let more = news at_once at (tap_of x) trace c.args.from c.args.to in
     let full : mark_limit < length (with_news at_once at (tap_of x) trace c.args.from c.args.to).marks =
-    omega (arith, c.news_count.ensures.count, length-append x.marks more, ap length c.marks.ensures, length-map c.marks.result.now mark_of) in
+        omega (arith, c.overflows.ensures.full c.if-overflows.true, length-append x.marks more) in
     sym (c.loop-position.invariant
     ∙ ap (step.first_full at) (from-position tap_of at_once trace c.args.from c.args.to c.args.taps.now at x c.loop-position-test.true c.index-taps-position.is)
     ∙ full-here at (with_news at_once at (tap_of x) trace c.args.from c.args.to)
@@ -31,7 +29,7 @@ loop-position-preserved c =
     let x = c.index-taps-position.result in
     let more = news at_once at (tap_of x) trace c.args.from c.args.to in
     let fits : length (with_news at_once at (tap_of x) trace c.args.from c.args.to).marks ≤ mark_limit =
-    omega (arith, c.news_count.ensures.count, length-append x.marks more, ap length c.marks.ensures, length-map c.marks.result.now mark_of) in
+        omega (arith, c.overflows.ensures.fits c.if-overflows.false, length-append x.marks more) in
     c.loop-position.invariant
     ∙ ap (step.first_full at) (from-position tap_of at_once trace c.args.from c.args.to c.args.taps.now at x c.loop-position-test.true c.index-taps-position.is)
     ∙ full-later at (with_news at_once at (tap_of x) trace c.args.from c.args.to)

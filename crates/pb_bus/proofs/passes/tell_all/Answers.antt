@@ -8,7 +8,8 @@ use Rattle.pb_medium.specs.Entries.{entry_of}
 use Rattle.pb_bus.specs.Passes.{news, with_news, told_news}
 use Rattle.pb_medium.specs.Senses.{at_once}
 use Rattle.pb_taps.specs.Taps.{seat_of, tap_of}
-use Rattle.pb_bus.proofs.Passing.{changed-more, changed-at, changed-all, told-length, told-at, room-for-news}
+use Rattle.pb_taps.proofs.Replacing.{changed-more, changed-at, changed-all}
+use Rattle.pb_bus.proofs.Passing.{told-length, told-at, room-for-news}
 use Rattle.pb_bus.proofs.passes.tell_all.Goals as goal
 
 pub tell-requires : goal.tell-requires

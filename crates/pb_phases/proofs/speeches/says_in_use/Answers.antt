@@ -1,26 +1,14 @@
+use Rattle.std.proofs.Common.{◌≡◌, length, rules, arith}
 use Rattle.pb_turn.specs.Phases as turn
-use Rattle.pb_turn.specs.Turns.{high_taken}
-use Rattle.pb_core.specs.Cores.{with_phase}
-use Rattle.pb_phases.specs.Speeches.{spoken_of}
-use Rattle.pb_phases.proofs.Taking.{received_still, high_said, high_not_said}
+use Rattle.pb_core.specs.Cores.{station_with}
+use Rattle.pb_tokenfsm.specs.Phases.{phase_of}
+use Rattle.pb_phases.specs.Speeches.{spoken_with}
+use Rattle.pb_phases.proofs.Taking.{high_none_waits}
 use Rattle.pb_phases.proofs.speeches.says_in_use.Goals as goal
 
-pub says_low-requires-clause-received : goal.says_low-requires-clause-received
-says_low-requires-clause-received c =
+pub returns-else-has_high : goal.returns-else-has_high
+returns-else-has_high c =
     let phase = turn.Use c.args.holder.state.asked c.args.holder.state.ready in
-    received_still high_taken (with_phase c.args.kept phase) (with_phase c.take_high-kept.result.kept phase) c.take_high-kept.result.request
-    (c.take_high-kept.ensures.kept phase) c.in-None.is c.requires.received
-
-pub returns-in-Some : goal.returns-in-Some
-returns-in-Some c =
-    let phase = turn.Use c.args.holder.state.asked c.args.holder.state.ready in
-    high_said c.args.params.now (with_phase c.args.kept phase) (with_phase c.take_high-kept.result.kept phase) c.args.holder.state.asked c.args.now
-    c.take_high-kept.result.request c.in-Some.request (spoken_of c.says_request.result) c.says_request.ensures (c.take_high-kept.ensures.kept phase)
-    (c.take_high-kept.ensures.request phase) c.in-Some.is
-
-pub returns-in-None : goal.returns-in-None
-returns-in-None c =
-    let phase = turn.Use c.args.holder.state.asked c.args.holder.state.ready in
-    high_not_said c.args.params.now (with_phase c.args.kept phase) (with_phase c.take_high-kept.result.kept phase) c.args.holder.state.asked c.args.now
-    c.take_high-kept.result.request (spoken_of c.says_low.result) c.says_low.ensures (c.take_high-kept.ensures.kept phase)
-    (c.take_high-kept.ensures.request phase) c.in-None.is
+    let empty : length c.args.waiting.now.high ≡ 0 = search (rules, arith) in
+    high_none_waits c.args.params.now (station_with c.args.kept.now c.args.waiting.now phase) c.args.holder.state.asked c.args.now
+    (spoken_with c.says_low.new.kept c.says_low.new.waiting (phase_of c.says_low.result) c.says_low.new.out) c.says_low.ensures empty

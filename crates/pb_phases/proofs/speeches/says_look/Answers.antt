@@ -1,17 +1,22 @@
-use Rattle.std.proofs.Common.{ap, sym, ◌∙◌}
-use Rattle.pb_ring.specs.AddressSets.{next_address}
-use Rattle.pb_ring.specs.Las.{members_of}
-use Rattle.pb_ring.specs.Gap.{last_asked, next_asked}
+use Rattle.std.proofs.Common.{◌≡◌, refl}
 use Rattle.pb_turn.specs.Phases as turn
-use Rattle.pb_core.specs.Cores.{with_phase}
-use Rattle.pb_phases.proofs.Looking.{asked}
+use Rattle.pb_core.specs.Cores.{station_with}
+use Rattle.pb_tokenfsm.specs.Phases.{phase_of}
+use Rattle.pb_phases.specs.Speeches.{spoken_with}
+use Rattle.pb_phases.proofs.Looking.{finds, finds_none}
 use Rattle.pb_phases.proofs.speeches.says_look.Goals as goal
 
 pub returns-in-Some : goal.returns-in-Some
-returns-in-Some c =
-    let k = c.args.kept in
-    let p = c.args.params.now in
-    let looked = c.next_look-address.ensures in
-    asked p (with_phase k (turn.Use c.args.holder.state.asked c.args.holder.state.ready)) c.args.now c.in-Some.address c.next_look-address.result.gap _ _ _
-    c.asks_status.ensures (ap (λ l. l.gap) looked) (sym (ap (λ l. l.address) looked) ∙ c.in-Some.is)
-    (ap (λ ns. next_asked k.address ns p.hsa (last_asked k.gap)) (c.ns-ns.ensures.value ∙ ap (λ a. next_address a (members_of k.las.stage)) c.get.ensures.value))
+returns-in-Some c queue =
+    let phase = turn.Use c.args.holder.state.asked c.args.holder.state.ready in
+    finds c.args.params.now (station_with c.args.kept.now queue phase) (station_with c.next_look.new.kept queue phase) c.args.now c.in-Some.address c.next_look.result _
+    (spoken_with c.asks_status.new.kept queue (phase_of c.asks_status.result) c.asks_status.new.out) (c.asks_status.ensures queue) (c.next_look.ensures.round phase queue) c.in-Some.is (c.next_look.ensures.address queue phase)
+
+pub returns-in-None : goal.returns-in-None
+returns-in-None c queue =
+    let state = c.args.holder.state in
+    let phase = turn.Use state.asked state.ready in
+    let done = c.done.ensures state.asked state.ready refl in
+    let first : c.done.result.state.tries ≡ 0 = cc done in
+    finds_none c.args.params.now (station_with c.args.kept.now queue phase) (station_with c.next_look.new.kept queue phase) c.args.now c.done.result.state.tries c.next_look.result _
+    (spoken_with c.says_token.new.kept queue (phase_of c.says_token.result) c.says_token.new.out) (c.says_token.ensures queue) first (c.next_look.ensures.round phase queue) c.in-None.is (c.next_look.ensures.address queue phase)

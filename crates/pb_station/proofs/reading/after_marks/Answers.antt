@@ -1,21 +1,24 @@
 use Rattle.std.proofs.Common.{refl, ◌∙◌, map, arith, ◌≤◌, length}
-use Rattle.pb_core.specs.Cores.{station_of}
+use Rattle.pb_tokenfsm.specs.Phases.{phase_of}
+use Rattle.pb_core.specs.Cores.{station_with}
 use Rattle.pb_station.specs.MarkViews.{mark_of}
 use Rattle.pb_station.proofs.MarkByMark.{read-more, read-all}
 use Rattle.pb_station.proofs.Places.{left-at}
 use Rattle.pb_station.proofs.reading.after_marks.Goals as goal
 
 pub loop-mark-init : goal.loop-mark-init
-loop-mark-init c = refl
+loop-mark-init c queue = refl
 
 pub loop-mark-preserved : goal.loop-mark-preserved
-loop-mark-preserved c =
-    read-more c.args.params.now (station_of c.args.core) (map mark_of c.args.marks.now) c.loop-mark.mark-index (station_of c.loop-mark.station)
-    (station_of c.after_timer-timed.result) (station_of c.after_mark-station.result) (mark_of c.mark-item.result) c.get.result c.loop-mark.invariant
+loop-mark-preserved c queue =
+    read-more c.args.params.now (station_with c.args.kept.now queue (phase_of c.args.phase)) (map mark_of c.args.marks.now) c.loop-mark.mark-index
+    (station_with c.loop-mark.kept queue (phase_of c.loop-mark.current)) (station_with c.after_timer-timed.new.kept queue (phase_of c.after_timer-timed.result))
+    (station_with c.after_mark-current.new.kept queue (phase_of c.after_mark-current.result)) (mark_of c.mark-item.result) c.get.result (c.loop-mark.invariant queue)
     (left-at mark_of c.args.marks.now c.loop-mark.mark-index c.mark-item.result (omega (arith, c.loop-mark-test.true)) c.mark-item.is)
-    (c.get.ensures.value ∙ c.moment.ensures) c.after_timer-timed.ensures c.after_mark-station.ensures
+    (c.get.ensures.value ∙ c.moment.ensures) (c.after_timer-timed.ensures queue) (c.after_mark-current.ensures queue)
 
 pub returns : goal.returns
-returns c =
+returns c queue =
     let over : length c.args.marks.now ≤ c.loop-mark.mark-index = omega (arith, c.loop-mark-test.false) in
-    read-all mark_of c.args.marks.now c.loop-mark.mark-index c.args.params.now (station_of c.args.core) (station_of c.loop-mark.station) c.loop-mark.invariant over
+    read-all mark_of c.args.marks.now c.loop-mark.mark-index c.args.params.now (station_with c.args.kept.now queue (phase_of c.args.phase))
+    (station_with c.loop-mark.kept queue (phase_of c.loop-mark.current)) (c.loop-mark.invariant queue) over

@@ -1,16 +1,25 @@
-use Rattle.std.proofs.Common.{◌≡◌, sym, subst, Ok}
-use Rattle.pb_model.specs.World.{Event}
-use Rattle.pb_model.specs.Step.{step, RunsTo}
-use Rattle.pb_taps.specs.Events.{event_of, reply_of}
+use Rattle.std.proofs.Common.{sym, subst, arith, map, take}
+use Rattle.std.proofs.lemmas.List.{length-map, take_all}
+use Rattle.pb_model.specs.Step.{RunsTo}
+use Rattle.pb_taps.specs.Events.{event_of}
 use Rattle.pb_taps.proofs.Items.{passed-at}
-use Rattle.pb_world.proofs.Running.{runs-on}
+use Rattle.pb_bus.proofs.Running.{runs-on}
+use Rattle.pb_token.proofs.Readers.{run_leaves_one}
 use Rattle.pb_world.proofs.worlds.run.Goals as goal
 
 pub loop-place-preserved : goal.loop-place-preserved
 loop-place-preserved c =
-    let went = c.in_default.ensures in
-    let reply = reply_of c.in_default.field-0 in
-    let goes = subst (λ (e : Event). step c.loop-place.world e ≡ Ok (c.apply.new.self, reply)) c.copy.ensures went in
-    subst (λ es. RunsTo c.args.world.now es c.apply.new.self)
+    subst (λ es. RunsTo c.args.world.now es c.does.new.self)
     (sym (passed-at event_of c.args.events.now c.loop-place.place c.index-events-place.result c.loop-place-test.true c.index-events-place.is))
-    (runs-on c.args.world.now c.loop-place.world c.apply.new.self _ _ reply c.loop-place.invariant goes)
+    (runs-on c.args.world.now c.loop-place.world c.does.new.self _ _ c.in_default.ensures.0 c.loop-place.invariant c.in_default.ensures.1)
+
+pub returns-in-Err-clause-token_before : goal.returns-in-Err-clause-token_before
+returns-in-Err-clause-token_before c =
+    let before = take c.loop-place.place (map event_of c.args.events.now) in
+    run_leaves_one c.args.world.now c.does.new.self before (subst (RunsTo c.args.world.now before) (sym c.in-Err.ensures.0) c.loop-place.invariant)
+
+pub returns-clause-token : goal.returns-clause-token
+returns-clause-token c =
+    let events = map event_of c.args.events.now in
+    let all = take_all c.loop-place.place events (omega (arith, length-map c.args.events.now event_of, c.loop-place-test.false)) in
+    run_leaves_one c.args.world.now c.loop-place.world events (subst (λ es. RunsTo c.args.world.now es c.loop-place.world) all c.loop-place.invariant)

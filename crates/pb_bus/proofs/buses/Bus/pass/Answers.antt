@@ -1,13 +1,13 @@
-use Rattle.std.proofs.Common.{◌∙◌, ap, sym, subst, length, map, Ok, arith, ◌++◌}
-use Rattle.std.specs.Prelude.{take, drop}
+use Rattle.std.proofs.Common.{◌≡◌, ◌∙◌, ap, sym, subst, length, map, Ok, arith}
+use Rattle.std.specs.Prelude.{take}
+use Rattle.std.specs.Vec.{with_items}
 use Rattle.pb_model.specs.Laws.{AllBegun, IsSound}
 use Rattle.pb_model.specs.Step.{step_pass}
 use Rattle.pb_model.specs.World.{World, Pass}
-use Rattle.pb_medium.specs.Airs.{air, IsCut}
+use Rattle.pb_medium.specs.Airs.{IsCut}
+use Rattle.pb_medium.specs.Traces.{entries_of, over_of}
 use Rattle.pb_bus.specs.Buses.{world_of}
 use Rattle.pb_bus.specs.Clocks.{IsFault, PassesTo}
-use Rattle.pb_medium.specs.Entries.{entry_of}
-use Rattle.pb_taps.specs.Events.{reply_of}
 use Rattle.pb_taps.specs.Taps.{tap_of, seat_of, AreSeated}
 use Rattle.pb_bus.proofs.Airing.{air-recent}
 use Rattle.pb_taps.proofs.Behind.{written-back}
@@ -15,29 +15,24 @@ use Rattle.pb_taps.proofs.Items.{as-many}
 use Rattle.pb_bus.proofs.Stepping.{in-err, sound-after, sound-recent, pass-done, pass-refused, cut-passed}
 use Rattle.pb_bus.proofs.buses.Bus.pass.Goals as goal
 
-pub pass_recent-requires-clause-sound : goal.pass_recent-requires-clause-sound
-pass_recent-requires-clause-sound c =
+pub pass-requires : goal.pass-requires
+pass-requires c =
     let bus = c.args.self.now in
-    let same = air-recent bus.params bus.now bus.over bus.trace.items (drop bus.over c.deref_mut.result.now) bus.taps.items c.deref_mut-2.result.now
-    (ap (drop bus.over) c.deref_mut.ensures.value) c.deref_mut-2.ensures.value in
-    subst IsSound (sym same) (sound-recent bus.over (world_of bus) c.requires.sound)
+    let same = air-recent bus.params bus.now (over_of bus.trace) (entries_of bus.trace) bus.taps.items c.deref_mut.result.now c.deref_mut.ensures.value in
+    record { sound = subst IsSound (sym same) (sound-recent (over_of bus.trace) (world_of bus) c.requires.sound); }
 
 pub returns-in_err-self-clause-follows : goal.returns-in_err-self-clause-follows
 returns-in_err-self-clause-follows c =
     let bus = c.args.self.now in
     let w = world_of bus in
-    let entries = c.deref_mut.ensures.value in
-    let items = c.deref_mut-2.ensures.value in
-    let trace-back = written-back bus.trace.len bus.trace.items c.pass_recent.new.trace (ap length (sym entries) ∙ c.deref_mut.ensures.len) (c.pass_recent.ensures.length ∙ ap length entries) in
-    let taps-back = written-back bus.taps.len bus.taps.items c.pass_recent.new.taps (ap length (sym items) ∙ c.deref_mut-2.ensures.len) (as-many seat_of c.pass_recent.new.taps c.deref_mut-2.result.now c.pass_recent.ensures.seats ∙ ap length items) in
-    let same = air-recent bus.params bus.now bus.over bus.trace.items (drop bus.over c.deref_mut.result.now) bus.taps.items c.deref_mut-2.result.now
-    (ap (drop bus.over) entries) items in
+    let items = c.deref_mut.ensures.value in
+    let back = written-back bus.taps.len bus.taps.items c.pass.new.taps (ap length (sym items) ∙ c.deref_mut.ensures.len) (as-many seat_of c.pass.new.taps c.deref_mut.result.now c.pass.ensures.seats ∙ ap length items) in
+    let same = air-recent bus.params bus.now (over_of bus.trace) (entries_of bus.trace) bus.taps.items c.deref_mut.result.now items in
     let reason = c.in_err-self.field-0.0 in
     in-err _ _ c.from_residual.result reason c.from_residual.ensures.0 c.from_residual.ensures.1 (
-      ap (λ es. record w { trace = es; taps = map tap_of (take bus.taps.len (c.pass_recent.new.taps ++ drop (length c.pass_recent.new.taps) bus.taps.items)) })
-          (ap (map entry_of) trace-back ∙ c.in_err-self.ensures.err.0 ∙ ap (map entry_of) entries)
-          ∙ ap (λ ts. record w { taps = map tap_of ts }) (taps-back ∙ c.in_err-self.ensures.err.1 ∙ items),
-      pass-refused w bus.over c.args.bits reason c.requires.sound.no_delay c.requires.cut
+      ap (λ t. record w { trace = entries_of t; taps = map tap_of (with_items bus.taps c.pass.new.taps).items }) c.in_err-self.ensures.err.0
+          ∙ ap (λ ts. record w { taps = map tap_of ts }) (back ∙ c.in_err-self.ensures.err.1 ∙ items),
+      pass-refused w (over_of bus.trace) c.args.bits reason c.requires.sound.no_delay c.requires.cut
           (subst (λ (x : World). IsFault (step_pass x c.args.bits) reason) same c.in_err-self.ensures.fault),
     )
 
@@ -45,49 +40,39 @@ pub returns-clause-follows : goal.returns-clause-follows
 returns-clause-follows c =
     let bus = c.args.self.now in
     let w = world_of bus in
-    let entries = c.deref_mut.ensures.value in
-    let items = c.deref_mut-2.ensures.value in
-    let trace-back = written-back bus.trace.len bus.trace.items c.pass_recent.new.trace (ap length (sym entries) ∙ c.deref_mut.ensures.len) (c.pass_recent.ensures.length ∙ ap length entries) in
-    let taps-back = written-back bus.taps.len bus.taps.items c.pass_recent.new.taps (ap length (sym items) ∙ c.deref_mut-2.ensures.len) (as-many seat_of c.pass_recent.new.taps c.deref_mut-2.result.now c.pass_recent.ensures.seats ∙ ap length items) in
-    let same = air-recent bus.params bus.now bus.over bus.trace.items (drop bus.over c.deref_mut.result.now) bus.taps.items c.deref_mut-2.result.now
-    (ap (drop bus.over) entries) items in
+    let over = over_of bus.trace in
+    let items = c.deref_mut.ensures.value in
+    let back = written-back bus.taps.len bus.taps.items c.pass.new.taps (ap length (sym items) ∙ c.deref_mut.ensures.len) (as-many seat_of c.pass.new.taps c.deref_mut.result.now c.pass.ensures.seats ∙ ap length items) in
+    let same = air-recent bus.params bus.now over w.trace bus.taps.items c.deref_mut.result.now items in
     let to = c.in_ok-self.field-0 in
-    let after = map entry_of c.pass_recent.new.trace in
-    let taps = map tap_of c.pass_recent.new.taps in
-    let passes = subst (λ (x : World). PassesTo x c.args.bits (take bus.over w.trace) to after taps) same
-    (subst (λ xs. PassesTo (air bus.now (drop bus.over c.deref_mut.result.now) c.deref_mut-2.result.now) c.args.bits (take bus.over (map entry_of xs)) to after taps) entries
-    c.in_ok-self.ensures.ok) in
-    pass-done w bus.over c.args.bits to after taps c.requires.sound.no_delay c.requires.cut passes
-    ∙ ap (λ r. Ok (record w { now = to; trace = after; taps = taps }, r)) (sym c.silence.ensures)
-    ∙ ap (λ xs. Ok (record w { now = to; trace = map entry_of xs; taps = taps }, reply_of c.silence.result)) (sym trace-back)
-    ∙ ap (λ ts. Ok (record w { now = to; trace = map entry_of (take bus.trace.len (c.pass_recent.new.trace ++ drop (length c.pass_recent.new.trace) bus.trace.items)); taps = map tap_of ts }, reply_of c.silence.result)) (sym taps-back)
+    let after = entries_of c.pass.new.trace in
+    let taps = map tap_of c.pass.new.taps in
+    let passes = subst (λ (x : World). PassesTo x c.args.bits (take over w.trace) to after taps) same c.in_ok-self.ensures.ok in
+    pass-done w over c.args.bits to after taps c.requires.sound.no_delay c.requires.cut passes
+    ∙ ap (λ o. Ok (record w { now = to; trace = after; taps = taps }, record { now = to; spoke = o })) (sym c.clear.ensures)
+    ∙ ap (λ es. Ok (record w { now = to; trace = es; taps = taps }, record { now = to; spoke = c.clear.new.self })) (sym c.close.ensures.entries)
+    ∙ ap (λ ts. Ok (record w { now = to; trace = entries_of c.close.new.self; taps = map tap_of ts }, record { now = to; spoke = c.clear.new.self })) (sym back)
 
 pub returns-clause-kept : goal.returns-clause-kept
 returns-clause-kept c =
     let bus = c.args.self.now in
     let w = world_of bus in
-    let entries = c.deref_mut.ensures.value in
-    let items = c.deref_mut-2.ensures.value in
-    let trace-back = written-back bus.trace.len bus.trace.items c.pass_recent.new.trace (ap length (sym entries) ∙ c.deref_mut.ensures.len) (c.pass_recent.ensures.length ∙ ap length entries) in
-    let taps-back = written-back bus.taps.len bus.taps.items c.pass_recent.new.taps (ap length (sym items) ∙ c.deref_mut-2.ensures.len) (as-many seat_of c.pass_recent.new.taps c.deref_mut-2.result.now c.pass_recent.ensures.seats ∙ ap length items) in
-    let same = air-recent bus.params bus.now bus.over bus.trace.items (drop bus.over c.deref_mut.result.now) bus.taps.items c.deref_mut-2.result.now
-    (ap (drop bus.over) entries) items in
+    let over = over_of bus.trace in
+    let items = c.deref_mut.ensures.value in
+    let seats = c.pass.ensures.seats in
+    let back = written-back bus.taps.len bus.taps.items c.pass.new.taps (ap length (sym items) ∙ c.deref_mut.ensures.len) (as-many seat_of c.pass.new.taps c.deref_mut.result.now seats ∙ ap length items) in
+    let same = air-recent bus.params bus.now over w.trace bus.taps.items c.deref_mut.result.now items in
     let to = c.in_ok-self.field-0 in
-    let after = map entry_of c.pass_recent.new.trace in
-    let taps = map tap_of c.pass_recent.new.taps in
-    let passes = subst (λ (x : World). PassesTo x c.args.bits (take bus.over w.trace) to after taps) same
-    (subst (λ xs. PassesTo (air bus.now (drop bus.over c.deref_mut.result.now) c.deref_mut-2.result.now) c.args.bits (take bus.over (map entry_of xs)) to after taps) entries
-    c.in_ok-self.ensures.ok) in
+    let after = entries_of c.pass.new.trace in
+    let taps = map tap_of c.pass.new.taps in
+    let passes = subst (λ (x : World). PassesTo x c.args.bits (take over w.trace) to after taps) same c.in_ok-self.ensures.ok in
     let sound = sound-after w (Pass c.args.bits) _ _ (returns-clause-follows c) tt c.requires.sound in
-    let cut = subst (λ xs. IsCut w.now bus.over (map entry_of xs)) (sym trace-back) (cut-passed w bus.over c.args.bits to after taps c.requires.cut passes) in
-    let seen = c.deref.ensures.value in
     record {
       sound = sound;
       clock = c.in_ok-self.ensures.clock.1;
-      room = omega (arith, ap length taps-back, as-many seat_of c.pass_recent.new.taps c.deref_mut-2.result.now c.pass_recent.ensures.seats, ap length items, c.requires.room);
-      seats = subst (AreSeated bus.params 0) (sym (ap (map seat_of) taps-back ∙ c.pass_recent.ensures.seats ∙ ap (map seat_of) items)) c.requires.seats;
-      cut = subst (λ xs. IsCut to c.over_at-self.result (map entry_of xs)) seen (
-          c.over_at-self.ensures.cut bus.now c.in_ok-self.ensures.clock.0
-          (subst (λ xs. IsCut bus.now bus.over (map entry_of xs)) (sym seen) cut) (subst (λ xs. AllBegun to (map entry_of xs)) (sym seen) sound.begun)
-          );
+      room = omega (arith, ap length back, as-many seat_of c.pass.new.taps c.deref_mut.result.now seats, ap length items, c.requires.room);
+      seats = subst (AreSeated bus.params 0) (sym (ap (map seat_of) back ∙ seats ∙ ap (map seat_of) items)) c.requires.seats;
+      cut = c.close.ensures.cut bus.now c.in_ok-self.ensures.clock.0
+          (subst (λ n. IsCut bus.now n after) (sym c.pass.ensures.over) (cut-passed w over c.args.bits to after taps c.requires.cut passes))
+          (subst (AllBegun to) c.close.ensures.entries sound.begun);
     }

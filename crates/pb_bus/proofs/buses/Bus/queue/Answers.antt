@@ -4,10 +4,10 @@ use Rattle.std.specs.Option.{option_map}
 use Rattle.std.proofs.lemmas.List.{length-set, map-set}
 use Rattle.std.proofs.lemmas.Option.{slice_get-map}
 use Rattle.pb_messages.specs.RequestFields.{RequestFields}
+use Rattle.pb_turn.specs.Laws.{IsRequest}
 use Rattle.pb_model.specs.Step.{step_queue}
 use Rattle.pb_model.specs.World.{Queue}
 use Rattle.pb_bus.specs.Buses.{world_of, IsKept}
-use Rattle.pb_taps.specs.Events.{reply_of}
 use Rattle.pb_taps.specs.Faults.{Refuses}
 use Rattle.pb_taps.specs.Queueing.{queued_tap, IsQueued, RefusesQueue}
 use Rattle.pb_taps.specs.Taps.{tap_of, seat_of, AreSeated}
@@ -49,10 +49,10 @@ returns-in_err-queue-clause-follows c =
     let kept = c.in_err-queue.ensures.err in
     let back = written-back bus.taps.len bus.taps.items c.queue.new.taps (ap length (sym items) ∙ c.deref_mut.ensures.len) (ap length (kept ∙ items)) in
     let reason = c.in_err-queue.field-0.0 in
-    let why = subst (λ ts. RefusesQueue ts c.args.tap c.args.request reason) items c.in_err-queue.ensures.fault in
+    let why = subst (λ r. RefusesQueue bus.taps.items c.args.tap r reason) c.copy.ensures (subst (λ ts. RefusesQueue ts c.args.tap c.copy.result reason) items c.in_err-queue.ensures.fault) in
     in-err _ _ c.from_residual.result reason c.from_residual.ensures.0 c.from_residual.ensures.1 (
       ap (λ ts. record w { taps = map tap_of ts }) (back ∙ kept ∙ items),
-      refused bus c.args.tap c.args.request reason why,
+      refused bus c.args.tap c.args.request.now reason why,
     )
 
 pub returns-clause-follows : goal.returns-clause-follows
@@ -61,23 +61,23 @@ returns-clause-follows c =
     let w = world_of bus in
     let items = c.deref_mut.ensures.value in
     let next = c.queue.new.taps in
-    let takes = subst (λ ts. IsQueued ts c.args.tap c.args.request next) items c.in_ok-queue.ensures.ok in
-    let back = written-back bus.taps.len bus.taps.items next (ap length (sym items) ∙ c.deref_mut.ensures.len) (size bus c.args.tap c.args.request next takes) in
-    done bus c.args.tap c.args.request next takes
-    ∙ ap (λ r. Ok (record w { taps = map tap_of next }, r)) (sym c.silence.ensures)
-    ∙ ap (λ ts. Ok (record w { taps = map tap_of ts }, reply_of c.silence.result)) (sym back)
+    let takes = subst (λ r. IsQueued bus.taps.items c.args.tap r next) c.copy.ensures (subst (λ ts. IsQueued ts c.args.tap c.copy.result next) items c.in_ok-queue.ensures.ok) in
+    let back = written-back bus.taps.len bus.taps.items next (ap length (sym items) ∙ c.deref_mut.ensures.len) (size bus c.args.tap c.args.request.now next takes) in
+    done bus c.args.tap c.args.request.now next takes
+    ∙ ap (λ o. Ok (record w { taps = map tap_of next }, record { now = bus.now; spoke = o })) (sym c.clear.ensures)
+    ∙ ap (λ ts. Ok (record w { taps = map tap_of ts }, record { now = bus.now; spoke = c.clear.new.self })) (sym back)
 
 pub returns-clause-kept : goal.returns-clause-kept
 returns-clause-kept c =
     let bus = c.args.self.now in
     let items = c.deref_mut.ensures.value in
     let next = c.queue.new.taps in
-    let takes = subst (λ ts. IsQueued ts c.args.tap c.args.request next) items c.in_ok-queue.ensures.ok in
-    let back = written-back bus.taps.len bus.taps.items next (ap length (sym items) ∙ c.deref_mut.ensures.len) (size bus c.args.tap c.args.request next takes) in
+    let takes = subst (λ r. IsQueued bus.taps.items c.args.tap r next) c.copy.ensures (subst (λ ts. IsQueued ts c.args.tap c.copy.result next) items c.in_ok-queue.ensures.ok) in
+    let back = written-back bus.taps.len bus.taps.items next (ap length (sym items) ∙ c.deref_mut.ensures.len) (size bus c.args.tap c.args.request.now next takes) in
     record {
-      sound = sound-after (world_of bus) (Queue c.args.tap c.args.request) _ _ (returns-clause-follows c) c.queue.ensures.request c.requires.sound;
+      sound = sound-after (world_of bus) (Queue c.args.tap c.args.request.now) _ _ (returns-clause-follows c) (subst IsRequest c.copy.ensures c.queue.ensures.request) c.requires.sound;
       clock = c.requires.clock;
-      room = omega (arith, ap length back, size bus c.args.tap c.args.request next takes, c.requires.room);
-      seats = subst (λ ts. AreSeated bus.params 0 (map seat_of ts)) (sym back) (seated bus c.args.tap c.args.request next c.requires takes);
+      room = omega (arith, ap length back, size bus c.args.tap c.args.request.now next takes, c.requires.room);
+      seats = subst (λ ts. AreSeated bus.params 0 (map seat_of ts)) (sym back) (seated bus c.args.tap c.args.request.now next c.requires takes);
       cut = c.requires.cut;
     }

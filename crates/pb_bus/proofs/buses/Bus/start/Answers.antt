@@ -1,8 +1,8 @@
 use Rattle.std.proofs.Common.{◌≡◌, ◌∙◌, ap, sym, subst, refl, true, ℕ, List, [], length, map, Ok, arith, None}
-use Rattle.std.specs.Prelude.{drop, slice_get, slice_set}
+use Rattle.std.specs.Prelude.{slice_get, slice_set}
 use Rattle.std.specs.List.{list_any}
 use Rattle.std.specs.Option.{option_map}
-use Rattle.std.proofs.lemmas.List.{drop-map, length-set, map-set}
+use Rattle.std.proofs.lemmas.List.{length-set, map-set}
 use Rattle.std.proofs.lemmas.Option.{slice_get-map}
 use Rattle.pb_turn.specs.Stations.{started}
 use Rattle.pb_model.specs.Step.{step_start, reaches_now}
@@ -10,9 +10,9 @@ use Rattle.pb_model.specs.Trace as trace
 use Rattle.pb_model.specs.World.{Start}
 use Rattle.pb_bus.specs.Buses.{world_of, IsKept}
 use Rattle.pb_medium.specs.Entries.{entry_of}
-use Rattle.pb_taps.specs.Events.{reply_of}
 use Rattle.pb_taps.specs.Faults.{Refuses}
 use Rattle.pb_medium.specs.Senses.{at_once}
+use Rattle.pb_medium.specs.Traces.{over_of, recent_of}
 use Rattle.pb_bus.specs.Starting.{fresh_tap, IsStarted, RefusesStart}
 use Rattle.pb_taps.specs.Taps.{tap_of, seat_of, AreSeated}
 use Rattle.pb_bus.specs.declared.buses.Bus.{Bus}
@@ -25,33 +25,33 @@ use Rattle.pb_bus.proofs.Stepping.{in-err, sound-after, start-done, start-missin
 use Rattle.pb_medium.proofs.Widening.{started_amid}
 use Rattle.pb_bus.proofs.buses.Bus.start.Goals as goal
 
-refused : (b : Bus) (i : ℕ) (reason : WorldFault) → IsKept b → RefusesStart b.now (drop b.over (map entry_of b.trace.items)) b.taps.items i reason
+refused : (b : Bus) (i : ℕ) (reason : WorldFault) → IsKept b → RefusesStart b.now (recent_of b.trace) b.taps.items i reason
     → Refuses (world_of b) (Start i) (step_start (world_of b) i (slice_get (world_of b).taps i)) reason
 refused b i fault.NoSuchTap kept missing = start-missing (world_of b) i (slice_get-map tap_of b.taps.items i ∙ ap (option_map tap_of) missing)
 refused b i fault.Running kept (t, at, up) =
-    start-running (world_of b) b.over i (tap_of t) kept.sound.no_delay kept.cut (slice_get-map tap_of b.taps.items i ∙ ap (option_map tap_of) at) up
+    start-running (world_of b) (over_of b.trace) i (tap_of t) kept.sound.no_delay kept.cut (slice_get-map tap_of b.taps.items i ∙ ap (option_map tap_of) at) up
 refused b i other kept wrong = absurd wrong
 
-done : (b : Bus) (i : ℕ) (next : List Tap) → IsKept b → IsStarted b.now (drop b.over (map entry_of b.trace.items)) b.taps.items i next
+done : (b : Bus) (i : ℕ) (next : List Tap) → IsKept b → IsStarted b.now (recent_of b.trace) b.taps.items i next
     → step_start (world_of b) i (slice_get (world_of b).taps i) ≡ Ok (record (world_of b) { taps = map tap_of next }, record { now = b.now; spoke = None })
 done b i next kept (t, at, up, are) =
     let w = world_of b in
     let items = b.taps.items in
-    let amid = list_any (reaches_now at_once i b.now) (drop b.over (map entry_of b.trace.items)) in
+    let amid = list_any (reaches_now at_once i b.now) (recent_of b.trace) in
     let there = slice_get-map tap_of items i ∙ ap (option_map tap_of) at in
-    let same : started_amid b.over w i (tap_of t) ≡ tap_of (fresh_tap t amid b.now)
+    let same : started_amid (over_of b.trace) w i (tap_of t) ≡ tap_of (fresh_tap t amid b.now)
     = ap (λ p. record (tap_of t) { running = true; since = b.now; amid = amid; station = started p t.station.station t.station.master b.now; marks = [] })
     (sym (ap (λ x. x.params) (seat-of-tap b.params items i t kept.seats at))) in
-    start-done w b.over i (tap_of t) kept.sound.no_delay kept.cut there up
+    start-done w (over_of b.trace) i (tap_of t) kept.sound.no_delay kept.cut there up
     ∙ ap (λ ts. Ok (record w { taps = ts }, record { now = b.now; spoke = None }))
     (ap (slice_set w.taps i) same ∙ sym (map-set tap_of items i (fresh_tap t amid b.now)) ∙ ap (map tap_of) (sym are))
 
-seated : (b : Bus) (i : ℕ) (next : List Tap) → IsKept b → IsStarted b.now (drop b.over (map entry_of b.trace.items)) b.taps.items i next → AreSeated b.params 0 (map seat_of next)
+seated : (b : Bus) (i : ℕ) (next : List Tap) → IsKept b → IsStarted b.now (recent_of b.trace) b.taps.items i next → AreSeated b.params 0 (map seat_of next)
 seated b i next kept (t, at, up, are) =
-    let amid = list_any (reaches_now at_once i b.now) (drop b.over (map entry_of b.trace.items)) in
+    let amid = list_any (reaches_now at_once i b.now) (recent_of b.trace) in
     subst (AreSeated b.params 0) (sym (ap (map seat_of) are ∙ same-seats b.taps.items i t (fresh_tap t amid b.now) at refl)) kept.seats
 
-size : (b : Bus) (i : ℕ) (next : List Tap) → IsStarted b.now (drop b.over (map entry_of b.trace.items)) b.taps.items i next → length next ≡ length b.taps.items
+size : (b : Bus) (i : ℕ) (next : List Tap) → IsStarted b.now (recent_of b.trace) b.taps.items i next → length next ≡ length b.taps.items
 size b i next (t, at, up, are) = ap length are ∙ length-set b.taps.items i _
 
 pub returns-in_err-start-clause-follows : goal.returns-in_err-start-clause-follows
@@ -61,7 +61,7 @@ returns-in_err-start-clause-follows c =
     let items = c.deref_mut.ensures.value in
     let kept = c.in_err-start.ensures.err in
     let back = written-back bus.taps.len bus.taps.items c.start.new.taps (ap length (sym items) ∙ c.deref_mut.ensures.len) (ap length (kept ∙ items)) in
-    let entries = ap (map entry_of) (c.recent.ensures ∙ ap (drop bus.over) c.deref.ensures.value) ∙ sym (drop-map entry_of bus.over bus.trace.items) in
+    let entries = c.recent.ensures in
     let reason = c.in_err-start.field-0.0 in
     let why = subst (λ (es : List trace.Entry). RefusesStart bus.now es bus.taps.items c.args.tap reason) entries
     (subst (λ ts. RefusesStart bus.now (map entry_of c.recent.result.now) ts c.args.tap reason) items c.in_err-start.ensures.fault) in
@@ -75,20 +75,20 @@ returns-clause-follows c =
     let bus = c.args.self.now in
     let w = world_of bus in
     let items = c.deref_mut.ensures.value in
-    let entries = ap (map entry_of) (c.recent.ensures ∙ ap (drop bus.over) c.deref.ensures.value) ∙ sym (drop-map entry_of bus.over bus.trace.items) in
+    let entries = c.recent.ensures in
     let next = c.start.new.taps in
     let starts = subst (λ (es : List trace.Entry). IsStarted bus.now es bus.taps.items c.args.tap next) entries
     (subst (λ ts. IsStarted bus.now (map entry_of c.recent.result.now) ts c.args.tap next) items c.in_ok-start.ensures.ok) in
     let back = written-back bus.taps.len bus.taps.items next (ap length (sym items) ∙ c.deref_mut.ensures.len) (size bus c.args.tap next starts) in
     done bus c.args.tap next c.requires starts
-    ∙ ap (λ r. Ok (record w { taps = map tap_of next }, r)) (sym c.silence.ensures)
-    ∙ ap (λ ts. Ok (record w { taps = map tap_of ts }, reply_of c.silence.result)) (sym back)
+    ∙ ap (λ o. Ok (record w { taps = map tap_of next }, record { now = bus.now; spoke = o })) (sym c.clear.ensures)
+    ∙ ap (λ ts. Ok (record w { taps = map tap_of ts }, record { now = bus.now; spoke = c.clear.new.self })) (sym back)
 
 pub returns-clause-kept : goal.returns-clause-kept
 returns-clause-kept c =
     let bus = c.args.self.now in
     let items = c.deref_mut.ensures.value in
-    let entries = ap (map entry_of) (c.recent.ensures ∙ ap (drop bus.over) c.deref.ensures.value) ∙ sym (drop-map entry_of bus.over bus.trace.items) in
+    let entries = c.recent.ensures in
     let next = c.start.new.taps in
     let starts = subst (λ (es : List trace.Entry). IsStarted bus.now es bus.taps.items c.args.tap next) entries
     (subst (λ ts. IsStarted bus.now (map entry_of c.recent.result.now) ts c.args.tap next) items c.in_ok-start.ensures.ok) in

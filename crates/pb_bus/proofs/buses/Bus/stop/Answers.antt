@@ -1,5 +1,5 @@
 use Rattle.std.proofs.Common.{◌≡◌, ◌∙◌, ap, sym, subst, refl, ℕ, List, length, map, Ok, arith, None, ◌++◌}
-use Rattle.std.specs.Prelude.{drop, take, slice_get}
+use Rattle.std.specs.Prelude.{take, slice_get}
 use Rattle.std.specs.Option.{option_map}
 use Rattle.std.proofs.lemmas.List.{length-set, map-set}
 use Rattle.std.proofs.lemmas.Option.{slice_get-map}
@@ -7,10 +7,8 @@ use Rattle.pb_model.specs.Step.{step_stop}
 use Rattle.pb_model.specs.Trace as trace
 use Rattle.pb_model.specs.Trace.{cut_at}
 use Rattle.pb_model.specs.World.{Stop}
-use Rattle.pb_medium.specs.Airs.{IsCut}
 use Rattle.pb_bus.specs.Buses.{world_of, IsKept}
-use Rattle.pb_medium.specs.Entries.{entry_of}
-use Rattle.pb_taps.specs.Events.{reply_of}
+use Rattle.pb_medium.specs.Traces.{entries_of, over_of, recent_of}
 use Rattle.pb_taps.specs.Faults.{Refuses}
 use Rattle.pb_taps.specs.Turning.{RefusesStopped}
 use Rattle.pb_bus.specs.Stopping.{halted_tap, IsStopped}
@@ -21,7 +19,7 @@ use Rattle.pb_taps.specs.declared.faults.WorldFault.TheVariants as fault
 use Rattle.pb_taps.specs.declared.taps.Tap.{Tap}
 use Rattle.pb_taps.proofs.Behind.{written-back}
 use Rattle.pb_taps.proofs.Seats.{same-seats}
-use Rattle.pb_bus.proofs.Stepping.{in-err, sound-after, stop-done, stop-missing, stop-stopped, cut-with, from-cut}
+use Rattle.pb_bus.proofs.Stepping.{in-err, sound-after, stop-done, stop-missing, stop-stopped, cut-after, from-cut}
 use Rattle.pb_bus.proofs.buses.Bus.stop.Goals as goal
 
 refused : (b : Bus) (i : ℕ) (reason : WorldFault) → RefusesStopped b.taps.items i reason → Refuses (world_of b) (Stop i) (step_stop (world_of b) i (slice_get (world_of b).taps i)) reason
@@ -30,14 +28,14 @@ refused b i fault.NotRunning (t, at, down) = stop-stopped (world_of b) i (tap_of
 refused b i other wrong = absurd wrong
 
 abbrev cut_trace : Bus → ℕ → List trace.Entry
-cut_trace b i = take b.over (map entry_of b.trace.items) ++ map (cut_at b.now i) (drop b.over (map entry_of b.trace.items))
+cut_trace b i = take (over_of b.trace) (entries_of b.trace) ++ map (cut_at b.now i) (recent_of b.trace)
 
 done : (b : Bus) (i : ℕ) (next : List Tap) → IsKept b → IsStopped b.taps.items i next
     → step_stop (world_of b) i (slice_get (world_of b).taps i) ≡ Ok (record (world_of b) { trace = cut_trace b i; taps = map tap_of next }, record { now = b.now; spoke = None })
 done b i next kept (t, at, runs, are) =
     let w = world_of b in
     let items = b.taps.items in
-    stop-done w b.over i (tap_of t) kept.cut (slice_get-map tap_of items i ∙ ap (option_map tap_of) at) runs
+    stop-done w (over_of b.trace) i (tap_of t) kept.cut (slice_get-map tap_of items i ∙ ap (option_map tap_of) at) runs
     ∙ ap (λ ts. Ok (record w { trace = cut_trace b i; taps = ts }, record { now = b.now; spoke = None }))
     (sym (map-set tap_of items i (halted_tap t)) ∙ ap (map tap_of) (sym are))
 
@@ -47,55 +45,44 @@ seated b i next kept (t, at, runs, are) = subst (AreSeated b.params 0) (sym (ap 
 size : (b : Bus) (i : ℕ) (next : List Tap) → IsStopped b.taps.items i next → length next ≡ length b.taps.items
 size b i next (t, at, runs, are) = ap length are ∙ length-set b.taps.items i _
 
-pub returns-in_err-stop_recent-clause-follows : goal.returns-in_err-stop_recent-clause-follows
-returns-in_err-stop_recent-clause-follows c =
+pub returns-in_err-stop-clause-follows : goal.returns-in_err-stop-clause-follows
+returns-in_err-stop-clause-follows c =
     let bus = c.args.self.now in
     let w = world_of bus in
-    let entries = c.deref_mut.ensures.value in
-    let items = c.deref_mut-2.ensures.value in
-    let kept = c.in_err-stop_recent.ensures.err in
-    let trace-back = written-back bus.trace.len bus.trace.items c.stop_recent.new.trace (ap length (sym entries) ∙ c.deref_mut.ensures.len) (c.stop_recent.ensures.length ∙ ap length entries) in
-    let taps-back = written-back bus.taps.len bus.taps.items c.stop_recent.new.taps (ap length (sym items) ∙ c.deref_mut-2.ensures.len) (ap length (kept.1 ∙ items)) in
-    let reason = c.in_err-stop_recent.field-0.0 in
+    let items = c.deref_mut.ensures.value in
+    let kept = c.in_err-stop.ensures.err in
+    let back = written-back bus.taps.len bus.taps.items c.stop.new.taps (ap length (sym items) ∙ c.deref_mut.ensures.len) (ap length (kept ∙ items)) in
+    let reason = c.in_err-stop.field-0.0 in
     in-err _ _ c.from_residual.result reason c.from_residual.ensures.0 c.from_residual.ensures.1 (
-      ap (λ es. record w { trace = es; taps = map tap_of (take bus.taps.len (c.stop_recent.new.taps ++ drop (length c.stop_recent.new.taps) bus.taps.items)) })
-          (ap (map entry_of) trace-back ∙ kept.0 ∙ ap (map entry_of) entries)
-          ∙ ap (λ ts. record w { taps = map tap_of ts }) (taps-back ∙ kept.1 ∙ items),
-      refused bus c.args.tap reason (subst (λ ts. RefusesStopped ts c.args.tap reason) items c.in_err-stop_recent.ensures.fault),
+      ap (λ ts. record w { taps = map tap_of ts }) (back ∙ kept ∙ items),
+      refused bus c.args.tap reason (subst (λ ts. RefusesStopped ts c.args.tap reason) items c.in_err-stop.ensures.fault),
     )
 
 pub returns-clause-follows : goal.returns-clause-follows
 returns-clause-follows c =
     let bus = c.args.self.now in
     let w = world_of bus in
-    let entries = c.deref_mut.ensures.value in
-    let items = c.deref_mut-2.ensures.value in
-    let next = c.stop_recent.new.taps in
-    let stops = subst (λ ts. IsStopped ts c.args.tap next) items c.in_ok-stop_recent.ensures.ok in
-    let trace-back = written-back bus.trace.len bus.trace.items c.stop_recent.new.trace (ap length (sym entries) ∙ c.deref_mut.ensures.len) (c.stop_recent.ensures.length ∙ ap length entries) in
-    let taps-back = written-back bus.taps.len bus.taps.items next (ap length (sym items) ∙ c.deref_mut-2.ensures.len) (size bus c.args.tap next stops) in
-    let cut = c.in_ok-stop_recent.ensures.cut ∙ ap (λ xs. take bus.over (map entry_of xs) ++ map (cut_at bus.now c.args.tap) (drop bus.over (map entry_of xs))) entries in
+    let items = c.deref_mut.ensures.value in
+    let next = c.stop.new.taps in
+    let stops = subst (λ ts. IsStopped ts c.args.tap next) items c.in_ok-stop.ensures.ok in
+    let back = written-back bus.taps.len bus.taps.items next (ap length (sym items) ∙ c.deref_mut.ensures.len) (size bus c.args.tap next stops) in
     done bus c.args.tap next c.requires stops
-    ∙ ap (λ r. Ok (record w { trace = cut_trace bus c.args.tap; taps = map tap_of next }, r)) (sym c.silence.ensures)
-    ∙ ap (λ es. Ok (record w { trace = es; taps = map tap_of next }, reply_of c.silence.result)) (sym cut ∙ ap (map entry_of) (sym trace-back))
-    ∙ ap (λ ts. Ok (record w { trace = map entry_of (take bus.trace.len (c.stop_recent.new.trace ++ drop (length c.stop_recent.new.trace) bus.trace.items)); taps = map tap_of ts }, reply_of c.silence.result)) (sym taps-back)
+    ∙ ap (λ o. Ok (record w { trace = cut_trace bus c.args.tap; taps = map tap_of next }, record { now = bus.now; spoke = o })) (sym c.clear.ensures)
+    ∙ ap (λ es. Ok (record w { trace = es; taps = map tap_of next }, record { now = bus.now; spoke = c.clear.new.self })) (sym c.cut.ensures.entries)
+    ∙ ap (λ ts. Ok (record w { trace = entries_of c.cut.new.self; taps = map tap_of ts }, record { now = bus.now; spoke = c.clear.new.self })) (sym back)
 
 pub returns-clause-kept : goal.returns-clause-kept
 returns-clause-kept c =
     let bus = c.args.self.now in
-    let w = world_of bus in
-    let entries = c.deref_mut.ensures.value in
-    let items = c.deref_mut-2.ensures.value in
-    let next = c.stop_recent.new.taps in
-    let stops = subst (λ ts. IsStopped ts c.args.tap next) items c.in_ok-stop_recent.ensures.ok in
-    let trace-back = written-back bus.trace.len bus.trace.items c.stop_recent.new.trace (ap length (sym entries) ∙ c.deref_mut.ensures.len) (c.stop_recent.ensures.length ∙ ap length entries) in
-    let taps-back = written-back bus.taps.len bus.taps.items next (ap length (sym items) ∙ c.deref_mut-2.ensures.len) (size bus c.args.tap next stops) in
-    let cut = c.in_ok-stop_recent.ensures.cut ∙ ap (λ xs. take bus.over (map entry_of xs) ++ map (cut_at bus.now c.args.tap) (drop bus.over (map entry_of xs))) entries in
+    let items = c.deref_mut.ensures.value in
+    let next = c.stop.new.taps in
+    let stops = subst (λ ts. IsStopped ts c.args.tap next) items c.in_ok-stop.ensures.ok in
+    let back = written-back bus.taps.len bus.taps.items next (ap length (sym items) ∙ c.deref_mut.ensures.len) (size bus c.args.tap next stops) in
     record {
-      sound = sound-after w (Stop c.args.tap) _ _ (returns-clause-follows c) tt c.requires.sound;
+      sound = sound-after (world_of bus) (Stop c.args.tap) _ _ (returns-clause-follows c) tt c.requires.sound;
       clock = c.requires.clock;
-      room = omega (arith, ap length taps-back, size bus c.args.tap next stops, c.requires.room);
-      seats = subst (λ ts. AreSeated bus.params 0 (map seat_of ts)) (sym taps-back) (seated bus c.args.tap next c.requires stops);
-      cut = subst (IsCut w.now bus.over) (sym cut ∙ ap (map entry_of) (sym trace-back))
-          (cut-with w.now bus.over w.trace (map (cut_at bus.now c.args.tap) (drop bus.over w.trace)) (λ m at from. from-cut m bus.now c.args.tap (drop bus.over w.trace) from) c.requires.cut);
+      room = omega (arith, ap length back, size bus c.args.tap next stops, c.requires.room);
+      seats = subst (λ ts. AreSeated bus.params 0 (map seat_of ts)) (sym back) (seated bus c.args.tap next c.requires stops);
+      cut = cut-after bus.now (map (cut_at bus.now c.args.tap)) bus.trace c.cut.new.self c.cut.ensures
+          (λ m at from. from-cut m bus.now c.args.tap (recent_of bus.trace) from) c.requires.cut;
     }

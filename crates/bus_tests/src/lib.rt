@@ -1,0 +1,5 @@
+//! Tests of the calls of pb_world, and no code. What happens on whole buses is tested by event lists.
+#![tactic(auto)]
+
+#[cfg(test)]
+mod tests;

@@ -1,0 +1,218 @@
+mod memory;
+
+use arrayvec::ArrayVec;
+use pb_cycles::{Outcome, Request, Service};
+use pb_timers::BusParams;
+use pb_world::{AuditFault, Event, Kind, NewFault, TapSpec, World, WorldFault, audit, run};
+use std::process::Abort;
+
+/// A slot of 100, idle times 37 and 60, reply delay 11, no lag, rotation 10,000, GAP factor 10, highest
+/// address 5, one retry.
+fn usual(rt: &impl Abort) -> BusParams {
+    BusParams::new(100, 37, 60, 11, 0, 10_000, 10, 5, 1).expect(rt, "the usual parameters")
+}
+
+fn master(address: u8) -> TapSpec {
+    TapSpec {
+        address,
+        kind: Kind::Master,
+        reply: ArrayVec::new(),
+    }
+}
+
+/// A passive station that replies an octet.
+fn replying(address: u8, octet: u8) -> TapSpec {
+    let mut reply = ArrayVec::new();
+    reply.push(octet);
+    TapSpec {
+        address,
+        kind: Kind::Passive,
+        reply,
+    }
+}
+
+/// Two masters with the addresses 1 and 2, which don't run yet.
+fn two_masters(rt: &(impl AllocGlobal + Abort)) -> World {
+    let specs = [master(1), master(2)];
+    World::new(rt.alloc(), usual(rt), &specs).expect(rt, "a world")
+}
+
+/// A request of high priority for the data of station 7.
+fn request(rt: &impl Abort) -> Request {
+    Request::new(7, Service::Srd, true, ArrayVec::new()).expect(rt, "a request")
+}
+
+fn phase_name(world: &World, tap: usize) -> Option<&'static str> {
+    Some(world.station(tap)?.phase().name())
+}
+
+fn due(world: &World, tap: usize) -> Option<u64> {
+    Some(world.due(tap)?.get())
+}
+
+#[test]
+fn events_change_a_world(rt: HostRuntime) {
+    let alloc = rt.alloc();
+    let mut world = two_masters(&rt);
+    let second = world.station(1).expect(&rt, "a station");
+    assert_eq!(rt; (second.tap(), second.address()), (1, 2));
+    assert!(rt; world.station(2).is_none());
+    assert_eq!(rt; (due(&world, 1), due(&world, 2)), (None, None));
+    assert_eq!(rt; phase_name(&world, 0), Some("Offline"));
+    world.apply(alloc, Event::Start(0)).expect(&rt, "a start");
+    let passed = world.apply(alloc, Event::Pass(800)).expect(&rt, "a pass");
+    assert_eq!(rt; passed.now.get(), 800);
+    assert!(rt; passed.spoke.is_none());
+    assert!(rt; world.trace().is_empty());
+    let turn = world.apply(alloc, Event::Turn(0)).expect(&rt, "a turn");
+    assert_eq!(rt; turn.now.get(), 800);
+    let spoke = turn.spoke.expect(&rt, "a token");
+    assert_eq!(rt; spoke.as_slice(), [0xdc, 1, 1].as_slice());
+    assert_eq!(rt; world.trace().len(), 1);
+    assert_eq!(rt; phase_name(&world, 0), Some("Claim"));
+}
+
+/// A master claims the token, asks a passive station for its data, and gets it.
+#[test]
+fn a_master_asks_for_data(rt: HostRuntime) {
+    let alloc = rt.alloc();
+    let specs = [master(1), replying(7, 0xaa)];
+    let mut world = World::new(alloc, usual(&rt), &specs).expect(&rt, "a world");
+    let request = request(&rt);
+    for event in [
+        Event::Start(0),
+        Event::Start(1),
+        Event::Queue { tap: 0, request },
+    ] {
+        world.apply(alloc, event).expect(&rt, "an event");
+    }
+    let first = world.station(0).expect(&rt, "a station");
+    assert_eq!(rt; (first.queue().len_high(), first.queue().len_low()), (1, 0));
+    assert!(rt; first.last_outcome().is_none() && !first.las().complete());
+    for (bits, tap) in [
+        (800, 0),
+        (33, 0),
+        (37, 0),
+        (33, 0),
+        (37, 0),
+        (66, 1),
+        (11, 1),
+        (110, 0),
+    ] {
+        world.apply(alloc, Event::Pass(bits)).expect(&rt, "a pass");
+        world.apply(alloc, Event::Turn(tap)).expect(&rt, "a turn");
+    }
+    assert_eq!(rt; world.now().get(), 1127);
+    let first = world.station(0).expect(&rt, "a station");
+    assert_eq!(rt; first.queue().len_high(), 0);
+    assert!(rt; first.las().contains(1) && !first.las().contains(2));
+    let mut data = ArrayVec::new();
+    data.push(0xaa);
+    assert!(rt; first.last_outcome() == Some((7, Outcome::Data(data))));
+    let second = world.station(1).expect(&rt, "a station");
+    assert_eq!(rt; second.executed(), 1);
+}
+
+/// Of two starts of a tap the second is refused, and the tap runs.
+#[test]
+fn a_run_stops_at_the_first_refused_event(rt: HostRuntime) {
+    let alloc = rt.alloc();
+    let mut world = two_masters(&rt);
+    let twice = run(alloc, &mut world, &[Event::Start(0), Event::Start(0)]);
+    assert_eq!(rt; twice, Err((1, WorldFault::Running)));
+    assert_eq!(rt; phase_name(&world, 0), Some("Listening"));
+    assert_eq!(rt; due(&world, 0), Some(800));
+    let claim = run(alloc, &mut world, &[Event::Pass(800), Event::Turn(0)]);
+    assert_eq!(rt; claim, Ok(()));
+    let events = [Event::Pass(34), Event::Start(1), Event::Pass(33)];
+    assert_eq!(rt;
+        run(alloc, &mut world, &events),
+        Err((0, WorldFault::TooFar(833)))
+    );
+    assert_eq!(rt; world.now().get(), 800);
+    assert_eq!(rt; phase_name(&world, 1), Some("Offline"));
+    assert_eq!(rt; run(alloc, &mut world, &[]), Ok(()));
+}
+
+/// Two masters wait for a time-out of 800 and of 1000. Where the first starts at 200, both claim the token at 1000.
+#[test]
+fn a_run_is_judged(rt: HostRuntime) {
+    let alloc = rt.alloc();
+    let params = usual(&rt);
+    let specs = [master(1), master(2)];
+    let events = [
+        Event::Start(1),
+        Event::Pass(200),
+        Event::Start(0),
+        Event::Pass(800),
+        Event::Turn(0),
+        Event::Turn(1),
+    ];
+    let kept = audit(alloc, params, &specs, &events[..3]).expect(&rt, "an audit");
+    assert!(rt; kept.premise.is_none() && kept.illegal.is_none());
+    let broken = audit(alloc, params, &specs, &events).expect(&rt, "an audit");
+    let (number, clock) = broken.premise.expect(&rt, "a broken premise");
+    assert_eq!(rt; (number, clock.get()), (4, 1000));
+    assert_eq!(rt; broken.illegal, Some(1));
+    let no_taps = audit(alloc, params, &[], &[]).err();
+    assert_eq!(rt; no_taps, Some(AuditFault::New(NewFault::NoTaps)));
+    let twice = audit(alloc, params, &specs, &[Event::Start(0), Event::Start(0)]).err();
+    assert_eq!(rt; twice, Some(AuditFault::At(1, WorldFault::Running)));
+}
+
+/// A trace of 100,000 entries takes no more: no noise, and no turn that would speak.
+#[test]
+fn a_full_trace_takes_no_more(rt: HostRuntime) {
+    let alloc = rt.alloc();
+    let mut world = two_masters(&rt);
+    for _ in 0..100_000 {
+        world.apply(alloc, Event::Noise(1)).expect(&rt, "noise");
+        world.apply(alloc, Event::Pass(1)).expect(&rt, "a pass");
+    }
+    assert_eq!(rt; world.trace().len(), 100_000);
+    assert_eq!(rt;
+        world.apply(alloc, Event::Noise(1)).err(),
+        Some(WorldFault::TraceFull)
+    );
+    world.apply(alloc, Event::Start(0)).expect(&rt, "a start");
+    world.apply(alloc, Event::Pass(800)).expect(&rt, "a pass");
+    assert_eq!(rt;
+        world.apply(alloc, Event::Turn(0)).err(),
+        Some(WorldFault::TraceFull)
+    );
+    assert_eq!(rt; due(&world, 0), Some(100_800));
+    assert_eq!(rt; world.trace().len(), 100_000);
+}
+
+/// The texts of faults that no event list prints.
+#[test]
+fn faults_are_shown(rt: HostRuntime) {
+    let alloc = rt.alloc();
+    for (fault, text) in [
+        (
+            AuditFault::New(NewFault::BadAddress(31)),
+            "New BadAddress 31",
+        ),
+        (AuditFault::New(NewFault::NoMemory), "New NoMemory"),
+        (
+            AuditFault::At(2, WorldFault::TooFar(833)),
+            "At 2 TooFar 833",
+        ),
+        (AuditFault::At(0, WorldFault::TraceFull), "At 0 TraceFull"),
+        (AuditFault::At(0, WorldFault::NoMemory), "At 0 NoMemory"),
+    ] {
+        let shown = fault.to_string(alloc).expect(&rt, "memory");
+        assert_eq!(rt; shown.as_str(), text);
+    }
+}
+
+#[test]
+fn events_are_copied(rt: HostRuntime) {
+    let asked = Event::Queue {
+        tap: 2,
+        request: request(&rt),
+    };
+    assert!(rt; asked.copy() == asked);
+    assert!(rt; Event::Stop(2).copy() == Event::Stop(2));
+    assert!(rt; Event::Stop(2).copy() != Event::Start(2));
+}

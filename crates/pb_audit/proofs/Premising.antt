@@ -1,0 +1,266 @@
+-- What the premises ask of a bus.
+use Rattle.std.proofs.Common.{◌≡◌, ◌≢◌, ◌∙◌, ap, sym, subst, refl, arith, ℕ, zero, suc, ◌+◌, ◌-◌, ◌<◌, ◌≤◌, ◌&&◌, ◌||◌, nat_le, List, [], ◌∷◌, ◌++◌, length, Bool, true, false, if◌then◌else◌, Option, Some, None, Result, Ok}
+use Rattle.std.specs.Prelude.{take, drop, get_or, slice_get, slice_set, replicate, is_some, ◌==◌}
+use Rattle.std.specs.List.{list_any}
+use Rattle.std.specs.Option.{option_and_then}
+use Rattle.std.proofs.lemmas.Bool.{leb-true, eqb-true, eqb-false}
+use Rattle.std.proofs.lemmas.Bool.Decides.{nat_tests}
+use Rattle.std.proofs.lemmas.List.{take-append-drop, get_or-set_same, get_or-set_other, get_or-replicate}
+use Rattle.pb_timers.specs.Timers.{Params, tto}
+use Rattle.pb_timers.specs.ParamRules.{IsValid}
+use Rattle.pb_turn.specs.Stations.{due_of}
+use Rattle.pb_model.specs.Medium.{Tap}
+use Rattle.pb_model.specs.World.{World, Event, Reply, Fault, next_end, next_end_of}
+use Rattle.pb_model.specs.Step.{step}
+use Rattle.pb_model.specs.Laws.{IsSound}
+use Rattle.pb_model.proofs.Past.{next_end_of-skip}
+use Rattle.pb_model.proofs.Cases.{by_test}
+use Rattle.pb_theorem.specs.Activity.{is_silent}
+use Rattle.pb_theorem.specs.Premises.{Waited, Broken, Course, is_overdue, is_late, runs_at, has_namesakes, has_waited, waited_by, loses, comes_late, first_number, broken_or, followed, course_of}
+use Rattle.pb_theorem.specs.Quiet.{quiet_at}
+use Rattle.pb_theorem.specs.Watching.{Watched, passes_busy, new_meet, last_waited, watched_after, StandsFor}
+use Rattle.pb_theorem.proofs.Quiets.{silent-quiet}
+use Rattle.pb_theorem.proofs.Watching.{quiet-step, stands-followed}
+use Rattle.pb_medium.specs.Airs.{IsCut}
+use Rattle.pb_audit.specs.Premises.{IsFirstWaiting, waiting_of, met_by, last_by}
+use Rattle.pb_audit.specs.declared.premises.Waiting.{Waiting}
+use Rattle.pb_audit.specs.declared.premises.Waiting.TheVariants as waiting
+use Rattle.pb_medium.specs.Senses.{at_once}
+use Rattle.pb_bus.specs.Worlds.{due_at}
+use Rattle.std.proofs.Math.Bool.{or-true}
+
+-- ---- what is in the air is recent
+
+pub recent-end : (w : World) (over : ℕ) → w.params.ttd ≡ 0 → IsCut w.now over w.trace → next_end_of at_once w.now (drop over w.trace) ≡ next_end w
+recent-end w over none (m, at, some, old, recent) =
+    ap (λ (d : ℕ). next_end_of d w.now (drop over w.trace)) (sym none)
+    ∙ sym (next_end_of-skip w.params.ttd m w.now (take over w.trace) (drop over w.trace) none old at)
+    ∙ ap (next_end_of w.params.ttd w.now) (take-append-drop over w.trace)
+
+-- ---- time-outs
+
+behind-test : (a b c d e : Bool) → b ≡ c → (c ≡ true → d ≡ e) → ((a && b) && d) ≡ ((a && c) && e)
+behind-test true b c d e same rest = by_test-c c d e same rest
+  where
+    by_test-c : (c d e : Bool) → b ≡ c → (c ≡ true → d ≡ e) → (b && d) ≡ (c && e)
+    by_test-c true d e same rest = ap (λ (x : Bool). x && d) same ∙ rest refl
+    by_test-c false d e same rest = ap (λ (x : Bool). x && d) same
+behind-test false b c d e same rest = refl
+
+ran-for : (timeout since now : ℕ) → 0 < timeout → nat_le timeout (now - since) ≡ nat_le (since + timeout) now
+ran-for timeout since now some = grind (arith, nat_tests)
+
+silent-for : (timeout quiet now : ℕ) → 0 < timeout → timeout ≤ now → nat_le timeout (now - quiet) ≡ nat_le quiet (now - timeout)
+silent-for timeout quiet now some fits = grind (arith, nat_tests)
+
+timeout-some : (p : Params) (address : ℕ) → IsValid p → 0 < tto p address
+timeout-some p address valid = omega (arith, valid.slot_long)
+
+pub waited-is : (w : World) (position : ℕ) (t : Tap) (quiet timeout : ℕ) → w.params.ttd ≡ 0 → IsValid w.params → timeout ≡ tto w.params t.spec.address → quiet ≡ quiet_at w.now w.trace
+    → (t.running && t.spec.master && nat_le timeout (w.now - t.since) && nat_le timeout (w.now - quiet)) ≡ has_waited w position t
+waited-is w position t quiet timeout none valid is silent =
+    let p = w.params in
+    let full = tto p t.spec.address in
+    let some : 0 < full = timeout-some p t.spec.address valid in
+    ap (λ (n : ℕ). t.running && t.spec.master && nat_le n (w.now - t.since) && nat_le n (w.now - quiet)) is
+    ∙ ap (λ (n : ℕ). t.running && t.spec.master && nat_le full (w.now - t.since) && nat_le full (w.now - n)) silent
+    ∙ behind-test (t.running && t.spec.master) (nat_le full (w.now - t.since)) (nat_le (t.since + full) w.now) (nat_le full (w.now - quiet_at w.now w.trace))
+    (is_silent p.ttd position w.trace (w.now - full) w.now) (ran-for full t.since w.now some)
+    (λ ran.
+    let fits : full ≤ w.now = omega (arith, leb-true (t.since + full) w.now ran) in
+    silent-for full (quiet_at w.now w.trace) w.now some fits ∙ sym (silent-quiet p.ttd position (w.now - full) w.now w.trace none (omega (arith, some, fits))))
+
+-- ---- the first of what is left
+
+pub late-at : (w : World) (moment tap : ℕ) (t : Tap) → slice_get w.taps tap ≡ Some t → is_late w.params moment t ≡ is_overdue w.params.lag moment (due_at w tap)
+late-at w moment tap t at =
+    by_running t.running
+    ∙ ap (λ (o : Option Tap). is_overdue w.params.lag moment (option_and_then (λ (x : Tap). if x.running then due_of w.params x.station x.marks else None) o)) (sym at)
+  where
+    by_running : (b : Bool) → (b && is_overdue w.params.lag moment (due_of w.params t.station t.marks)) ≡ is_overdue w.params.lag moment (if b then due_of w.params t.station t.marks else None)
+    by_running true = refl
+    by_running false = refl
+
+pub any-here : {X : Type 0} (test : X → Bool) (left rest : List X) (x : X) → left ≡ x ∷ rest → test x ≡ true → list_any test left ≡ true
+any-here test left rest x here passes = ap (list_any test) here ∙ ap (λ (b : Bool). b || list_any test rest) passes
+
+pub any-later : {X : Type 0} (test : X → Bool) (left rest : List X) (x : X) → left ≡ x ∷ rest → test x ≡ false → list_any test left ≡ list_any test rest
+any-later test left rest x here fails = ap (list_any test) here ∙ ap (λ (b : Bool). b || list_any test rest) fails
+
+pub waits-here : (w : World) (tap : ℕ) (left rest : List Tap) (t : Tap) → left ≡ t ∷ rest → has_waited w tap t ≡ true
+    → waited_by w tap left ≡ record { tap = tap; moment = w.now } ∷ waited_by w (tap + 1) rest
+waits-here w tap left rest t here has =
+    ap (waited_by w tap) here ∙ ap (λ (b : Bool). if b then record { tap = tap; moment = w.now } ∷ waited_by w (tap + 1) rest else waited_by w (tap + 1) rest) has
+
+pub waits-later : (w : World) (tap : ℕ) (left rest : List Tap) (t : Tap) → left ≡ t ∷ rest → has_waited w tap t ≡ false
+    → waited_by w tap left ≡ waited_by w (tap + 1) rest
+waits-later w tap left rest t here has =
+    ap (waited_by w tap) here ∙ ap (λ (b : Bool). if b then record { tap = tap; moment = w.now } ∷ waited_by w (tap + 1) rest else waited_by w (tap + 1) rest) has
+
+-- ---- namesakes
+
+-- some taps run at those addresses that a table has
+abbrev pub RunAt : List Bool → List Tap → Type 0
+RunAt table ts = (n : ℕ) → n < 127 → get_or table n false ≡ list_any (runs_at n) ts
+
+pub none-runs : RunAt (replicate 127 false) []
+none-runs n small = get_or-replicate 127 n false false small
+
+runs-both : (running noted rest : Bool) → noted ≡ rest → (noted || running) ≡ ((running && true) || rest)
+runs-both true true rest same = refl
+runs-both true false rest same = refl
+runs-both false true rest same = same
+runs-both false false rest same = same
+
+runs-none : (running noted rest : Bool) → noted ≡ rest → noted ≡ ((running && false) || rest)
+runs-none true noted rest same = same
+runs-none false noted rest same = same
+
+noted-at : (table : List Bool) (t : Tap) (ts : List Tap) (n : ℕ) (same : Bool) → (t.spec.address == n) ≡ same → t.spec.address < length table → RunAt table ts → n < 127
+    → get_or (slice_set table t.spec.address (get_or table t.spec.address false || t.running)) n false ≡ list_any (runs_at n) (t ∷ ts)
+noted-at table t ts n true is there noted small =
+    let here : t.spec.address ≡ n = eqb-true t.spec.address n is in
+    let runs : Bool = get_or table t.spec.address false || t.running in
+    ap (λ (k : ℕ). get_or (slice_set table t.spec.address runs) k false) (sym here)
+    ∙ get_or-set_same table t.spec.address runs false there
+    ∙ runs-both t.running (get_or table t.spec.address false) (list_any (runs_at n) ts) (ap (λ (k : ℕ). get_or table k false) here ∙ noted n small)
+    ∙ ap (λ (b : Bool). (t.running && b) || list_any (runs_at n) ts) (sym is)
+noted-at table t ts n false is there noted small =
+    let other : n ≢ t.spec.address = λ (here : n ≡ t.spec.address). eqb-false t.spec.address n is (sym here) in
+    get_or-set_other table t.spec.address n (get_or table t.spec.address false || t.running) false other
+    ∙ runs-none t.running (get_or table n false) (list_any (runs_at n) ts) (noted n small)
+    ∙ ap (λ (b : Bool). (t.running && b) || list_any (runs_at n) ts) (sym is)
+
+-- the address of one more tap is noted, if it runs
+pub noted-more : (table : List Bool) (left ts : List Tap) (t : Tap) → left ≡ t ∷ ts → t.spec.address < length table → RunAt table ts
+    → RunAt (slice_set table t.spec.address (get_or table t.spec.address false || t.running)) left
+noted-more table left ts t here there noted n small =
+    noted-at table t ts n (t.spec.address == n) refl there noted small ∙ ap (list_any (runs_at n)) (sym here)
+
+-- a tap runs at an address that is noted, and so has a namesake
+pub namesake-noted : (table : List Bool) (left ts : List Tap) (t : Tap) → left ≡ t ∷ ts → t.spec.address < 127 → RunAt table ts → t.running ≡ true → get_or table t.spec.address false ≡ true
+    → has_namesakes left ≡ true
+namesake-noted table left ts t here small noted runs taken =
+    ap has_namesakes here ∙ ap (λ (b : Bool). (b && list_any (runs_at t.spec.address) ts) || has_namesakes ts) runs
+    ∙ ap (λ (b : Bool). b || has_namesakes ts) (sym (noted t.spec.address small) ∙ taken)
+
+-- a tap runs at no address that is noted, and so has no namesake
+pub no-namesake : (table : List Bool) (left ts : List Tap) (t : Tap) → left ≡ t ∷ ts → t.spec.address < 127 → RunAt table ts → (t.running && get_or table t.spec.address false) ≡ false
+    → has_namesakes ts ≡ false → has_namesakes left ≡ false
+no-namesake table left ts t here small noted free none =
+    ap has_namesakes here ∙ ap (λ (b : Bool). (t.running && b) || has_namesakes ts) (sym (noted t.spec.address small))
+    ∙ ap (λ (b : Bool). b || has_namesakes ts) free ∙ none
+
+-- one that has a namesake behind it stands behind others too
+pub namesakes-behind : (ts : List Tap) (place : ℕ) → has_namesakes (drop place ts) ≡ true → has_namesakes ts ≡ true
+namesakes-behind ts zero has = has
+namesakes-behind [] (suc place) has = has
+namesakes-behind (t ∷ ts) (suc place) has =
+    ap (λ (b : Bool). (t.running && list_any (runs_at t.spec.address) ts) || b) (namesakes-behind ts place has) ∙ or-true (t.running && list_any (runs_at t.spec.address) ts)
+
+-- ---- those that have waited out now
+
+-- all have waited out at the clock
+abbrev AllAt : ℕ → List Waited → Type 0
+AllAt now [] = Unit {0}
+AllAt now (one ∷ more) = (one.moment ≡ now) × AllAt now more
+
+all-at : (w : World) (tap : ℕ) (taps : List Tap) → AllAt w.now (waited_by w tap taps)
+all-at w tap [] = tt
+all-at w tap (t ∷ ts) =
+    by_test (λ (new : List Waited). AllAt w.now new) (has_waited w tap t) (record { tap = tap; moment = w.now } ∷ waited_by w (tap + 1) ts) (waited_by w (tap + 1) ts)
+    (λ _. (refl, all-at w (tap + 1) ts)) (λ _. all-at w (tap + 1) ts)
+
+met-of : (now : ℕ) (new : List Waited) (last : Option Waited) → AllAt now new → met_by now (waiting_of new) last ≡ new_meet 0 new last
+met-of now [] last all = refl
+met-of now (one ∷ []) last all = ap (λ (n : ℕ). new_meet 0 (record { tap = one.tap; moment = n } ∷ []) last) (sym all.0)
+met-of now (one ∷ other ∷ more) last all = refl
+
+last-is : (now : ℕ) (new : List Waited) (last : Option Waited) → AllAt now new → last_by now (waiting_of new) last ≡ last_waited new last
+last-is now [] last all = refl
+last-is now (one ∷ []) last all = ap (λ (n : ℕ). Some (record { tap = one.tap; moment = n })) (sym all.0)
+last-is now (one ∷ other ∷ more) last all = ap (λ (n : ℕ). Some (record { tap = one.tap; moment = n })) (sym all.0)
+
+pub met-now : (w : World) (last : Option Waited) → met_by w.now (waiting_of (waited_by w 0 w.taps)) last ≡ new_meet 0 (waited_by w 0 w.taps) last
+met-now w last = met-of w.now (waited_by w 0 w.taps) last (all-at w 0 w.taps)
+
+pub last-now : (w : World) (last : Option Waited) → last_by w.now (waiting_of (waited_by w 0 w.taps)) last ≡ last_waited (waited_by w 0 w.taps) last
+last-now w last = last-is w.now (waited_by w 0 w.taps) last (all-at w 0 w.taps)
+
+-- ---- one of the taps by its place
+
+pub item-left : {X : Type 0} (xs : List X) (i : ℕ) → i < length xs → (x : X) × (slice_get xs i ≡ Some x) × (drop i xs ≡ x ∷ drop (i + 1) xs)
+item-left [] i there = absurd (omega (arith, there))
+item-left (x ∷ xs) zero there = (x, refl, refl)
+item-left {X} (x ∷ xs) (suc i) there =
+    let rest = item-left xs i (omega (arith, there)) in
+    let place : suc (i + 1) ≡ suc i + 1 = omega arith in
+    (rest.0, rest.1, subst (λ (n : ℕ). drop i xs ≡ rest.0 ∷ drop n (x ∷ xs)) place rest.2)
+
+pub late-here : (w : World) (moment tap : ℕ) → tap < length w.taps → is_overdue w.params.lag moment (due_at w tap) ≡ true
+    → list_any (is_late w.params moment) w.taps ≡ list_any (is_late w.params moment) (drop tap w.taps) → list_any (is_late w.params moment) w.taps ≡ true
+late-here w moment tap there late none =
+    let item = item-left w.taps tap there in
+    none ∙ any-here (is_late w.params moment) (drop tap w.taps) (drop (tap + 1) w.taps) item.0 item.2 (late-at w moment tap item.0 item.1 ∙ late)
+
+pub late-later : (w : World) (moment tap : ℕ) → tap < length w.taps → is_overdue w.params.lag moment (due_at w tap) ≡ false
+    → list_any (is_late w.params moment) w.taps ≡ list_any (is_late w.params moment) (drop tap w.taps)
+    → list_any (is_late w.params moment) w.taps ≡ list_any (is_late w.params moment) (drop (tap + 1) w.taps)
+late-later w moment tap there late none =
+    let item = item-left w.taps tap there in
+    none ∙ any-later (is_late w.params moment) (drop tap w.taps) (drop (tap + 1) w.taps) item.0 item.2 (late-at w moment tap item.0 item.1 ∙ late)
+
+-- ---- those that wait, by the first of them and the first behind it
+
+pub waiting-one : (w : World) (tap : ℕ) → IsFirstWaiting w 0 (Some tap) → IsFirstWaiting w (tap + 1) None → waiting.One tap ≡ waiting_of (waited_by w 0 w.taps)
+waiting-one w tap (from, there, is) none =
+    sym (ap waiting_of is ∙ ap (λ (more : List Waited). waiting_of (record { tap = tap; moment = w.now } ∷ more)) none)
+
+pub waiting-several : (w : World) (tap next : ℕ) → IsFirstWaiting w 0 (Some tap) → IsFirstWaiting w (tap + 1) (Some next) → waiting.Several tap ≡ waiting_of (waited_by w 0 w.taps)
+waiting-several w tap next (from, there, is) (behind, too, another) =
+    sym (ap waiting_of is ∙ ap (λ (more : List Waited). waiting_of (record { tap = tap; moment = w.now } ∷ more)) another)
+
+-- ---- a watch
+
+pub after-is : (v : Watched) (w next : World) (e : Event) (quiet : ℕ) (waited : Option Waited) (broken : Option Broken) (busy namesakes lost late met : Bool) (number : Option ℕ)
+    (waiting : Waiting) → IsSound next
+    → busy ≡ passes_busy w e → lost ≡ loses e → late ≡ comes_late w e → quiet ≡ (if busy then next.now else v.quiet)
+    → waiting ≡ waiting_of (waited_by next 0 next.taps) → waited ≡ last_by next.now waiting v.waited → met ≡ met_by next.now waiting v.waited
+    → namesakes ≡ has_namesakes next.taps → number ≡ first_number namesakes lost late met → broken ≡ broken_or v.broken next.now number
+    → record { quiet = quiet; waited = waited; broken = broken } ≡ watched_after v w e next
+after-is v w next e quiet waited broken busy namesakes lost late met number waiting sound isbusy islost islate isquiet iswaiting iswaited ismet isnamesakes isnumber isbroken =
+    let new = waited_by next 0 next.taps in
+    let same_quiet : quiet ≡ (if passes_busy w e then next.now else v.quiet) = isquiet ∙ ap (λ (b : Bool). if b then next.now else v.quiet) isbusy in
+    let same_waited : waited ≡ last_waited new v.waited = iswaited ∙ ap (λ (o : Waiting). last_by next.now o v.waited) iswaiting ∙ last-now next v.waited in
+    let same_met : met ≡ new_meet next.params.ttd new v.waited =
+    ismet ∙ ap (λ (o : Waiting). met_by next.now o v.waited) iswaiting ∙ met-now next v.waited ∙ ap (λ (d : ℕ). new_meet d new v.waited) (sym sound.no_delay) in
+    let same_number : number ≡ first_number (has_namesakes next.taps) (loses e) (comes_late w e) (new_meet next.params.ttd new v.waited) =
+    isnumber ∙ ap (λ (b : Bool). first_number b lost late met) isnamesakes ∙ ap (λ (b : Bool). first_number (has_namesakes next.taps) b late met) islost
+    ∙ ap (λ (b : Bool). first_number (has_namesakes next.taps) (loses e) b met) islate ∙ ap (λ (b : Bool). first_number (has_namesakes next.taps) (loses e) (comes_late w e) b) same_met in
+    let same_broken : broken ≡ broken_or v.broken next.now (first_number (has_namesakes next.taps) (loses e) (comes_late w e) (new_meet next.params.ttd new v.waited)) =
+    isbroken ∙ ap (λ (o : Option ℕ). broken_or v.broken next.now o) same_number in
+    let first : ℕ → Watched = λ n. record { quiet = n; waited = waited; broken = broken } in
+    let second : Option Waited → Watched = λ o. record { quiet = (if passes_busy w e then next.now else v.quiet); waited = o; broken = broken } in
+    let third : Option Broken → Watched = λ o. record { quiet = (if passes_busy w e then next.now else v.quiet); waited = last_waited new v.waited; broken = o } in
+    ap first same_quiet ∙ ap second same_waited ∙ ap third same_broken
+
+pub goes-on : (v after : Watched) (w next : World) (e : Event) (reply : Reply) → IsSound w → IsSound next → step w e ≡ Ok (next, reply) → after ≡ watched_after v w e next
+    → (c : Course) → c.world ≡ w → StandsFor v c → StandsFor after (followed c e (step c.world e))
+goes-on v after w next e reply sound kept ok is c at stands =
+    subst (λ (x : Watched). StandsFor x (followed c e (step c.world e))) (sym (subst (λ (x : World). after ≡ watched_after v x e next) (sym at) is))
+    (stands-followed v c next e reply (subst IsSound (sym at) sound) kept (subst (λ (x : World). step x e ≡ Ok (next, reply)) (sym at) ok) stands)
+
+pub silent-on : (w next : World) (e : Event) (reply : Reply) (busy : Bool) (quiet : ℕ) → IsSound w → step w e ≡ Ok (next, reply) → busy ≡ passes_busy w e → quiet ≡ quiet_at w.now w.trace
+    → (if busy then next.now else quiet) ≡ quiet_at next.now next.trace
+silent-on w next e reply busy quiet sound ok isbusy silent =
+    ap (λ (b : Bool). if b then next.now else quiet) isbusy ∙ ap (λ (n : ℕ). if passes_busy w e then next.now else n) silent ∙ sym (quiet-step w next e reply sound ok)
+
+-- ---- a run
+
+pub course-more : (c : Course) (events : List Event) (e : Event) → course_of c (events ++ e ∷ []) ≡ followed (course_of c events) e (step (course_of c events).world e)
+course-more c [] e = refl
+course-more c (x ∷ events) e = course-more (followed c x (step c.world x)) events e
+
+pub world-followed : (c : Course) (w next : World) (e : Event) (reply : Reply) → c.world ≡ w → step w e ≡ Ok (next, reply) → (followed c e (step c.world e)).world ≡ next
+world-followed c w next e reply at ok =
+    ap (λ (r : Result (World × Reply) Fault). (followed c e r).world) (ap (λ (x : World). step x e) at ∙ ok)

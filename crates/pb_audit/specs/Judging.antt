@@ -1,0 +1,15 @@
+-- What one pass over a trace keeps, as the definitions say it.
+use Rattle.std.specs.Prelude.{List, map}
+use Rattle.pb_model.specs.Medium as model
+use Rattle.pb_theorem.specs.Judging as judging
+use Rattle.pb_medium.specs.Entries.{record_of}
+use Rattle.pb_taps.specs.Taps.{tap_of}
+use Rattle.pb_audit.specs.declared.legality.LastInitiator.{LastInitiator}
+use Rattle.pb_taps.specs.declared.taps.Tap.{Tap}
+
+abbrev pub last_of : LastInitiator → judging.LastInitiator
+last_of last = record { telegram = record_of last.telegram.now; silent = last.silent }
+
+-- what each of some taps is
+abbrev pub specs_at : List Tap → List model.TapSpec
+specs_at taps = map (λ t. t.spec) (map tap_of taps)

@@ -1,0 +1,185 @@
+ghost use Rattle.std.specs.Prelude.{◌≡◌, ◌+◌, None, map, nat_le, slice_get};
+ghost use Rattle.std.specs.Option.{option_map};
+ghost use Rattle.pb_theorem.specs.Initiators as initiators;
+ghost use Rattle.pb_theorem.specs.Judging.{IsOrdered, claims_after, goes_on_after, is_between, last_after, may_come, may_follow, slot_after, takes_after};
+ghost use Rattle.pb_theorem.specs.Legality as legality;
+ghost use Rattle.pb_medium.specs.Entries.{entry_of, record_of};
+ghost use Rattle.pb_audit.specs.Judging.{last_of, specs_at};
+
+use crate::ends::{Ends, begin_of, end_of};
+use crate::initiators::{claims_for, is_initiator, offered_to};
+use pb_medium::{Entry, Heard, Record};
+use pb_taps::Tap;
+use pb_timers::BusParams;
+
+/// The address of a tap that is none: a telegram goes to 127 at most.
+const NO_ADDRESS: u8 = 255;
+
+/// The last initiator record before an entry.
+#[derive(Clone, Copy, Debug)]
+struct LastInitiator<'a> {
+    telegram: &'a Record,
+    /// Whether nothing was on the bus in the slot behind it so far.
+    silent: bool,
+}
+
+/// The position of the first illegal initiator record of a trace that stands in order, in one pass.
+pub(crate) fn first_illegal(params: &BusParams, taps: &[Tap], trace: &[Entry]) -> Option<usize>
+    ensures { params.now.ttd ≡ 0 → IsOrdered (map entry_of trace.now) → result
+        ≡ legality.first_illegal params.now (specs_at taps.now) (map entry_of trace.now) }
+{
+    let mut ends = Ends::none();
+    let mut last = None;
+    for (place, entry) in trace.iter().enumerate() {
+        if !may_come(params, taps, ends, last, entry) {
+            return Some(place);
+        }
+        ends = ends.with(entry);
+        last = last_after(params.tsl(), ends, last, entry);
+    }
+    None
+}
+
+/// Whether an entry is no illegal initiator record.
+fn may_come(
+    params: &BusParams,
+    taps: &[Tap],
+    ends: Ends,
+    last: Option<LastInitiator>,
+    entry: &Entry,
+) -> bool
+    ensures { result
+        ≡ may_come params.now (specs_at taps.now) ends (option_map last_of last.entry) (entry_of entry.now) }
+{
+    match entry {
+        Entry::Sent(telegram) => !is_initiator(telegram)
+            || may_follow(params, taps, ends, last, telegram),
+        Entry::Noise { .. } => true,
+    }
+}
+
+/// The last initiator record behind an entry, with the ends behind it.
+fn last_after<'a>(
+    slot: u32,
+    ends: Ends,
+    last: Option<LastInitiator<'a>>,
+    entry: &'a Entry,
+) -> Option<LastInitiator<'a>>
+    ensures { option_map last_of result
+        ≡ last_after slot ends (option_map last_of last.entry) (entry_of entry.now) }
+{
+    match entry {
+        Entry::Sent(telegram) if is_initiator(telegram) => Some(LastInitiator {
+            telegram,
+            silent: ends.latest() <= telegram.end,
+        }),
+        _ => slot_after(slot, entry, last),
+    }
+}
+
+/// Whether an initiator record is legal behind the last one: the first of all has to be a claim.
+fn may_follow(
+    params: &BusParams,
+    taps: &[Tap],
+    ends: Ends,
+    last: Option<LastInitiator>,
+    telegram: &Record,
+) -> bool
+    ensures { result
+        ≡ may_follow params.now (specs_at taps.now) ends (option_map last_of last.entry)
+        (record_of telegram.now) }
+{
+    match last {
+        Some(last) => last.telegram.end <= telegram.begin
+            && (follows(params, taps, last, telegram) || claims(params, taps, ends, telegram)),
+        None => claims(params, taps, ends, telegram),
+    }
+}
+
+/// The last initiator record behind an entry that is none.
+fn slot_after<'a>(
+    slot: u32,
+    entry: &Entry,
+    last: Option<LastInitiator<'a>>,
+) -> Option<LastInitiator<'a>>
+    ensures { option_map last_of result
+        ≡ slot_after slot (entry_of entry.now) (option_map last_of last.entry) }
+{
+    let LastInitiator { telegram, silent } = last?;
+    Some(LastInitiator {
+        telegram,
+        silent: silent && !is_in_slot(telegram.end, slot, entry),
+    })
+}
+
+/// Whether a telegram follows the last initiator record: after one that offers the token to nobody its
+/// speaker goes on.
+fn follows(params: &BusParams, taps: &[Tap], last: LastInitiator, telegram: &Record) -> bool
+    ensures { result
+        ≡ goes_on_after params.now (specs_at taps.now) (last_of last.entry)
+        (initiators.offered_to (last_of last.entry).telegram) (record_of telegram.now) }
+{
+    match offered_to(last.telegram) {
+        Some(to) => follows_token(params, taps, last, to, telegram),
+        None => last.telegram.tap == telegram.tap,
+    }
+}
+
+/// Whether a telegram is a claim: its speaker's token to itself, before which nothing was on the bus for
+/// the speaker's time-out.
+fn claims(params: &BusParams, taps: &[Tap], ends: Ends, telegram: &Record) -> bool
+    ensures { result ≡ claims_after params.now (specs_at taps.now) ends (record_of telegram.now) }
+{
+    let address = address_at(taps, telegram.tap);
+    claims_for(telegram, address)
+        && ends.before(telegram.begin) <= telegram.begin.saturating_sub(params.tto(address))
+}
+
+/// Whether an entry is on the bus in the slot behind an end.
+fn is_in_slot(end: u64, slot: u32, entry: &Entry) -> bool
+    ensures { result ≡ is_between end (end + slot) (entry_of entry.now) }
+{
+    !is_slot_over(end, slot, begin_of(entry)) && end < end_of(entry)
+}
+
+/// Whether a telegram follows a token to an address: its speaker passes it again after a slot in silence, or
+/// the station that heard it whole has taken it within the slot.
+fn follows_token(
+    params: &BusParams,
+    taps: &[Tap],
+    last: LastInitiator,
+    to: u8,
+    telegram: &Record,
+) -> bool
+    ensures { result
+        ≡ takes_after params.now (specs_at taps.now) (last_of last.entry) to (record_of telegram.now) }
+{
+    let is_late = is_slot_over(last.telegram.end, params.tsl(), telegram.begin);
+    if last.telegram.tap == telegram.tap {
+        return is_late && last.silent;
+    }
+    to == address_at(taps, telegram.tap) && is_whole(last.telegram, telegram.tap) && !is_late
+}
+
+fn address_at(taps: &[Tap], tap: usize) -> u8
+    ensures { result ≡ legality.address_at (specs_at taps.now) tap }
+{
+    match taps.get(tap) {
+        Some(tap) => tap.station.address(),
+        None => NO_ADDRESS,
+    }
+}
+
+/// Whether the slot behind an end is over at a moment.
+fn is_slot_over(end: u64, slot: u32, moment: u64) -> bool
+    ensures { result ≡ nat_le (end + slot) moment }
+{
+    end <= moment && u64::from(slot) <= moment - end
+}
+
+/// Whether a telegram came whole to a tap.
+fn is_whole(telegram: &Record, tap: usize) -> bool
+    ensures { result ≡ legality.is_whole (slice_get (record_of telegram.now).heard tap) }
+{
+    matches!(telegram.heard.get(tap), Some(Heard::Whole))
+}

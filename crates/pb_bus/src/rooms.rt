@@ -1,0 +1,35 @@
+ghost use Rattle.std.specs.Prelude.{◌≡◌, ◌≤◌, ◌<◌, true, is_some, IfErr, OnOk, Some, slice_get, length, map};
+ghost use Rattle.pb_model.specs.Laws.{AllInOrder};
+ghost use Rattle.pb_model.specs.World.{clock_limit};
+ghost use Rattle.pb_medium.specs.Speaking.{RefusesSaid};
+ghost use Rattle.pb_medium.specs.Traces.{entries_of, HasRoom, StaysAs};
+ghost use Rattle.pb_taps.specs.Taps.{tap_of};
+ghost use Rattle.pb_taps.specs.Turning.{says};
+ghost use Rattle.pb_taps.specs.declared.taps.Tap as declared;
+
+use pb_medium::Trace;
+use pb_taps::{Tap, WorldFault, would_speak};
+use pb_timers::Moment;
+
+/// Makes room for what the station at a tap would say in its turn, if anything. Faults, the first that applies:
+/// `TraceFull`; `NoMemory`.
+pub(crate) fn make_room(
+    trace: &mut Trace,
+    taps: &[Tap],
+    tap: usize,
+    now: Moment,
+) -> Result<(), WorldFault>
+    requires place { tap < length taps.now }
+    requires clock { now ≤ clock_limit }
+    requires order { AllInOrder now (map tap_of taps.now) }
+    ensures same { StaysAs trace.old trace.new }
+    ensures ok { (t : declared.Tap) → slice_get taps.now tap ≡ Some t
+        → OnOk result (is_some (says t now) ≡ true → HasRoom trace.new) }
+    ensures fault { (t : declared.Tap) → slice_get taps.now tap ≡ Some t
+        → IfErr result (RefusesSaid (says t now) (length (entries_of trace.old))) }
+{
+    if !trace.has_room() && would_speak(taps, tap, now) {
+        trace.make_room()?;
+    }
+    Ok(())
+}

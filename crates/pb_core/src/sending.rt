@@ -1,0 +1,67 @@
+use arrayvec::ArrayVec;
+use pb_telegram::copy_octets;
+use std::marker::Model;
+
+/// What a station sends in a turn, if anything. Its room for octets is used again in each turn.
+#[derive(Debug, Drop)]
+pub struct SendBuffer {
+    octets: ArrayVec<u8, 255>,
+    sent: bool,
+}
+
+impl Model for SendBuffer {
+    ghost use Rattle.std.specs.Prelude.{List, ℕ, Option, Some, None, if◌then◌else◌};
+
+    ghost Value = { Option (List ℕ) };
+
+    ghost view = { λ b. if b.sent then Some b.octets.items else None };
+}
+
+impl SendBuffer {
+    ghost use Rattle.std.specs.Prelude.{◌≡◌, ◌≤◌, Some, None, MatchOption, length};
+    ghost use Rattle.pb_core.specs.Sending.{octets_of};
+
+    /// Nothing is sent.
+    pub fn new() -> SendBuffer
+        ensures { result ≡ None }
+    {
+        SendBuffer {
+            octets: ArrayVec::new(),
+            sent: false,
+        }
+    }
+
+    /// Nothing is sent.
+    pub fn clear(&mut self)
+        ensures { self.new ≡ None }
+    {
+        self.sent = false;
+    }
+
+    /// These octets are sent.
+    pub fn send(&mut self, octets: &ArrayVec<u8, 255>)
+        ensures { self.new ≡ Some octets.now.items }
+    {
+        self.octets.clear();
+        self.octets.try_extend_from_slice(octets).unwrap();
+        self.sent = true;
+    }
+
+    /// The octets that are sent.
+    pub fn octets(&self) -> Option<&[u8]>
+        ensures { MatchOption result (self.now ≡ None) (λ octets. (self.now ≡ Some octets.now)
+            × (length octets.now ≤ 255)) }
+    {
+        if self.sent {
+            return Some(&self.octets);
+        }
+        None
+    }
+
+    /// A copy of the octets that are sent.
+    pub fn copy(&self) -> Option<ArrayVec<u8, 255>>
+        ensures { octets_of result ≡ self.now }
+    {
+        Some(copy_octets(self.octets()?))
+    }
+}

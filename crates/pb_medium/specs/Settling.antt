@@ -1,0 +1,29 @@
+-- What a pass does to the entries of the trace.
+use Rattle.std.specs.Prelude.{ℕ, List, length, map, drop, is_some, if◌then◌else◌, Option, Some, None}
+use Rattle.pb_model.specs.Trace.{Heard, Record, Entry, Sent, Noise}
+use Rattle.pb_model.specs.Medium.{Tap, entry_at, is_whole_at, heard_in_the_end}
+use Rattle.pb_model.specs.World.{next_end_of}
+use Rattle.pb_medium.specs.Senses.{at_once}
+
+-- what a telegram that has ended was to the tap at a position, if there is one
+abbrev pub heard_with : ℕ → List Entry → Record → ℕ → Option Tap → Heard → Heard
+heard_with delay trace r tap None h = h
+heard_with delay trace r tap (Some t) h = heard_in_the_end (is_whole_at delay tap t trace r) h
+
+-- an entry whose telegram, if it is one, was this to the taps
+abbrev pub with_heard : List Heard → Entry → Entry
+with_heard hs (Noise span) = Noise span
+with_heard hs (Sent r) = Sent (record r { heard = hs })
+
+-- an entry whose telegram is known by now, or not yet
+abbrev pub settled_as : Option (List Heard) → Entry → Entry
+settled_as None e = e
+settled_as (Some hs) e = with_heard hs e
+
+-- entries after a pass from one moment to another
+abbrev pub settled : List Tap → ℕ → ℕ → List Entry → List Entry
+settled taps from to entries = map (entry_at at_once taps entries from to) entries
+
+-- how many entries are over: all of them, where none behind those that were over is in the air
+abbrev pub over_after : ℕ → ℕ → List Entry → ℕ
+over_after now over entries = if is_some (next_end_of at_once now (drop over entries)) then over else length entries

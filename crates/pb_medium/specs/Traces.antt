@@ -1,0 +1,41 @@
+-- The trace of a medium: what had ended before all else began, and the recent entries.
+use Rattle.std.specs.Prelude.{◌≡◌, ◌≤◌, ◌<◌, ℕ, List, length, map, take, drop, ◌++◌, vec_capacity}
+use Rattle.pb_model.specs.Trace as model
+use Rattle.pb_model.specs.World.{trace_limit}
+use Rattle.pb_medium.specs.Entries.{entry_of}
+use Rattle.pb_medium.specs.declared.traces.Trace.{Trace}
+use Rattle.pb_taps.specs.declared.faults.WorldFault.{WorldFault}
+use Rattle.pb_taps.specs.declared.faults.WorldFault.TheVariants as fault
+
+-- all entries
+abbrev pub entries_of : Trace → List model.Entry
+entries_of t = map entry_of t.entries.items
+
+-- how many of them had ended before all others began
+abbrev pub over_of : Trace → ℕ
+over_of t = t.over
+
+-- the others
+abbrev pub recent_of : Trace → List model.Entry
+recent_of t = drop t.over (entries_of t)
+
+-- the recent entries change, and nothing else
+pub record RecentBecomes (change : List model.Entry → List model.Entry) (before after : Trace) : Type 0 where
+  pub over : over_of after ≡ over_of before
+  pub entries : entries_of after ≡ take (over_of before) (entries_of before) ++ change (recent_of before)
+
+-- no entry changes
+pub record StaysAs (before after : Trace) : Type 0 where
+  pub over : over_of after ≡ over_of before
+  pub entries : entries_of after ≡ entries_of before
+
+-- one entry more needs no memory
+pub record HasRoom (t : Trace) : Type 0 where
+  pub few : length t.entries.items < trace_limit
+  pub held : length t.entries.items < vec_capacity t.entries
+
+-- why there is no room for one entry more: there are as many as there may be, or memory was refused
+abbrev pub RefusesRoom : Trace → WorldFault → Type 0
+RefusesRoom t fault.TraceFull = trace_limit ≤ length (entries_of t)
+RefusesRoom t fault.NoMemory = length (entries_of t) < trace_limit
+RefusesRoom t other = ⊥

@@ -1,0 +1,119 @@
+ghost use Rattle.std.specs.Prelude.{◌≡◌, length, map, slice_get};
+ghost use Rattle.std.specs.Option.{option_map};
+ghost use Rattle.pb_model.specs.Medium.{entry_at, heard_by};
+ghost use Rattle.pb_medium.specs.Entries.{entry_of, heard_of, record_of};
+ghost use Rattle.pb_medium.specs.Senses.{at_once};
+ghost use Rattle.pb_medium.specs.Settling.{heard_with, settled, settled_as};
+ghost use Rattle.pb_taps.specs.Taps.{tap_of};
+
+use crate::entries::{Entry, Heard, Record};
+use crate::senses::{is_whole_at, next_end};
+use crate::traces::Trace;
+use arrayvec::ArrayVec;
+use pb_taps::Tap;
+use pb_timers::Moment;
+
+impl Trace {
+    ghost use Rattle.std.specs.Prelude.{◌≡◌, ◌≤◌, ℕ, map};
+    ghost use Rattle.pb_model.specs.Laws.{AllBegun};
+    ghost use Rattle.pb_medium.specs.Airs.{IsCut};
+    ghost use Rattle.pb_medium.specs.Settling.{over_after, settled};
+    ghost use Rattle.pb_medium.specs.Traces.{entries_of, over_of, RecentBecomes};
+    ghost use Rattle.pb_taps.specs.Taps.{tap_of};
+
+    /// Time has passed: telegrams that have reached the taps in the meantime are no longer pending.
+    pub fn settle(&mut self, taps: &[Tap], from: Moment, to: Moment)
+        ensures { RecentBecomes (settled (map tap_of taps.now) from to) self.old self.new }
+    {
+        settle(&mut self.entries[self.over..], taps, from, to);
+    }
+
+    /// All entries are over, where nothing is in the air.
+    pub fn close(&mut self, now: Moment)
+        ensures entries { entries_of self.new ≡ entries_of self.old }
+        ensures over { over_of self.new ≡ over_after now (over_of self.old) (entries_of self.old) }
+        ensures cut { (before : ℕ) → before ≤ now → IsCut before (over_of self.old) (entries_of self.old)
+            → AllBegun now (entries_of self.old) → IsCut now (over_of self.new) (entries_of self.new) }
+    {
+        if next_end(self.recent(), now.get()).is_none() {
+            self.over = self.entries.len();
+        }
+    }
+}
+
+/// Telegrams that have reached the taps in the meantime are no longer pending.
+fn settle(entries: &mut [Entry], taps: &[Tap], from: Moment, to: Moment)
+    ensures length { length entries.new ≡ length entries.old }
+    ensures settled { map entry_of entries.new
+        ≡ settled (map tap_of taps.now) from to (map entry_of entries.old) }
+{
+    for place in 0..entries.len() {
+        let known = &entries[..];
+        let heard = outcome(known, &known[place], taps, from, to);
+        settle_entry(&mut entries[place], heard);
+    }
+}
+
+/// A telegram that was something to the taps is no longer pending.
+fn settle_entry(entry: &mut Entry, heard: Option<ArrayVec<Heard, 32>>)
+    ensures { entry_of entry.new
+        ≡ settled_as (option_map (λ heard. map heard_of heard.items) heard) (entry_of entry.old) }
+{
+    if let (Entry::Sent(telegram), Some(heard)) = (entry, heard) {
+        telegram.heard = heard;
+    }
+}
+
+/// What a telegram of the entries was to each tap, if it has reached them in the meantime.
+fn outcome(
+    entries: &[Entry],
+    entry: &Entry,
+    taps: &[Tap],
+    from: Moment,
+    to: Moment,
+) -> Option<ArrayVec<Heard, 32>>
+    ensures { settled_as (option_map (λ heard. map heard_of heard.items) result) (entry_of entry.now)
+        ≡ entry_at at_once (map tap_of taps.now) (map entry_of entries.now) from to (entry_of entry.now) }
+{
+    match entry {
+        Entry::Sent(telegram) if from.get() < telegram.end && telegram.end <= to.get() => {
+            Some(heard_in_the_end(entries, telegram, taps))
+        }
+        _ => None,
+    }
+}
+
+/// What a telegram of the entries was to each tap, once it has ended.
+fn heard_in_the_end(entries: &[Entry], telegram: &Record, taps: &[Tap]) -> ArrayVec<Heard, 32>
+    ensures { map heard_of result.items
+        ≡ heard_by at_once (map entry_of entries.now) (record_of telegram.now) 0
+        (map tap_of taps.now) (record_of telegram.now).heard }
+{
+    let mut heard = ArrayVec::new();
+    for (position, before) in telegram.heard.iter().enumerate() {
+        heard.push(heard_at(entries, telegram, taps, position, *before));
+    }
+    heard
+}
+
+/// What a telegram of the entries was to the tap at a position, if there is one, once it has ended.
+fn heard_at(
+    entries: &[Entry],
+    telegram: &Record,
+    taps: &[Tap],
+    position: usize,
+    before: Heard,
+) -> Heard
+    ensures { heard_of result
+        ≡ heard_with at_once (map entry_of entries.now) (record_of telegram.now) position
+        (slice_get (map tap_of taps.now) position) (heard_of before) }
+{
+    let Some(tap) = taps.get(position) else {
+        return before;
+    };
+    match before {
+        Heard::Pending if is_whole_at(entries, position, tap, telegram) => Heard::Whole,
+        Heard::Pending => Heard::Damaged,
+        settled => settled,
+    }
+}

@@ -1,0 +1,79 @@
+ghost use Rattle.std.specs.Prelude.{◌≤◌, length};
+
+use crate::entries::Entry;
+use crate::placing::place_among;
+use pb_taps::WorldFault;
+use std::alloc::Global;
+
+/// How many entries a trace may have.
+const TRACE_LIMIT: usize = 100_000;
+
+/// All that was on a medium, in order: what had ended before all else began, and the recent entries.
+#[derive(Drop)]
+pub struct Trace {
+    pub(crate) entries: Vec<Entry>,
+    /// How many entries had ended before all others began.
+    pub(crate) over: usize,
+    ghost within: { over ≤ length entries.items },
+}
+
+impl Trace {
+    ghost use Rattle.std.specs.Prelude.{◌≡◌, [], IsTrue, ◌↔◌, IfErr, OnOk, map};
+    ghost use Rattle.pb_model.specs.Trace.{with_entry};
+    ghost use Rattle.pb_medium.specs.Entries.{entry_of};
+    ghost use Rattle.pb_medium.specs.Traces.{entries_of, over_of, recent_of, HasRoom, RecentBecomes, RefusesRoom, StaysAs};
+
+    /// A trace without entries.
+    pub fn new(alloc: Global) -> Trace
+        ensures empty { entries_of result ≡ [] }
+        ensures over { over_of result ≡ 0 }
+    {
+        Trace {
+            entries: Vec::new(alloc),
+            over: 0,
+        }
+    }
+
+    /// All entries, in order.
+    pub fn entries(&self) -> &[Entry]
+        ensures { map entry_of result.now ≡ entries_of self.entry.now }
+    {
+        &self.entries
+    }
+
+    /// The entries behind those that are over.
+    pub fn recent(&self) -> &[Entry]
+        ensures { map entry_of result.now ≡ recent_of self.entry.now }
+    {
+        &self.entries[self.over..]
+    }
+
+    /// Whether it takes one entry more without asking for memory.
+    pub fn has_room(&self) -> bool
+        ensures { IsTrue result ↔ HasRoom self.now }
+    {
+        self.entries.len() < self.entries.capacity().min(TRACE_LIMIT)
+    }
+
+    /// Makes room for one entry more. Faults, the first that applies: `TraceFull`; `NoMemory`.
+    pub fn make_room(&mut self) -> Result<(), WorldFault>
+        ensures same { StaysAs self.old self.new }
+        ensures ok { OnOk result (HasRoom self.new) }
+        ensures fault { IfErr result (RefusesRoom self.old) }
+    {
+        if self.entries.len() >= TRACE_LIMIT {
+            return Err(WorldFault::TraceFull);
+        }
+        self.entries.reserve(1)?;
+        Ok(())
+    }
+
+    /// Puts an entry among the recent ones.
+    pub(crate) fn put(&mut self, entry: Entry)
+        requires { HasRoom self.old }
+        ensures { RecentBecomes (with_entry (entry_of entry)) self.old self.new }
+    {
+        let place = self.over + place_among(self.recent(), &entry);
+        self.entries.insert(place, entry).unwrap();
+    }
+}
