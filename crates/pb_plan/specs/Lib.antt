@@ -1,0 +1,4 @@
+pub mod Steps
+pub mod Walks
+pub mod Coming
+pub mod Walking

@@ -1,0 +1,59 @@
+ghost use Rattle.std.specs.Prelude.{◌≡◌, ◌<◌, ◌≤◌, ◌^◌, nat_lt};
+ghost use Rattle.std.specs.List.{prefix_len};
+ghost use Rattle.pb_timers.specs.Timers.{last_moment};
+ghost use Rattle.pb_plan.specs.Steps.{deed_of, steps_of};
+ghost use Rattle.pb_plan.specs.Walks.{AreBefore, AreFrom, Advances, hold_tap, hold_one, hold_all};
+
+use crate::steps::{Deed, Step};
+
+/// The steps of a moment, and those after it, of steps in order. Notes until when the taps are withheld by the
+/// steps up to that moment.
+pub(crate) fn advance<'a>(later: &'a [Step], at: u64, held: &mut [u64]) -> (&'a [Step], &'a [Step])
+    requires order { AreFrom 0 (steps_of later.now) }
+    requires moment { at ≤ last_moment }
+    ensures { Advances (steps_of later.now) at (steps_of result.0.now) (steps_of result.1.now) held.old
+        held.new }
+{
+    let (past, left) = later.split_at(count_before(later, at));
+    let (today, rest) = left.split_at(count_before(left, at + 1));
+    hold(held, past);
+    hold(held, today);
+    (today, rest)
+}
+
+/// How many of the first steps stand before a moment.
+fn count_before(steps: &[Step], at: u64) -> usize
+    ensures { result ≡ prefix_len (λ s. nat_lt s.at at) steps.now }
+{
+    steps.iter().take_while(|step| step.at < at).count()
+}
+
+/// Notes until when some steps withhold the taps.
+fn hold(held: &mut [u64], steps: &[Step])
+    requires { AreBefore (2 ^ 63) (steps_of steps.now) }
+    ensures { held.new ≡ hold_all held.old (steps_of steps.now) }
+{
+    for step in steps {
+        hold_one(held, step);
+    }
+}
+
+/// Notes until when a step withholds a tap.
+fn hold_one(held: &mut [u64], step: &Step)
+    requires { step.now.at < 2 ^ 63 }
+    ensures { held.new ≡ hold_one held.old step.now.at (deed_of step.now.deed) }
+{
+    match step.deed {
+        Deed::Happens(_) => {}
+        Deed::Withhold { tap, bits } => hold_tap(held, tap, step.at + u64::from(bits)),
+    }
+}
+
+/// A tap, where there is one, is withheld until a moment at least.
+fn hold_tap(held: &mut [u64], tap: usize, until: u64)
+    ensures { held.new ≡ hold_tap held.old tap until }
+{
+    if tap < held.len() {
+        held[tap] = held[tap].max(until);
+    }
+}

@@ -1,0 +1,55 @@
+use pb_taps::Event;
+
+/// What a step does.
+#[derive(Debug, PartialEq, Eq, Drop)]
+pub enum Deed {
+    /// An event happens.
+    Happens(Event),
+    /// A tap takes no turn for some time.
+    Withhold {
+        /// The tap.
+        tap: usize,
+        /// For how long, in bit times from the moment of the step; 0 withholds nothing.
+        bits: u32,
+    },
+}
+
+/// A step of a scenario.
+#[derive(Debug, PartialEq, Eq, Drop)]
+pub struct Step {
+    /// Its moment, in bit times since the clock began.
+    pub at: u64,
+    /// What it does.
+    pub deed: Deed,
+}
+
+impl Deed {
+    ghost use Rattle.std.specs.Prelude.{◌≡◌};
+    ghost use Rattle.std.specs.Option.{option_map};
+    ghost use Rattle.pb_taps.specs.Events.{event_of};
+    ghost use Rattle.pb_runs.specs.Scenarios.{event_before, event_after};
+    ghost use Rattle.pb_plan.specs.Steps.{deed_of};
+
+    /// The event that happens before the turns of its instant: every event but that a telegram is lost at a
+    /// tap.
+    pub fn before_turns(&self) -> Option<&Event>
+        ensures { option_map (λ e. event_of e.now) result ≡ event_before (deed_of self.now) }
+    {
+        match self {
+            Deed::Happens(Event::Unheard { .. }) => None,
+            Deed::Happens(event) => Some(event),
+            Deed::Withhold { .. } => None,
+        }
+    }
+
+    /// The event that happens after the turns of its instant: that a telegram, which has begun then, is lost at
+    /// a tap.
+    pub fn after_turns(&self) -> Option<&Event>
+        ensures { option_map (λ e. event_of e.now) result ≡ event_after (deed_of self.now) }
+    {
+        match self {
+            Deed::Happens(event @ Event::Unheard { .. }) => Some(event),
+            Deed::Happens(_) | Deed::Withhold { .. } => None,
+        }
+    }
+}

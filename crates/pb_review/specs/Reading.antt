@@ -1,0 +1,42 @@
+-- How far a history is read.
+use Rattle.std.specs.Prelude.{◌≡◌, ℕ, suc, ◌+◌, ◌≤◌, Bool, true, false, List, ◌++◌, length, drop, map, slice_get, slice_set, Option, Some, if◌then◌else◌}
+use Rattle.std.specs.List.{filter_map}
+use Rattle.pb_model.specs.World.{Event, Turn}
+use Rattle.pb_runs.specs.Histories.{EndsOr, IsRun, Picks}
+use Rattle.pb_runs.specs.Bus.{bus}
+use Rattle.pb_runs.specs.Laws.{Look, Shows}
+use Rattle.pb_runs.specs.Scenarios.{Deed, Planned, event_before, event_after}
+use Rattle.pb_plan.specs.Walks.{WalkView, plan_in}
+
+-- from a place on a history has these events, up to a place
+pub record Reads (all : List Event) (place : ℕ) (es : List Event) (next : ℕ) : Type 0 where
+  pub cut : drop place all ≡ es ++ drop next all
+  pub count : next ≡ place + length es
+  pub inside : next ≤ length all
+
+-- what a deed says before the turns or after them
+abbrev pub event_when : Bool → Deed → Option Event
+event_when late deed = if late then event_after deed else event_before deed
+
+-- what steps say then
+abbrev pub events_when : Bool → List Planned → List Event
+events_when late steps = filter_map (λ s. event_when late s.deed) steps
+
+-- what is left of a history from a place on is cut into instants of the plan of a walk, from a moment on
+abbrev pub IsCut : WalkView → List Look → List Event → ℕ → ℕ → ℕ → Type 0
+IsCut walk looks all left now place = IsRun left bus (plan_in walk) (Shows looks) now place (drop place all)
+
+-- an instant of a history: after it the history goes on at a moment, if there is one, and from a place on
+abbrev pub Goes : WalkView → List Look → List Event → ℕ → ℕ → Option ℕ → ℕ → Type 0
+Goes walk looks all now place moment next = (left : ℕ)
+    → EndsOr moment next (drop next all) (IsRun left bus (plan_in walk) (Shows looks))
+    → IsCut walk looks all (suc left) now place
+
+-- a tap wants a turn and then wants none any more, where that is the answer
+abbrev pub Takes : List Bool → ℕ → List Bool → Bool → Type 0
+Takes want tap next true = (slice_get want tap ≡ Some true) × (next ≡ slice_set want tap false)
+Takes want tap next false = Unit {0}
+
+-- a history goes on with turns of some taps that want one, and of which none wants one afterwards
+abbrev pub ReadsTurns : List Event → ℕ → List Bool → List Bool → ℕ → Type 0
+ReadsTurns all place want next at = (taps : List ℕ) × Reads all place (map Turn taps) at × ((rest : List ℕ) → Picks next rest → Picks want (taps ++ rest))

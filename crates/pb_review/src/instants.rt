@@ -1,0 +1,84 @@
+ghost use Rattle.std.specs.Prelude.{◌≡◌, ◌≤◌, ◌^◌, length, slice_get, Some, IfOk, IfSome};
+ghost use Rattle.pb_plan.specs.Walks.{passes};
+ghost use Rattle.pb_review.specs.Looks.{look_of};
+ghost use Rattle.pb_review.specs.Nexts.{IsNext};
+ghost use Rattle.pb_review.specs.Reading.{Reads};
+
+use crate::reading::{read_event, read_steps};
+use crate::reports::{Look, Report};
+use crate::turning::{read_turns, wanted};
+use pb_plan::Walk;
+use pb_taps::Event;
+use std::alloc::{AllocError, Global};
+
+/// How a history goes on after an instant.
+#[derive(Clone, Copy, Debug)]
+pub(crate) struct Next {
+    /// At which moment, if it goes on.
+    pub(crate) moment: Option<u64>,
+    /// How many events of the history are read.
+    pub(crate) place: usize,
+}
+
+/// Reads an instant of the history, at the moment of the walk and from a place on, by the outlooks from one of them
+/// on. None where the history isn't the plan's there. The fault: memory was refused.
+pub(crate) fn read_instant<R: Report>(
+    alloc: Global,
+    report: &R,
+    walk: &Walk<'_>,
+    k: usize,
+    place: usize,
+) -> Result<Option<Next>, AllocError>
+    requires place { place ≤ length (R.events report.now) }
+    requires looks { k ≤ 2 ^ 63 }
+    ensures { IfOk result (λ o. IfSome o (IsNext walk.now (R.looks report.now) (R.events report.now) place)) }
+{
+    let Some(started) = read_steps(report, place, walk.today(), false) else {
+        return Ok(None);
+    };
+    let Some(before) = look_at(report, walk, k, started) else {
+        return Ok(None);
+    };
+    let want = wanted(alloc, walk, before.dues)?;
+    let Some(turned) = read_turns(report, started, want) else {
+        return Ok(None);
+    };
+    let Some(done) = read_steps(report, turned, walk.today(), true) else {
+        return Ok(None);
+    };
+    let Some(after) = look_at(report, walk, k + 1, done) else {
+        return Ok(None);
+    };
+    let moment = walk.next(after.dues, after.change);
+    let Some(place) = read_pass(report, done, walk.pass_to(moment)) else {
+        return Ok(None);
+    };
+    Ok(Some(Next { moment, place }))
+}
+
+/// The outlook at a place among the outlooks, where it was taken after so many events and shows all taps.
+fn look_at<'a, R: Report>(
+    report: &'a R,
+    walk: &Walk<'_>,
+    k: usize,
+    place: usize,
+) -> Option<Look<'a>>
+    ensures { IfSome result (λ look. (slice_get (R.looks report.now) k ≡ Some (look_of look))
+        × (look.place ≡ place) × (length look.dues.now ≡ walk.now.taps)) }
+{
+    match report.look(k) {
+        Some(look) if look.place == place && look.dues.len() == walk.taps() => Some(look),
+        _ => None,
+    }
+}
+
+/// How far the history goes on with a pass of time, if there is one.
+fn read_pass<R: Report>(report: &R, place: usize, bits: Option<u64>) -> Option<usize>
+    requires { place ≤ length (R.events report.now) }
+    ensures { IfSome result (λ next. Reads (R.events report.now) place (passes bits) next) }
+{
+    match bits {
+        None => Some(place),
+        Some(bits) => read_event(report, place, &Event::Pass(bits)),
+    }
+}

@@ -1,0 +1,73 @@
+ghost use Rattle.std.specs.Prelude.{◌≡◌, ◌≤◌, ◌∷◌, [], true, length, Some, IfSome};
+ghost use Rattle.std.specs.Option.{option_map, option_to_list};
+ghost use Rattle.pb_taps.specs.Events.{event_of};
+ghost use Rattle.pb_plan.specs.Steps.{deed_of, steps_of};
+ghost use Rattle.pb_review.specs.Reading.{Reads, event_when, events_when};
+
+use crate::reports::Report;
+use pb_plan::{Deed, Step};
+use pb_taps::Event;
+
+/// How far the history goes on with what some steps say before the turns or after them, if it does.
+pub(crate) fn read_steps<R: Report>(
+    report: &R,
+    place: usize,
+    steps: &[Step],
+    late: bool,
+) -> Option<usize>
+    requires { place ≤ length (R.events report.now) }
+    ensures { IfSome result
+        (λ next. Reads (R.events report.now) place (events_when late (steps_of steps.now)) next) }
+{
+    let mut at = place;
+    for step in steps {
+        at = read_deed(report, at, &step.deed, late)?;
+    }
+    Some(at)
+}
+
+/// How far it goes on with what a deed says then, if anything.
+fn read_deed<R: Report>(report: &R, place: usize, deed: &Deed, late: bool) -> Option<usize>
+    requires { place ≤ length (R.events report.now) }
+    ensures { IfSome result
+        (λ next. Reads (R.events report.now) place (option_to_list (event_when late (deed_of deed.now)))
+        next) }
+{
+    match said(deed, late) {
+        None => Some(place),
+        Some(event) => read_event(report, place, event),
+    }
+}
+
+/// How far it goes on with an event.
+pub(crate) fn read_event<R: Report>(report: &R, place: usize, event: &Event) -> Option<usize>
+    requires { place ≤ length (R.events report.now) }
+    ensures { IfSome result (λ next. Reads (R.events report.now) place (event_of event.now ∷ []) next) }
+{
+    if place < report.len() && is_event(report.event(place), event) {
+        Some(place + 1)
+    } else {
+        None
+    }
+}
+
+/// Whether an event was found, and is this one.
+fn is_event(found: Option<&Event>, event: &Event) -> bool
+    ensures { result ≡ true → option_map (λ e. event_of e.now) found.entry ≡ Some (event_of event.now) }
+{
+    match found {
+        Some(found) => found == event,
+        None => false,
+    }
+}
+
+/// What a deed says before the turns or after them.
+fn said(deed: &Deed, late: bool) -> Option<&Event>
+    ensures { option_map (λ e. event_of e.now) result ≡ event_when late (deed_of deed.now) }
+{
+    if late {
+        deed.after_turns()
+    } else {
+        deed.before_turns()
+    }
+}

@@ -1,0 +1,92 @@
+ghost use Rattle.std.specs.Prelude.{◌≡◌, ◌≤◌, ◌++◌, ℕ, List, length, map, Some, IfOk, IfSome};
+ghost use Rattle.std.specs.Option.{option_map};
+ghost use Rattle.pb_model.specs.World.{Turn};
+ghost use Rattle.pb_taps.specs.Events.{event_of};
+ghost use Rattle.pb_runs.specs.Runs.{wanted};
+ghost use Rattle.pb_runs.specs.Histories.{Picks, none_left};
+ghost use Rattle.pb_plan.specs.Walks.{plan_in};
+ghost use Rattle.pb_review.specs.Reading.{Reads, ReadsTurns, Takes};
+
+use crate::reports::Report;
+use pb_plan::Walk;
+use pb_taps::Event;
+use pb_timers::Moment;
+use std::alloc::{AllocError, Global};
+
+/// How far the history goes on with one turn of each tap that wants one, in any order, if it does.
+pub(crate) fn read_turns<R: Report>(report: &R, place: usize, mut want: Vec<bool>) -> Option<usize>
+    requires { place ≤ length (R.events report.now) }
+    ensures { IfSome result (λ next. (taps : List ℕ) × Reads (R.events report.now) place (map Turn taps) next
+        × Picks want.items taps) }
+{
+    let mut at = place;
+    for _ in 0..want.len() {
+        at = read_turn(report, at, &mut want)?;
+    }
+    if is_none_left(&want) { Some(at) } else { None }
+}
+
+/// How far it goes on with one turn of a tap that wants one, where a turn comes next.
+fn read_turn<R: Report>(report: &R, place: usize, want: &mut Vec<bool>) -> Option<usize>
+    requires { place ≤ length (R.events report.now) }
+    ensures { IfSome result (ReadsTurns (R.events report.now) place want.old.items want.new.items) }
+{
+    match turn_in(report.event(place)) {
+        None => Some(place),
+        Some(tap) => {
+            if place >= report.len() || !take(want, tap) {
+                return None;
+            }
+            Some(place + 1)
+        }
+    }
+}
+
+/// The tap whose turn an event is, if it is one.
+fn turn_in(found: Option<&Event>) -> Option<usize>
+    ensures { IfSome result (λ tap. option_map (λ e. event_of e.now) found.entry ≡ Some (Turn tap)) }
+{
+    match found {
+        Some(Event::Turn(tap)) => Some(*tap),
+        _ => None,
+    }
+}
+
+/// Whether a tap wants a turn; then it wants none any more.
+fn take(want: &mut Vec<bool>, tap: usize) -> bool
+    ensures { Takes want.old.items tap want.new.items result }
+{
+    if tap >= want.len() || !want[tap] {
+        return false;
+    }
+    want[tap] = false;
+    true
+}
+
+/// Whether no tap wants a turn.
+fn is_none_left(want: &[bool]) -> bool
+    ensures { result ≡ none_left want.now }
+{
+    for wants in want {
+        if *wants {
+            return false;
+        }
+    }
+    true
+}
+
+/// Which taps want a turn, each of which is due at a moment or not at all.
+pub(crate) fn wanted(
+    alloc: Global,
+    walk: &Walk<'_>,
+    dues: &[Option<Moment>],
+) -> Result<Vec<bool>, AllocError>
+    requires { length dues.now ≡ walk.now.taps }
+    ensures { IfOk result (λ want. want.items ≡ wanted (plan_in walk.now) walk.now.clock 0 dues.now) }
+{
+    let mut want = Vec::new(alloc);
+    for (tap, due) in dues.iter().enumerate() {
+        want.push(walk.wants(tap, *due))?;
+    }
+    Ok(want)
+}
