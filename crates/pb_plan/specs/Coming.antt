@@ -2,6 +2,8 @@
 use Rattle.std.specs.Prelude.{ℕ, ◌+◌, ◌-◌, Bool, false, nat_lt, nat_le, slice_index, ◌&&◌, List, [], ◌∷◌, Option, Some, None, if◌then◌else◌}
 use Rattle.pb_turn.specs.Stations.{earlier}
 use Rattle.pb_runs.specs.Runs.{after}
+use Rattle.pb_runs.specs.Scenarios.{Planned}
+use Rattle.pb_plan.specs.Walks.{first_at}
 
 -- for how long time passes to a moment, if that is later than now
 abbrev pub time_to : ℕ → ℕ → Option ℕ
@@ -21,6 +23,11 @@ abbrev pub next_turn_in : List ℕ → ℕ → ℕ → List (Option ℕ) → Opt
 next_turn_in held now tap [] = None
 next_turn_in held now tap (due ∷ dues) = earlier (comes_in now (slice_index held tap) due) (next_turn_in held now (tap + 1) dues)
 
+-- the first of the moment of the next step, if there is one, of the next change and of the next turn
+abbrev pub first_of : List Planned → Option ℕ → Option ℕ → Option ℕ
+first_of later change turn = earlier (first_at later) (earlier change turn)
+
+-- a moment, if it lies after now and not past the end
 abbrev pub onward_to : ℕ → ℕ → Option ℕ → Option ℕ
 onward_to until now None = None
 onward_to until now (Some m) = if nat_lt now m && nat_le m until then Some m else None

@@ -2,7 +2,7 @@
 use Rattle.std.specs.Prelude.{◌≡◌, ℕ, ◌+◌, ◌<◌, ◌≤◌, List, [], ◌∷◌, ◌++◌, length, max, nat_lt, slice_set, slice_index, Option, Some, None, if◌then◌else◌}
 use Rattle.std.specs.List.{filter_map}
 use Rattle.pb_model.specs.World.{Event, Pass}
-use Rattle.pb_runs.specs.Runs.{Plan}
+use Rattle.pb_runs.specs.Runs.{Plan, places, wanted}
 use Rattle.pb_runs.specs.Scenarios.{Deed, Happens, Withhold, Planned, event_before, event_after, early_of, late_of, deed_holds, held_until, next_step, plan_of}
 
 -- a walk through some steps up to an end, at a moment, over so many taps
@@ -49,6 +49,13 @@ abbrev pub hold_all : List ℕ → List Planned → List ℕ
 hold_all held [] = held
 hold_all held (s ∷ steps) = hold_all (hold_one held s.at s.deed) steps
 
+-- what some steps say before the turns and after them
+abbrev pub events_before : List Planned → List Event
+events_before steps = filter_map (λ s. event_before s.deed) steps
+
+abbrev pub events_after : List Planned → List Event
+events_after steps = filter_map (λ s. event_after s.deed) steps
+
 -- ---- what is left
 
 -- What matters of some steps from a moment on: later steps, and until when each tap is withheld by those before.
@@ -61,8 +68,8 @@ pub record IsAhead (steps : List Planned) (from : ℕ) (later : List Planned) (h
 
 -- what matters of some steps at a moment: those of that moment, and what is ahead
 pub record IsLeft (steps : List Planned) (at : ℕ) (today rest : List Planned) (held : List ℕ) : Type 0 where
-  pub early : filter_map (early_of at) steps ≡ filter_map (λ s. event_before s.deed) today
-  pub late : filter_map (late_of at) steps ≡ filter_map (λ s. event_after s.deed) today
+  pub early : filter_map (early_of at) steps ≡ events_before today
+  pub late : filter_map (late_of at) steps ≡ events_after today
   pub ahead : IsAhead steps (at + 1) rest held
 
 -- steps are cut into those before a moment, those of the moment and the later ones; the taps are withheld by the first two
@@ -83,6 +90,10 @@ new_walk steps taps until = record { steps = steps; until = until; clock = 0; ta
 -- the plan through which a walk goes
 abbrev pub plan_in : WalkView → Plan Event
 plan_in w = plan_of w.steps w.until
+
+-- the taps that take their turns at the moment of a walk
+abbrev pub turns_in : WalkView → List (Option ℕ) → List ℕ
+turns_in w dues = places 0 (wanted (plan_in w) w.clock 0 dues)
 
 -- time passes for so long, or not at all
 abbrev pub passes : Option ℕ → List Event

@@ -1,18 +1,18 @@
 ghost use Rattle.std.specs.Prelude.{◌≡◌, ◌<◌, ◌≤◌, ◌^◌, nat_lt};
 ghost use Rattle.std.specs.List.{prefix_len};
 ghost use Rattle.pb_timers.specs.Timers.{last_moment};
+ghost use Rattle.pb_plan.specs.Cutting.{CutsAt};
 ghost use Rattle.pb_plan.specs.Steps.{deed_of, steps_of};
-ghost use Rattle.pb_plan.specs.Walks.{AreBefore, AreFrom, Advances, hold_tap, hold_one, hold_all};
+ghost use Rattle.pb_plan.specs.Walks.{AreBefore, AreFrom, hold_tap, hold_one, hold_all};
 
 use crate::steps::{Deed, Step};
 
-/// The steps of a moment, and those after it, of steps in order. Notes until when the taps are withheld by the
-/// steps up to that moment.
+/// The steps of a moment, and those after it, of steps in order. Notes until when the taps are withheld by
+/// the steps up to that moment.
 pub(crate) fn advance<'a>(later: &'a [Step], at: u64, held: &mut [u64]) -> (&'a [Step], &'a [Step])
     requires order { AreFrom 0 (steps_of later.now) }
     requires moment { at ≤ last_moment }
-    ensures { Advances (steps_of later.now) at (steps_of result.0.now) (steps_of result.1.now) held.old
-        held.new }
+    ensures { CutsAt at later.now result.0.now result.1.now held.old held.new }
 {
     let (past, left) = later.split_at(count_before(later, at));
     let (today, rest) = left.split_at(count_before(left, at + 1));

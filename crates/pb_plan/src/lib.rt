@@ -1,5 +1,5 @@
-//! The plan of a scenario: what its steps have happen at a moment, which taps take their turns then, and which
-//! instant is next. A walk through it costs as much as there are steps.
+//! The plan of a scenario: what its steps have happen at a moment, which taps take their turns then, and
+//! which instant is next. A walk through it costs as much as there are steps.
 #![tactic(auto)]
 
 mod advancing;

@@ -42,8 +42,8 @@ impl Deed {
         }
     }
 
-    /// The event that happens after the turns of its instant: that a telegram, which has begun then, is lost at
-    /// a tap.
+    /// The event that happens after the turns of its instant: that a telegram, which has begun then, is lost
+    /// at a tap.
     pub fn after_turns(&self) -> Option<&Event>
         ensures { option_map (λ e. event_of e.now) result ≡ event_after (deed_of self.now) }
     {

@@ -5,8 +5,8 @@ use pb_timers::Moment;
 use std::alloc::{AllocError, Global};
 use std::marker::Model;
 
-/// A walk through the steps of a scenario, from instant to instant. All its calls together take as long as there
-/// are steps, and each instant as long as there are taps besides.
+/// A walk through the steps of a scenario, from instant to instant. All its calls together take as long as
+/// there are steps, and each instant as long as there are taps besides.
 #[derive(Debug, Drop)]
 pub struct Walk<'a> {
     steps: &'a [Step],
@@ -33,13 +33,12 @@ impl<'a> Model for Walk<'a> {
 
 impl<'a> Walk<'a> {
     ghost use Rattle.std.specs.Prelude.{◌≡◌, ◌≤◌, ◌<◌, IfOk, IfSome, length};
-    ghost use Rattle.std.specs.List.{filter_map};
     ghost use Rattle.pb_timers.specs.Timers.{last_moment};
-    ghost use Rattle.pb_runs.specs.Runs.{wants, wanted, places, next, passing};
+    ghost use Rattle.pb_runs.specs.Runs.{wants, next, passing};
     ghost use Rattle.pb_runs.specs.Bus.{bus};
-    ghost use Rattle.pb_runs.specs.Scenarios.{event_before, event_after};
     ghost use Rattle.pb_plan.specs.Steps.{steps_of};
-    ghost use Rattle.pb_plan.specs.Walks.{AreFrom, new_walk, plan_in, passes};
+    ghost use Rattle.pb_plan.specs.Walks.{AreFrom, events_after, events_before};
+    ghost use Rattle.pb_plan.specs.Walks.{new_walk, plan_in, passes, turns_in};
 
     /// A walk at 0 through steps that stand in order of time, up to a moment in bit times, over so many taps.
     /// Its fault: memory was refused.
@@ -90,16 +89,14 @@ impl<'a> Walk<'a> {
     /// The steps of this moment, in the order of the scenario: their events before the turns, and after them,
     /// are those of the plan.
     pub fn today(&self) -> &'a [Step]
-        ensures early { filter_map (λ s. event_before s.deed) (steps_of result.now)
-            ≡ (plan_in self.now).early self.now.clock }
-        ensures late { filter_map (λ s. event_after s.deed) (steps_of result.now)
-            ≡ (plan_in self.now).late self.now.clock }
+        ensures early { events_before (steps_of result.now) ≡ (plan_in self.now).early self.now.clock }
+        ensures late { events_after (steps_of result.now) ≡ (plan_in self.now).late self.now.clock }
     {
         self.today
     }
 
-    /// Whether a tap takes its turn now that is due at a moment, if it is: not later than now, and not while it
-    /// is withheld.
+    /// Whether a tap takes its turn now that is due at a moment, if it is: not later than now, and not while
+    /// it is withheld.
     pub fn wants(&self, tap: usize, due: Option<Moment>) -> bool
         requires { tap < self.now.taps }
         ensures { result ≡ wants (plan_in self.now) self.now.clock tap due }
@@ -107,12 +104,11 @@ impl<'a> Walk<'a> {
         takes_turn(self.held[tap], self.clock, due)
     }
 
-    /// The taps that take their turns now, in their order, where each is due at a moment or not at all. Its fault:
-    /// memory was refused.
+    /// The taps that take their turns now, in their order, where each is due at a moment or not at all. Its
+    /// fault: memory was refused.
     pub fn turns(&self, alloc: Global, dues: &[Option<Moment>]) -> Result<Vec<usize>, AllocError>
         requires { length dues.now ≡ self.now.taps }
-        ensures { IfOk result
-            (λ taps. taps.items ≡ places 0 (wanted (plan_in self.now) self.now.clock 0 dues.now)) }
+        ensures { IfOk result (λ taps. taps.items ≡ turns_in self.now dues.now) }
     {
         let mut taps = Vec::new(alloc);
         for (tap, due) in dues.iter().enumerate() {
@@ -123,8 +119,9 @@ impl<'a> Walk<'a> {
         Ok(taps)
     }
 
-    /// The next instant, in bit times, if there is one: the first moment after now and up to the end at which a
-    /// step stands, something changes on the bus, a tap is due that isn't withheld, or a withholding ends.
+    /// The next instant, in bit times, if there is one: the first moment after now and up to the end at
+    /// which a step stands, something changes on the bus, a tap is due that isn't withheld, or a withholding
+    /// ends.
     pub fn next(&self, dues: &[Option<Moment>], change: Option<Moment>) -> Option<u64>
         requires { length dues.now ≡ self.now.taps }
         ensures next { result ≡ next (plan_in self.now) self.now.clock dues.now change }
@@ -134,8 +131,8 @@ impl<'a> Walk<'a> {
         next_instant(self.clock, self.until, self.later, change, turn)
     }
 
-    /// For how long time passes from now, in bit times: to the next instant, or where there is none to the end, if
-    /// that is later.
+    /// For how long time passes from now, in bit times: to the next instant, or where there is none to the
+    /// end, if that is later.
     pub fn pass_to(&self, next: Option<u64>) -> Option<u64>
         requires { IfSome next (λ at. self.now.clock < at) }
         ensures { passes result ≡ passing bus (plan_in self.now) self.now.clock next }

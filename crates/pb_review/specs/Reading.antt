@@ -32,6 +32,14 @@ Goes walk looks all now place moment next = (left : ℕ)
     → EndsOr moment next (drop next all) (IsRun left bus (plan_in walk) (Shows looks))
     → IsCut walk looks all (suc left) now place
 
+-- all of a history is cut into the instants of the plan of a walk
+abbrev pub IsRunIn : WalkView → List Look → List Event → Type 0
+IsRunIn walk looks all = IsRun (walk.until + 1) bus (plan_in walk) (Shows looks) 0 0 all
+
+-- a history goes on with one turn of each tap that wants one, in some order
+abbrev pub ReadsWanted : List Event → ℕ → List Bool → ℕ → Type 0
+ReadsWanted all place want next = (taps : List ℕ) × Reads all place (map Turn taps) next × Picks want taps
+
 -- a tap wants a turn and then wants none any more, where that is the answer
 abbrev pub Takes : List Bool → ℕ → List Bool → Bool → Type 0
 Takes want tap next true = (slice_get want tap ≡ Some true) × (next ≡ slice_set want tap false)

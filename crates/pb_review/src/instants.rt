@@ -1,7 +1,7 @@
 ghost use Rattle.std.specs.Prelude.{◌≡◌, ◌≤◌, ◌^◌, length, slice_get, Some, IfOk, IfSome};
 ghost use Rattle.pb_plan.specs.Walks.{passes};
 ghost use Rattle.pb_review.specs.Looks.{look_of};
-ghost use Rattle.pb_review.specs.Nexts.{IsNext};
+ghost use Rattle.pb_review.specs.Nexts.{IsLookAt, IsNext};
 ghost use Rattle.pb_review.specs.Reading.{Reads};
 
 use crate::reading::{read_event, read_steps};
@@ -20,8 +20,8 @@ pub(crate) struct Next {
     pub(crate) place: usize,
 }
 
-/// Reads an instant of the history, at the moment of the walk and from a place on, by the outlooks from one of them
-/// on. None where the history isn't the plan's there. The fault: memory was refused.
+/// Reads an instant of the history, at the moment of the walk and from a place on, by the outlooks from one
+/// of them on. None where the history isn't the plan's there. The fault: memory was refused.
 pub(crate) fn read_instant<R: Report>(
     alloc: Global,
     report: &R,
@@ -63,8 +63,7 @@ fn look_at<'a, R: Report>(
     k: usize,
     place: usize,
 ) -> Option<Look<'a>>
-    ensures { IfSome result (λ look. (slice_get (R.looks report.now) k ≡ Some (look_of look))
-        × (look.place ≡ place) × (length look.dues.now ≡ walk.now.taps)) }
+    ensures { IfSome result (IsLookAt (R.looks report.now) k place walk.now.taps) }
 {
     match report.look(k) {
         Some(look) if look.place == place && look.dues.len() == walk.taps() => Some(look),
@@ -75,7 +74,7 @@ fn look_at<'a, R: Report>(
 /// How far the history goes on with a pass of time, if there is one.
 fn read_pass<R: Report>(report: &R, place: usize, bits: Option<u64>) -> Option<usize>
     requires { place ≤ length (R.events report.now) }
-    ensures { IfSome result (λ next. Reads (R.events report.now) place (passes bits) next) }
+    ensures { IfSome result (Reads (R.events report.now) place (passes bits)) }
 {
     match bits {
         None => Some(place),

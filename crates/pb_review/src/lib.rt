@@ -1,5 +1,5 @@
-//! Whether the history of a bus, with the outlooks that were taken on it, is the run of a scenario: a walk over
-//! both that applies no event.
+//! Whether the history of a bus, with the outlooks that were taken on it, is the run of a scenario: a walk
+//! over both that applies no event.
 #![tactic(auto)]
 
 mod instants;

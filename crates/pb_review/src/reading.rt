@@ -2,7 +2,8 @@ ghost use Rattle.std.specs.Prelude.{◌≡◌, ◌≤◌, ◌∷◌, [], true, l
 ghost use Rattle.std.specs.Option.{option_map, option_to_list};
 ghost use Rattle.pb_taps.specs.Events.{event_of};
 ghost use Rattle.pb_plan.specs.Steps.{deed_of, steps_of};
-ghost use Rattle.pb_review.specs.Reading.{Reads, event_when, events_when};
+ghost use Rattle.pb_review.specs.Nexts.{said_by, said_in};
+ghost use Rattle.pb_review.specs.Reading.{Reads, event_when};
 
 use crate::reports::Report;
 use pb_plan::{Deed, Step};
@@ -16,8 +17,7 @@ pub(crate) fn read_steps<R: Report>(
     late: bool,
 ) -> Option<usize>
     requires { place ≤ length (R.events report.now) }
-    ensures { IfSome result
-        (λ next. Reads (R.events report.now) place (events_when late (steps_of steps.now)) next) }
+    ensures { IfSome result (Reads (R.events report.now) place (said_by late steps.now)) }
 {
     let mut at = place;
     for step in steps {
@@ -29,9 +29,7 @@ pub(crate) fn read_steps<R: Report>(
 /// How far it goes on with what a deed says then, if anything.
 fn read_deed<R: Report>(report: &R, place: usize, deed: &Deed, late: bool) -> Option<usize>
     requires { place ≤ length (R.events report.now) }
-    ensures { IfSome result
-        (λ next. Reads (R.events report.now) place (option_to_list (event_when late (deed_of deed.now)))
-        next) }
+    ensures { IfSome result (Reads (R.events report.now) place (said_in late deed.now)) }
 {
     match said(deed, late) {
         None => Some(place),
@@ -42,7 +40,7 @@ fn read_deed<R: Report>(report: &R, place: usize, deed: &Deed, late: bool) -> Op
 /// How far it goes on with an event.
 pub(crate) fn read_event<R: Report>(report: &R, place: usize, event: &Event) -> Option<usize>
     requires { place ≤ length (R.events report.now) }
-    ensures { IfSome result (λ next. Reads (R.events report.now) place (event_of event.now ∷ []) next) }
+    ensures { IfSome result (Reads (R.events report.now) place (event_of event.now ∷ [])) }
 {
     if place < report.len() && is_event(report.event(place), event) {
         Some(place + 1)

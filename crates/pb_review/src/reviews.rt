@@ -1,22 +1,17 @@
 ghost use Rattle.std.specs.Prelude.{◌≡◌, ◌+◌, true, IfOk};
-ghost use Rattle.pb_runs.specs.Bus.{bus};
-ghost use Rattle.pb_runs.specs.Histories.{IsRun};
-ghost use Rattle.pb_runs.specs.Laws.{Shows};
-ghost use Rattle.pb_plan.specs.Walks.{plan_in};
+ghost use Rattle.pb_review.specs.Reading.{IsRunIn};
 
 use crate::instants::read_instant;
 use crate::reports::Report;
 use pb_plan::Walk;
 use std::alloc::{AllocError, Global};
 
-/// Whether the history of a report is cut into the instants of a scenario, as its outlooks show them, where the walk
-/// through the scenario's steps is at 0: then it leaves the trace of the scenario's run on one thread. It takes as
-/// long as history, outlooks and steps are together. The fault: memory was refused.
+/// Whether the history of a report is cut into the instants of a scenario, as its outlooks show them, where
+/// the walk through the scenario's steps is at 0: then it leaves the trace of the scenario's run on one
+/// thread. It takes as long as history, outlooks and steps are together. The fault: memory was refused.
 pub fn is_run<R: Report>(alloc: Global, report: &R, mut walk: Walk<'_>) -> Result<bool, AllocError>
     requires { walk.clock ≡ 0 }
-    ensures { IfOk result (λ is. is ≡ true
-        → IsRun (walk.entry.until + 1) bus (plan_in walk.entry) (Shows (R.looks report.now)) 0 0
-        (R.events report.now)) }
+    ensures { IfOk result (λ is. is ≡ true → IsRunIn walk.entry (R.looks report.now) (R.events report.now)) }
 {
     let mut place = 0;
     for round in 0..walk.until() + 1 {

@@ -88,8 +88,8 @@ fn reviewed(alloc: Global, events: &[Event]) -> Result<bool, AllocError> {
     is_run(alloc, &report, walk)
 }
 
-/// The turns of an instant in either order are a run, and a turn left out or doubled, another noise, a shorter
-/// pass or a history that goes on are none.
+/// The turns of an instant in either order are a run, and a turn left out or doubled, another noise, a
+/// shorter pass or a history that goes on are none.
 #[test]
 fn judges_histories(rt: HostRuntime) {
     let alloc = rt.alloc();

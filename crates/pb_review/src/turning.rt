@@ -5,7 +5,7 @@ ghost use Rattle.pb_taps.specs.Events.{event_of};
 ghost use Rattle.pb_runs.specs.Runs.{wanted};
 ghost use Rattle.pb_runs.specs.Histories.{Picks, none_left};
 ghost use Rattle.pb_plan.specs.Walks.{plan_in};
-ghost use Rattle.pb_review.specs.Reading.{Reads, ReadsTurns, Takes};
+ghost use Rattle.pb_review.specs.Reading.{ReadsTurns, ReadsWanted, Takes};
 
 use crate::reports::Report;
 use pb_plan::Walk;
@@ -16,8 +16,7 @@ use std::alloc::{AllocError, Global};
 /// How far the history goes on with one turn of each tap that wants one, in any order, if it does.
 pub(crate) fn read_turns<R: Report>(report: &R, place: usize, mut want: Vec<bool>) -> Option<usize>
     requires { place ≤ length (R.events report.now) }
-    ensures { IfSome result (λ next. (taps : List ℕ) × Reads (R.events report.now) place (map Turn taps) next
-        × Picks want.items taps) }
+    ensures { IfSome result (ReadsWanted (R.events report.now) place want.items) }
 {
     let mut at = place;
     for _ in 0..want.len() {

@@ -1,4 +1,5 @@
-ghost use Rattle.pb_runs.specs.Laws.{HistoryIsRun, RunEnds, EventsLead, RunIsHistory, TurnsOnce, TurnsLeaveOthers, TurnsOneByOne, StepsHappen};
+ghost use Rattle.pb_runs.specs.Laws.{HistoryIsRun, RunEnds, EventsLead, RunIsHistory, StepsHappen};
+ghost use Rattle.pb_runs.specs.Laws.{TurnsLeaveOthers, TurnsOnce, TurnsOneByOne};
 
 /// A history that is cut into the instants of a scenario leaves the trace of its run on one thread, in
 /// whatever order the turns of an instant stand.

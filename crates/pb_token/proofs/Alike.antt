@@ -7,8 +7,6 @@ use Rattle.pb_turn.specs.Phases.{Phase, Offline, PassiveIdle, Listening, Idle, C
 use Rattle.pb_turn.specs.Stations.{Reply}
 use Rattle.pb_model.specs.Trace.{Record, Entry}
 use Rattle.pb_model.specs.Medium.{Tap, sends_during}
-use Rattle.pb_model.specs.Step.{change_first}
-use Rattle.pb_model.proofs.Cases.{by_test}
 use Rattle.pb_token.specs.Lists.{Each}
 use Rattle.pb_token.specs.Places.{heard_span, IsOver, Place, Over, InitEnds, IsSplit, Spares, IsOwn}
 use Rattle.pb_token.specs.Tokens.{Held, Taken, Offers, Doomed}

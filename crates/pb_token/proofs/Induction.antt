@@ -1,17 +1,12 @@
 -- The invariant along a list of events, and the theorem.
-use Rattle.std.proofs.Common.{◌≡◌, ℕ, true, List, [], ◌∷◌, ◌++◌, subst, Some, None}
-use Rattle.std.specs.Prelude.{slice_get}
-use Rattle.pb_timers.specs.Timers.{Params}
-use Rattle.pb_turn.specs.Laws.{IsSilentWhileBusy}
-use Rattle.pb_model.specs.Medium.{TapSpec, Tap}
+use Rattle.std.proofs.Common.{◌≡◌, List, [], ◌∷◌, ◌++◌, subst, None}
 use Rattle.pb_model.specs.World.{World, Event, Turn, Pass, Damage, Start, Stop, Queue, Noise, Unheard}
 use Rattle.pb_model.specs.Step.{RunsTo}
 use Rattle.pb_model.specs.Laws.{AreEvents}
-use Rattle.pb_theorem.specs.Premises.{Waited, waited_by, broken_by, broken_or, followed, course_of, first_broken}
+use Rattle.pb_theorem.specs.Premises.{Waited, waited_by, broken_by, broken_or, followed, course_of}
 use Rattle.pb_theorem.specs.Headline.{HasAtMostOneHolder, TokenTheorem}
-use Rattle.pb_token.specs.Places.{LeavesTime}
 use Rattle.pb_token.specs.Invariant.{Invariant, KeepsInvariant}
-use Rattle.pb_token.specs.Promises.{HasRun, TokenTheoremOfDelay}
+use Rattle.pb_token.specs.Promises.{TokenTheoremOfDelay}
 use Rattle.pb_token.proofs.Keeping.{fits_valid, unbroken}
 use Rattle.pb_token.proofs.Passes.{pass_invariant}
 use Rattle.pb_token.proofs.NewWorlds.{new_invariant}

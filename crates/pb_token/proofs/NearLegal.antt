@@ -5,7 +5,7 @@ use Rattle.std.specs.List.{list_any}
 use Rattle.std.proofs.lemmas.Bool.{leb-true, lt-ltb, le-ltb, lt-leb}
 use Rattle.pb_timers.specs.Timers.{Params, tto}
 use Rattle.pb_turn.specs.Spans.{Span}
-use Rattle.pb_model.specs.Trace.{Record, Entry, Sent, Noise, goes_before, with_entry, entry_begin}
+use Rattle.pb_model.specs.Trace.{Record, Entry, Sent, Noise, goes_before, with_entry}
 use Rattle.pb_model.specs.Medium.{Tap, TapSpec, reaches}
 use Rattle.pb_model.proofs.Cases.{by_test}
 use Rattle.pb_theorem.specs.Activity.{active_at, is_within, is_silent}

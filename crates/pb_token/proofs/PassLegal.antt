@@ -7,7 +7,7 @@ use Rattle.std.proofs.lemmas.Bool.{le-leb}
 use Rattle.pb_telegram.specs.declared.chars.RxChar.TheVariants.{Good}
 use Rattle.pb_timers.specs.Timers.{Params, tto}
 use Rattle.pb_turn.specs.Arrivals.{arrival_of}
-use Rattle.pb_model.specs.Trace.{Heard, Record, Entry, Sent, Noise, entry_begin}
+use Rattle.pb_model.specs.Trace.{Heard, Record, Entry, Sent, Noise}
 use Rattle.pb_model.specs.Medium.{TapSpec, Tap, reaches, ends_between, entry_at, heard_by}
 use Rattle.pb_model.proofs.Cases.{by_test}
 use Rattle.pb_theorem.specs.Initiators.{telegram_of, initiates, is_initiator, offered_by, offered_to, claims_for, later_record, last_from}

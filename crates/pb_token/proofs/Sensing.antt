@@ -1,17 +1,16 @@
 -- What every event keeps of what a running tap feels of the bus, whatever the premises: so one that is busy says nothing, and one that answers no requests keeps no reply.
-use Rattle.std.proofs.Common.{◌≡◌, ℕ, zero, suc, ◌+◌, ◌<◌, ◌≤◌, ◌⊎◌, inl, inr, ⊎_elim, Bool, true, false, if◌then◌else◌, not, ◌==◌, ◌&&◌, ◌||◌, List, [], ◌∷◌, ◌++◌, length, map, refl, sym, ap, ◌∙◌, subst, arith, Option, Some, None, Ok}
+use Rattle.std.proofs.Common.{◌≡◌, ℕ, zero, suc, ◌+◌, ◌<◌, ◌≤◌, ⊎_elim, Bool, true, false, if◌then◌else◌, not, ◌==◌, ◌&&◌, ◌||◌, List, [], ◌∷◌, ◌++◌, length, map, refl, sym, ap, ◌∙◌, subst, arith, Option, Some, None, Ok}
 use Rattle.std.specs.Prelude.{slice_get, slice_set, nat_le, is_some, is_none, find}
 use Rattle.std.specs.List.{list_any}
 use Rattle.std.proofs.lemmas.Bool.{eqb-false}
 use Rattle.std.proofs.lemmas.Option.{none-some, same_Some}
-use Rattle.pb_telegram.specs.declared.chars.RxChar.{RxChar}
 use Rattle.pb_timers.specs.Timers.{Params}
 use Rattle.pb_messages.specs.RequestFields.{RequestFields}
 use Rattle.pb_turn.specs.Spans.{Span}
 use Rattle.pb_turn.specs.Laws.{IsSilentWhileBusy}
-use Rattle.pb_turn.specs.Marks.{Mark, Begin, End, Alternates, moment_of}
+use Rattle.pb_turn.specs.Marks.{Mark, Begin, End, Alternates}
 use Rattle.pb_turn.specs.Phases.{Phase, Offline, PassiveIdle, Listening, Idle, Claim, Use, AwaitData, AwaitStatus, Pass as Passing, Checking, is_offline}
-use Rattle.pb_turn.specs.Stations.{Station, started, list_for, queued, pushed}
+use Rattle.pb_turn.specs.Stations.{Station, list_for, queued, pushed}
 use Rattle.pb_turn.specs.Hearing.{after_timer, after_mark, heard}
 use Rattle.pb_turn.specs.Turns.{after_marks, turn_of}
 use Rattle.pb_turn.proofs.Busy.{silent-after_marks, silent-turn_of, silent-started, silent-pushed, busy-turn_of}
@@ -20,31 +19,26 @@ use Rattle.pb_turn.proofs.Noting.{end-busy}
 use Rattle.pb_turn.proofs.Initiating.{fits-turn_of}
 use Rattle.pb_model.specs.Trace.{Hit, Entry, Sent, with_entry, cut_at, is_noise_at, noisy_until, begins_from, unheard_at}
 use Rattle.pb_model.specs.Trace as trace
-use Rattle.pb_model.specs.Medium.{TapSpec, Tap, sensed, begins_in, ends_in, begin_mark, end_mark, marks_between, new_marks, entry_at}
+use Rattle.pb_model.specs.Medium.{TapSpec, Tap, sensed, begins_in, ends_in, marks_between, new_marks, entry_at}
 use Rattle.pb_model.specs.World.{World, Event, Turn, Pass, Damage, Start, Stop, Queue, Noise, Unheard, Reply, Fault, unless, NoSuchTap, Running, NotRunning, NothingInAir, ZeroTime, QueueFull, TraceFull, trace_limit, queue_limit, is_in_air_by, stopped_tap, new_world, new_faults}
 use Rattle.pb_model.specs.Step.{sending, with_said, step_turn, told, pass_faults, with_hit, change_first, has_place, started_tap, step_start, halted, step_stop, step_queue, with_noise, is_noisy, step, RunsTo}
-use Rattle.pb_model.specs.Laws.{AllBegun, IsEvent, AreEvents}
-use Rattle.pb_model.proofs.Cases.{by_test}
+use Rattle.pb_model.specs.Laws.{AllBegun, AreEvents}
 use Rattle.pb_model.proofs.Worlds.{unless-Ok, begun-with_said, begun-entry_at, begun-change_first, begun-cut_at, begun-with_noise, lengthens-with_hit, lengthens-unheard_at}
-use Rattle.pb_token.specs.Lists.{Each, EachTap}
-use Rattle.pb_token.specs.Places.{heard_span, IsOver, Place, Over}
+use Rattle.pb_token.specs.Places.{heard_span, IsOver, Place}
 use Rattle.pb_token.specs.Views.{place, view, IsOn}
-use Rattle.pb_token.specs.Stations.{TapStays}
 use Rattle.pb_token.specs.Invariant.{Settled}
-use Rattle.pb_token.specs.Promises.{HasRun}
 use Rattle.pb_token.specs.Runs.{IsTapAfter}
 use Rattle.pb_token.proofs.Lists.{each_all, at_set}
 use Rattle.pb_token.proofs.Speaking.{new_sent, new_noise, new_over}
 use Rattle.pb_token.proofs.Starting.{span_new}
 use Rattle.pb_token.proofs.Queueing.{marks_queue}
-use Rattle.pb_token.proofs.Brings.{HasLength, solid_sensed}
+use Rattle.pb_token.proofs.Brings.{solid_sensed}
 use Rattle.pb_token.proofs.Passed.{told_at}
 use Rattle.pb_token.proofs.Window.{EachSpan, Solid, WindowOf, window}
 use Rattle.pb_token.proofs.Reading.{later}
 use Rattle.pb_token.proofs.Passing.{over_to, over_of, over_in, none_in, append_marks, then_busy, alternate_in, offline_after}
 use Rattle.pb_token.proofs.Turning.{over_later}
 use Rattle.pb_token.proofs.Live.{on_or_off}
-use Rattle.pb_token.proofs.Waking.{same-after_timer}
 use Rattle.pb_token.proofs.Alert.{Feels, SameFor, feels_same, feels_spans, same_with, on_both}
 use Rattle.pb_token.proofs.SameEntries.{same_hit, same_noisy, same_cut, same_relabelled, same_lost}
 use Rattle.pb_token.proofs.Watching.{each_long}

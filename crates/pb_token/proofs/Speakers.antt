@@ -1,5 +1,5 @@
 -- What of speakers with equal addresses outlasts each event but a pass.
-use Rattle.std.proofs.Common.{◌≡◌, ℕ, zero, suc, ◌+◌, ◌<◌, ◌≤◌, ⊎_elim, Bool, true, false, if◌then◌else◌, ◌==◌, List, [], ◌∷◌, map, refl, sym, ap, ◌∙◌, subst, arith, Option, Some, None}
+use Rattle.std.proofs.Common.{◌≡◌, ℕ, zero, suc, ◌+◌, ◌<◌, ◌≤◌, ⊎_elim, Bool, true, false, if◌then◌else◌, ◌==◌, List, [], ◌∷◌, refl, sym, ap, ◌∙◌, subst, arith, Option, Some, None}
 use Rattle.std.specs.Prelude.{slice_get, slice_set, nat_lt, nat_le, max}
 use Rattle.std.proofs.lemmas.Bool.{ltb-true, cases_eq}
 use Rattle.std.proofs.lemmas.Option.{same_Some}
@@ -11,10 +11,10 @@ use Rattle.pb_turn.specs.Phases.{Phase, Offline, PassiveIdle, Listening, Idle, C
 use Rattle.pb_turn.specs.Stations.{Station, Reply, speaks_at, pushed, queued}
 use Rattle.pb_turn.specs.Hearing.{claiming, after_timer}
 use Rattle.pb_turn.specs.Turns.{turn_of, speech, phase_says, joining, replying}
-use Rattle.pb_model.specs.Trace.{Hit, Record, Own, Pending, Entry, Sent, Noise, cut_end, cut_at, heard_at_first, is_noise_at, noisy_until}
+use Rattle.pb_model.specs.Trace.{Record, Own, Pending, Entry, Sent, Noise, cut_end, cut_at, heard_at_first, is_noise_at, noisy_until}
 use Rattle.pb_model.specs.Medium.{Tap, TapSpec, is_unheard}
 use Rattle.pb_model.specs.World.{World}
-use Rattle.pb_model.specs.Step.{sending, with_hit, change_first, started_tap, halted, with_noise, with_said}
+use Rattle.pb_model.specs.Step.{sending, started_tap, halted, with_noise, with_said}
 use Rattle.pb_model.proofs.Cases.{by_test}
 use Rattle.pb_theorem.specs.Legality.{is_whole}
 use Rattle.pb_theorem.specs.Premises.{Waited, has_namesakes}
@@ -22,7 +22,7 @@ use Rattle.pb_token.specs.Lists.{Each, In}
 use Rattle.pb_token.specs.Places.{LeavesTime, heard_span, IsOver, Place}
 use Rattle.pb_token.specs.Views.{Knows, IsOn, TapOk, view, place}
 use Rattle.pb_token.specs.Entries.{EntryOk, SpeakerOk, SpeaksOk, IsFreshIn, IsFresh}
-use Rattle.pb_token.proofs.Lists.{each_inside, each_in, each_map, each_both, each_mapped, each_with, each_changed, get_set_at, get_set_other}
+use Rattle.pb_token.proofs.Lists.{each_inside, each_in, each_both, each_with, each_changed, get_set_at, get_set_other}
 use Rattle.pb_token.proofs.Passing.{knows_on}
 use Rattle.pb_token.proofs.Queueing.{marks_queue}
 use Rattle.pb_token.proofs.PassFresh.{heard_is, other_reply, no_join}

@@ -1,5 +1,5 @@
 -- A tap stops: what it was sending ends early, and the other taps know what they knew.
-use Rattle.std.proofs.Common.{◌≡◌, ℕ, ◌+◌, ◌-◌, ◌/◌, ◌<◌, ◌≤◌, ◌⊎◌, inl, inr, ⊎_elim, Bool, true, false, if◌then◌else◌, ◌==◌, ◌||◌, List, [], ◌∷◌, refl, ap, arith, Option, Some, None}
+use Rattle.std.proofs.Common.{◌≡◌, ℕ, ◌+◌, ◌-◌, ◌/◌, ◌<◌, ◌≤◌, ◌⊎◌, inl, inr, ⊎_elim, Bool, true, false, if◌then◌else◌, ◌==◌, ◌||◌, refl, ap, arith, Option, Some, None}
 use Rattle.std.specs.Prelude.{slice_get, nat_lt, max}
 use Rattle.std.specs.Option.{option_and_then}
 use Rattle.std.proofs.lemmas.Bool.{ltb-true, ltb-false, cases_lt}
@@ -8,8 +8,7 @@ use Rattle.pb_turn.specs.Spans.{Span}
 use Rattle.pb_model.specs.Trace.{Record, Entry, Sent, Noise, cut_end, cut_at}
 use Rattle.pb_model.specs.Medium.{part_after, is_unheard, reaches}
 use Rattle.pb_model.proofs.Cases.{by_test}
-use Rattle.pb_token.specs.Lists.{Each}
-use Rattle.pb_token.specs.Places.{heard_span, IsOver, Spares}
+use Rattle.pb_token.specs.Places.{heard_span, IsOver}
 
 -- what is heard of an entry, and of one that ends early: where it does, it ends after now
 abbrev pub CutSpan : ℕ → Option Span → Option Span → Type 0

@@ -4,7 +4,9 @@ use Rattle.pb_timers.specs.Timers.{Params}
 use Rattle.pb_model.specs.World.{Event, Turn, Pass, Start, Stop, Noise, Unheard}
 use Rattle.pb_model.specs.Medium.{TapSpec}
 use Rattle.pb_model.specs.Scenarios.{example_bus, master}
+use Rattle.pb_model.specs.Trace.{Entry, Own, Whole}
 use Rattle.pb_theorem.specs.Scenarios.{passive}
+use Rattle.pb_theorem.specs.Traces.{heard_as, token}
 
 -- a bus with a lag and a cable delay
 abbrev pub long_bus : Params
@@ -36,6 +38,10 @@ noise_and_a_late_turn =
     Pass 32 ∷ Turn 1 ∷ Pass 37 ∷ Turn 0 ∷ Pass 1 ∷ Turn 1 ∷ Pass 65 ∷ Turn 1 ∷ Pass 11 ∷ Turn 1 ∷ Pass 1 ∷ Turn 0 ∷
     Pass 65 ∷ Turn 0 ∷ Pass 37 ∷ Turn 0 ∷ Pass 1 ∷ Turn 1 ∷ Pass 32 ∷ Turn 1 ∷ Pass 7 ∷ Noise 5 ∷ Pass 1 ∷ Turn 0 ∷
     Pass 4 ∷ Turn 0 ∷ Pass 15 ∷ Turn 1 ∷ Pass 785 ∷ Turn 0 ∷ Pass 1 ∷ Turn 1 ∷ Pass 32 ∷ Turn 1 ∷ Pass 2 ∷ []
+
+-- a station claims the token anew, 33 bits for each of its two tokens
+abbrev pub claims_at : ℕ → Entry
+claims_at begin = heard_as (Own ∷ Whole ∷ []) 0 begin (token 1 1)
 
 -- ---- one premise broken alone
 

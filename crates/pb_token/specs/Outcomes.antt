@@ -1,6 +1,8 @@
 -- What comes of a run: which premises it breaks, and how many stations may initiate on the way.
-use Rattle.std.specs.Prelude.{ℕ, ◌+◌, Bool, true, false, if◌then◌else◌, not, ◌==◌, ◌||◌, List, [], ◌∷◌, ◌++◌, max, count_by, Option, Some, None, Result, Ok, Err}
+use Rattle.std.specs.Prelude.{ℕ, ◌+◌, Bool, true, false, if◌then◌else◌, not, ◌==◌, ◌||◌, List, [], ◌∷◌, ◌++◌, max, count_by, Option, Some, None, Result, Ok, Err, filter, nat_le}
 use Rattle.pb_timers.specs.Timers.{Params}
+use Rattle.pb_model.specs.Scenarios.{replay_from, trace_of}
+use Rattle.pb_model.specs.Trace.{Entry, entry_begin}
 use Rattle.pb_model.specs.Medium.{TapSpec}
 use Rattle.pb_model.specs.World.{World, NewFault, Event, Reply, Fault, new_world}
 use Rattle.pb_model.specs.Step.{step}
@@ -102,3 +104,11 @@ together = breaks (4 ∷ []) 2 2 true (Some 1)
 -- the third breaks, and nobody holds the token
 abbrev pub late_in_silence : Option Outcome
 late_in_silence = breaks (3 ∷ []) 0 0 false None
+
+-- ---- worlds, and what of their traces begins at a moment or later
+
+abbrev pub world_on : Params → List TapSpec → List Event → Option World
+world_on p specs events = replay_from (new_world p specs) events
+
+abbrev pub entries_from : ℕ → Option World → List Entry
+entries_from m w = filter (λ e. nat_le m (entry_begin e)) (trace_of w)

@@ -1,9 +1,13 @@
-ghost use Rattle.std.specs.Prelude.{◌≡◌, ℕ, [], ◌∷◌, true, false, Some, None};
+ghost use Rattle.std.specs.Prelude.{◌≡◌, ℕ, [], ◌∷◌, true, false, Some, None, take};
 ghost use Rattle.pb_model.specs.Scenarios.{example_bus, master, two_masters};
 ghost use Rattle.pb_model.specs.Scenarios.{ring_formed, taker_damaged, speaker_stopped};
+ghost use Rattle.pb_model.specs.Scenarios.{phases_of};
+ghost use Rattle.pb_turn.specs.Phases.{Idle, Use};
 ghost use Rattle.pb_theorem.specs.Runs as runs;
+ghost use Rattle.pb_theorem.specs.Traces.{noise};
 ghost use Rattle.pb_theorem.specs.Scenarios.{bus_with_lag, bus_with_delay};
 ghost use Rattle.pb_token.specs.Examples.{
+  claims_at,
   long_bus,
   long_silence,
   silent_start,
@@ -22,7 +26,7 @@ ghost use Rattle.pb_token.specs.Examples.{
   long_late_bus,
   late_reply_bus,
 };
-ghost use Rattle.pb_token.specs.Outcomes.{outcome_on, kept, breaks, together, late_in_silence};
+ghost use Rattle.pb_token.specs.Outcomes.{outcome_on, kept, breaks, together, late_in_silence, world_on, entries_from};
 
 /// The premises can be met: by runs in which some station holds the token most of the time, with damage, stops,
 /// noise, late turns and a cable delay.
@@ -35,6 +39,19 @@ pub fn the_premises_can_be_met()
     ensures at_the_lag { outcome_on bus_with_lag two_masters runs.taken_at_the_lag ≡ kept 33 }
     ensures delay { outcome_on bus_with_delay two_masters runs.ring_with_delay ≡ kept 39 }
     ensures silence { outcome_on bus_with_lag (master 1 ∷ []) (silent_start 839) ≡ kept 0 }
+{}
+
+/// Noise, as the second of two stations has just taken the token: it gives it up as soon as it reads of it, in a
+/// turn that comes late by the lag as in one in time, and the first claims the token a time-out after the noise.
+pub fn after_noise_the_token_is_claimed()
+    ensures noise { entries_from 1160 (world_on example_bus two_masters noise_with_the_token)
+        ≡ noise 1160 1180 ∷ claims_at 1980 ∷ claims_at 2050 ∷ [] }
+    ensures late { entries_from 1160 (world_on bus_with_some_lag two_masters noise_and_a_late_turn)
+        ≡ noise 1160 1165 ∷ claims_at 1965 ∷ [] }
+    ensures at_1161 { phases_of (world_on bus_with_some_lag two_masters (take 36 noise_and_a_late_turn))
+        ≡ Idle None ∷ Use false 1190 ∷ [] }
+    ensures at_1180 { phases_of (world_on bus_with_some_lag two_masters (take 40 noise_and_a_late_turn))
+        ≡ Idle None ∷ Idle None ∷ [] }
 {}
 
 /// Without each of the premises the theorem is false: a run that keeps the others has two holders, a holder that

@@ -17,7 +17,10 @@ pub use events::{
     a_request_keeps_the_invariant, a_start_keeps_the_invariant, a_stop_keeps_the_invariant,
     a_turn_keeps_the_invariant, damage_keeps_the_invariant, noise_keeps_the_invariant,
 };
-pub use examples::{a_bit_beyond_is_too_late, each_premise_is_needed, the_premises_can_be_met};
+pub use examples::{
+    a_bit_beyond_is_too_late, after_noise_the_token_is_claimed, each_premise_is_needed,
+    the_premises_can_be_met,
+};
 pub use runs::{
     a_run_keeps_its_bus, a_stopped_station_is_offline, premises_are_kept_by_beginnings,
     runs_append, the_data_to_reply_stays,

@@ -15,10 +15,18 @@ pub returns-clause-held : goal.returns-clause-held
 unfolding run
 returns-clause-held c = refl
 
-pub returns-clause-ends : goal.returns-clause-ends
+pub returns-clause-end : goal.returns-clause-end
 unfolding run
-returns-clause-ends c = refl
+returns-clause-end c = refl
 
-pub returns-clause-order : goal.returns-clause-order
+pub returns-clause-losses_last : goal.returns-clause-losses_last
 unfolding run
-returns-clause-order c = refl
+returns-clause-losses_last c = refl
+
+pub returns-clause-refused : goal.returns-clause-refused
+unfolding run
+returns-clause-refused c = refl
+
+pub returns-clause-no_world : goal.returns-clause-no_world
+unfolding run
+returns-clause-no_world c = refl

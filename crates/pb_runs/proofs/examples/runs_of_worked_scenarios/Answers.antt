@@ -19,33 +19,25 @@ pub returns-clause-held : goal.returns-clause-held
 unfolding run
 returns-clause-held c = refl
 
-pub returns-clause-held_less : goal.returns-clause-held_less
+pub returns-clause-less : goal.returns-clause-less
 unfolding run
-returns-clause-held_less c = refl
+returns-clause-less c = refl
 
 pub returns-clause-held_back : goal.returns-clause-held_back
 unfolding run
 returns-clause-held_back c = refl
 
-pub returns-clause-held_longest : goal.returns-clause-held_longest
+pub returns-clause-longest : goal.returns-clause-longest
 unfolding run
-returns-clause-held_longest c = refl
+returns-clause-longest c = refl
 
-pub returns-clause-held_for_nothing : goal.returns-clause-held_for_nothing
+pub returns-clause-for_nothing : goal.returns-clause-for_nothing
 unfolding run
-returns-clause-held_for_nothing c = refl
+returns-clause-for_nothing c = refl
 
 pub returns-clause-starts_amid : goal.returns-clause-starts_amid
 unfolding run
 returns-clause-starts_amid c = refl
-
-pub returns-clause-refused : goal.returns-clause-refused
-unfolding run
-returns-clause-refused c = refl
-
-pub returns-clause-no_world : goal.returns-clause-no_world
-unfolding run
-returns-clause-no_world c = refl
 
 pub returns-clause-unheard : goal.returns-clause-unheard
 unfolding run
