@@ -41,7 +41,13 @@ impl Bus {
                 tap,
                 speaker,
                 place,
-            } => self.damage(*speaker, Hit { tap: *tap, place: *place }),
+            } => self.damage(
+                *speaker,
+                Hit {
+                    tap: *tap,
+                    place: *place,
+                },
+            ),
             Event::Start(tap) => self.start(*tap),
             Event::Stop(tap) => self.stop(*tap),
             Event::Queue { tap, request } => self.queue(*tap, request),

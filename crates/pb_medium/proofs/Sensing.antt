@@ -140,5 +140,5 @@ unhit-undamaged tap r sent none taken few =
     let out = take ((r.end - r.begin) / bits 1) r.octets in
     let count : length (characters_at tap r) ≡ sent = characters-length tap 0 r.hits out ∙ ap length (sym taken) ∙ length-take-le sent r.octets few in
     let good : list_all (λ char. not (is_bad char)) (characters_at tap r) ≡ true =
-        ap (λ (hits : List Hit). list_all (λ char. not (is_bad char)) (characters_from tap hits 0 out)) none ∙ unhit-good tap 0 out in
+    ap (λ (hits : List Hit). list_all (λ char. not (is_bad char)) (characters_from tap hits 0 out)) none ∙ unhit-good tap 0 out in
     sym (ap (λ (b : Bool). length (characters_at tap r) == length r.octets && b) good ∙ and-true _ ∙ ap (λ (n : ℕ). n == length r.octets) count)

@@ -15,8 +15,6 @@ mod speaking;
 mod traces;
 
 pub use entries::{Entry, Heard, Hit, Record};
-pub use senses::{
-    burst_begins, burst_characters, burst_ends, is_in_air_by, is_reached, next_end,
-};
+pub use senses::{burst_begins, burst_characters, burst_ends, is_in_air_by, is_reached, next_end};
 pub use speaking::Speaker;
 pub use traces::Trace;

@@ -272,8 +272,11 @@ fn silent(phase: Phase, out: &mut SendBuffer) -> Phase
 fn said(past: Past, now: Moment, octets: &ArrayVec<u8, 255>) -> Past
     requires { now ≤ last_turn }
     ensures { result
-        ≡ record { quiet = max past.quiet (now + bits (length octets.now.items)); begin = now;
-        end = now + bits (length octets.now.items) } }
+        ≡ record {
+          quiet = max past.quiet (now + bits (length octets.now.items));
+          begin = now;
+          end = now + bits (length octets.now.items);
+        } }
 {
     past.said(now, octets.len())
 }
@@ -343,8 +346,12 @@ fn says_low(
 /// A station joins the ring.
 fn join(kept: &mut Kept)
     ensures { kept.new ≡ record
-        kept.old { las = readied kept.old.las kept.old.address; gap = Open None; rotation = fresh
-        kept.old.rotation.ttr } }
+        kept.old {
+          las = readied kept.old.las kept.old.address;
+          gap = Open None;
+          rotation = fresh
+              kept.old.rotation.ttr;
+        } }
 {
     kept.las = readied(kept.las, kept.address.get());
     kept.gap = Gap::fresh();
@@ -522,8 +529,11 @@ fn asks_status(
 ) -> Phase
     requires { now ≤ last_turn }
     ensures { Says
-        (λ s. (record (saying s now (status_request_octets address s.address))
-        { phase = turn.AwaitStatus address true }, Some (status_request_octets address s.address)))
+        (λ s. (
+          record (saying s now (status_request_octets address s.address))
+              { phase = turn.AwaitStatus address true },
+          Some (status_request_octets address s.address),
+        ))
         kept.old (phase_of (Phase.Use holder)) kept.new (phase_of result) out.new }
 {
     let octets = holder.initiate(&status_request(address, kept.address.get()));

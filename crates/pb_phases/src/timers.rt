@@ -93,8 +93,13 @@ fn slot_timer(kept: &Kept, params: &BusParams) -> Moment
 /// A station that claims the token is alone in its ring, and knows nothing of the others.
 fn stand_alone(kept: &mut Kept)
     ensures { kept.new ≡ record
-        kept.old { reply = None; las = claimed kept.old.address; gap = Open None; rotation = fresh
-        kept.old.rotation.ttr } }
+        kept.old {
+          reply = None;
+          las = claimed kept.old.address;
+          gap = Open None;
+          rotation = fresh
+              kept.old.rotation.ttr;
+        } }
 {
     kept.reply = None;
     kept.las = Las::claimed(kept.address.get());

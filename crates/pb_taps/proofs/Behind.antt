@@ -62,5 +62,5 @@ pub lent-back : {X Y : Type 0} (f : X → Y) (n over : ℕ) (xs seen ys : List X
     → map f (take n (put_mid over (length seen - over) seen ys ++ drop (length (put_mid over (length seen - over) seen ys)) xs)) ≡ take over (map f xs) ++ map f ys
 lent-back f n over xs seen ys is size some =
     subst (λ zs. length ys ≡ length (take (length zs - over) (drop over zs))
-        → map f (take n (put_mid over (length zs - over) zs ys ++ drop (length (put_mid over (length zs - over) zs ys)) xs)) ≡ take over (map f xs) ++ map f ys)
+    → map f (take n (put_mid over (length zs - over) zs ys ++ drop (length (put_mid over (length zs - over) zs ys)) xs)) ≡ take over (map f xs) ++ map f ys)
     (sym is) (lent-own f n over xs ys size some)

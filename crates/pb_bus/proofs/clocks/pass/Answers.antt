@@ -36,6 +36,6 @@ returns-clause-ok c =
       settled (map tap_of c.tell_all.new.taps) c.args.now c.in_ok-to.to w.trace,
       c.settle.ensures.entries,
       pass-by w c.args.bits None c.requires.sound none full
-      ∙ ap (λ to. Ok (after to (told_news at_once w.trace c.args.now to 0 taps), record { now = to; spoke = None })) (sym c.in_ok-to.ensures.ok.0)
-      ∙ ap (λ ts. Ok (after c.in_ok-to.to ts, record { now = c.in_ok-to.to; spoke = None })) (sym told),
+          ∙ ap (λ to. Ok (after to (told_news at_once w.trace c.args.now to 0 taps), record { now = to; spoke = None })) (sym c.in_ok-to.ensures.ok.0)
+          ∙ ap (λ ts. Ok (after c.in_ok-to.to ts, record { now = c.in_ok-to.to; spoke = None })) (sym told),
     )

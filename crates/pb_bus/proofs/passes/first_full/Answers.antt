@@ -16,7 +16,7 @@ returns-then-overflows c =
     let x = c.index-taps-position.result in
     let more = news at_once at (tap_of x) trace c.args.from c.args.to in
     let full : mark_limit < length (with_news at_once at (tap_of x) trace c.args.from c.args.to).marks =
-        omega (arith, c.overflows.ensures.full c.if-overflows.true, length-append x.marks more) in
+    omega (arith, c.overflows.ensures.full c.if-overflows.true, length-append x.marks more) in
     sym (c.loop-position.invariant
     ∙ ap (step.first_full at) (from-position tap_of at_once trace c.args.from c.args.to c.args.taps.now at x c.loop-position-test.true c.index-taps-position.is)
     ∙ full-here at (with_news at_once at (tap_of x) trace c.args.from c.args.to)
@@ -29,7 +29,7 @@ loop-position-preserved c =
     let x = c.index-taps-position.result in
     let more = news at_once at (tap_of x) trace c.args.from c.args.to in
     let fits : length (with_news at_once at (tap_of x) trace c.args.from c.args.to).marks ≤ mark_limit =
-        omega (arith, c.overflows.ensures.fits c.if-overflows.false, length-append x.marks more) in
+    omega (arith, c.overflows.ensures.fits c.if-overflows.false, length-append x.marks more) in
     c.loop-position.invariant
     ∙ ap (step.first_full at) (from-position tap_of at_once trace c.args.from c.args.to c.args.taps.now at x c.loop-position-test.true c.index-taps-position.is)
     ∙ full-later at (with_news at_once at (tap_of x) trace c.args.from c.args.to)

@@ -40,11 +40,11 @@ told-end position old now told trace from to begins marks b tells =
     let chars = burst_characters at_once position (tap_of now) trace to in
     let first : now.marks ≡ old.marks ++ begin_news begins from to = ap (λ (t : Tap). t.marks) b.is ∙ b.told in
     let same : chars ≡ burst_characters at_once position (tap_of old) trace to =
-        ap (λ (t : Tap). burst_characters at_once position (tap_of t) trace to) b.is ∙ characters-unread at_once position (tap_of old) marks trace to in
+    ap (λ (t : Tap). burst_characters at_once position (tap_of t) trace to) b.is ∙ characters-unread at_once position (tap_of old) marks trace to in
     let all : now.marks ++ End to to chars ∷ [] ≡ old.marks ++ news at_once position (tap_of old) trace from to =
-        ap (λ (ms : List Mark). ms ++ End to to chars ∷ []) first ∙ append_assoc old.marks (begin_news begins from to) (End to to chars ∷ [])
-        ∙ ap (λ (cs : List RxChar). old.marks ++ (begin_news begins from to ++ End to to cs ∷ [])) same
-        ∙ ap (λ (ms : List Mark). old.marks ++ ms) (sym (news-running at_once position (tap_of old) trace from to begins true b.runs b.begin (ends-as-before position old now trace from to begins marks b))) in
+    ap (λ (ms : List Mark). ms ++ End to to chars ∷ []) first ∙ append_assoc old.marks (begin_news begins from to) (End to to chars ∷ [])
+    ∙ ap (λ (cs : List RxChar). old.marks ++ (begin_news begins from to ++ End to to cs ∷ [])) same
+    ∙ ap (λ (ms : List Mark). old.marks ++ ms) (sym (news-running at_once position (tap_of old) trace from to begins true b.runs b.begin (ends-as-before position old now trace from to begins marks b))) in
     ap tap_of tells ∙ ap (λ (t : Tap). tap_of (record t { marks = now.marks ++ End to to chars ∷ [] })) b.is ∙ ap (λ (ms : List Mark). record (tap_of old) { marks = ms }) all
 
 pub push-requires : goal.push-requires

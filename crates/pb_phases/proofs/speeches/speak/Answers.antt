@@ -22,6 +22,6 @@ returns-in_default c =
     ap (λ sent. spoken_with c.args.kept.now c.args.waiting.now (phase_of c.args.phase.now) sent) c.clear.ensures
     ∙ elim c.in_default.branch [
       | in_default-via-in-Some+else-get w ↦
-        (let early : c.args.now < w.in-Some.moment = search rules in waits c.args.params.now s c.speaks_at.result (speaks_at s) w.in-Some.moment c.args.now w.in-Some.is (c.speaks_at.ensures c.args.waiting.now) early)
+          (let early : c.args.now < w.in-Some.moment = search rules in waits c.args.params.now s c.speaks_at.result (speaks_at s) w.in-Some.moment c.args.now w.in-Some.is (c.speaks_at.ensures c.args.waiting.now) early)
       | in_default-via-in_default w ↦ has_none c.args.params.now s c.speaks_at.result (speaks_at s) c.args.now w.in_default.is (c.speaks_at.ensures c.args.waiting.now)
     ]

@@ -19,7 +19,7 @@ pub pass-requires : goal.pass-requires
 pass-requires c =
     let bus = c.args.self.now in
     let same = air-recent bus.params bus.now (over_of bus.trace) (entries_of bus.trace) bus.taps.items c.deref_mut.result.now c.deref_mut.ensures.value in
-    record { sound = subst IsSound (sym same) (sound-recent (over_of bus.trace) (world_of bus) c.requires.sound); }
+    record { sound = subst IsSound (sym same) (sound-recent (over_of bus.trace) (world_of bus) c.requires.sound) }
 
 pub returns-in_err-self-clause-follows : goal.returns-in_err-self-clause-follows
 returns-in_err-self-clause-follows c =
