@@ -85,7 +85,7 @@ impl World {
     ///
     /// Where the events that led to this world, and this one, break no premise, at most one station may initiate
     /// after it, the trace names that one, and each telegram that only a holder sends is legal (medium access: token
-    /// passing).
+    /// passing): so the contract says of valid parameters, data to reply that fit, and requests as requests are.
     pub fn apply(&mut self, alloc: Global, event: Event) -> Result<Reply, WorldFault>
         ensures follows { Follows self.old (event_of event) result self.new }
         ensures token { OnOk result (LeavesOneToken self.old (event_of event ∷ []) self.new) }
@@ -141,7 +141,8 @@ impl World {
 /// counted from 0, and its fault; the events before it stand.
 ///
 /// Where the events that led to the world, and those that it does, break no premise, at most one station may
-/// initiate after them, the trace names that one, and each telegram that only a holder sends is legal.
+/// initiate after them, the trace names that one, and each telegram that only a holder sends is legal: so the
+/// contract says of valid parameters, data to reply that fit, and requests as requests are.
 pub fn run(alloc: Global, world: &mut World, events: &[Event]) -> Result<(), (usize, WorldFault)>
     ensures ok { OnOk result (RunsTo world.old (map event_of events.now) world.new) }
     ensures err { IfErr result (λ e. StopsAt world.old (map event_of events.now) e.0 e.1 world.new) }
