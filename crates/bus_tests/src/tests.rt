@@ -2,6 +2,7 @@ mod memory;
 
 use arrayvec::ArrayVec;
 use pb_cycles::{Outcome, Request, Service};
+use pb_station::decide;
 use pb_timers::BusParams;
 use pb_world::{AuditFault, Event, Kind, NewFault, TapSpec, World, WorldFault, audit, run};
 use std::process::Abort;
@@ -114,6 +115,29 @@ fn a_master_asks_for_data(rt: HostRuntime) {
 }
 
 /// Of two starts of a tap the second is refused, and the tap runs.
+#[test]
+fn a_turn_is_decided_outside_the_world(rt: HostRuntime) {
+    let alloc = rt.alloc();
+    let mut world = two_masters(&rt);
+    world.apply(alloc, Event::Start(0)).expect(&rt, "a start");
+    world.apply(alloc, Event::Pass(800)).expect(&rt, "a pass");
+    assert_eq!(rt; world.taps(), 2);
+    let glance = world.glance_of(alloc, 0).expect(&rt, "a glance");
+    assert_eq!(rt;
+        (glance.tap, glance.now.get(), glance.marks.len()),
+        (0, 800, 0)
+    );
+    assert_eq!(rt; glance.station.phase().name(), "Listening");
+    let decision = decide(alloc, glance).expect(&rt, "a decision");
+    let said = decision.speak.as_ref().expect(&rt, "a telegram");
+    assert_eq!(rt; said.as_slice(), [0xdc, 1, 1].as_slice());
+    let turn = world.apply(alloc, Event::Turn(0)).expect(&rt, "a turn");
+    assert_eq!(rt; turn.copy(), turn);
+    assert_eq!(rt; turn.spoke, decision.speak);
+    assert_eq!(rt; phase_name(&world, 0), Some(decision.after.phase().name()));
+    assert_eq!(rt; world.into_trace().len(), 1);
+}
+
 #[test]
 fn a_run_stops_at_the_first_refused_event(rt: HostRuntime) {
     let alloc = rt.alloc();

@@ -3,3 +3,4 @@ pub mod Elapsing
 pub mod Passing
 pub mod Stepping
 pub mod Running
+pub mod Showing

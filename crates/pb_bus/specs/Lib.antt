@@ -4,3 +4,4 @@ pub mod Starting
 pub mod Stopping
 pub mod Clocks
 pub mod Buses
+pub mod Glances

@@ -4,8 +4,8 @@ use crate::starting::start;
 use crate::stopping::stop;
 use pb_cycles::Request;
 use pb_medium::{Hit, Speaker, Trace};
-use pb_station::{SendBuffer, Station, due};
-use pb_taps::{Event, Tap, WorldFault, check_running, queue, take_turn};
+use pb_station::{Glance, NoMemory, SendBuffer, Station, due};
+use pb_taps::{Event, Tap, WorldFault, check_running, glance, queue, take_turn};
 use pb_timers::{BusParams, Moment};
 use std::alloc::Global;
 
@@ -21,12 +21,13 @@ pub struct Bus {
 }
 
 impl Bus {
-    ghost use Rattle.std.specs.Prelude.{◌≡◌, None, MatchOption, slice_get};
+    ghost use Rattle.std.specs.Prelude.{◌≡◌, ◌<◌, None, IfOk, MatchOption, length, slice_get};
     ghost use Rattle.pb_model.specs.World as events;
     ghost use Rattle.pb_bus.specs.Buses.{world_of, Does, IsKept};
     ghost use Rattle.pb_medium.specs.Entries.{hit_of};
     ghost use Rattle.pb_taps.specs.Events.{event_of};
     ghost use Rattle.pb_bus.specs.Worlds.{due_at, IsStationAt};
+    ghost use Rattle.pb_bus.specs.Glances.{CanBeDecided, IsGlance};
 
     /// Does an event. What a station says in it stands in `sent`.
     pub fn apply(&mut self, alloc: Global, event: &Event) -> Result<(), WorldFault>
@@ -161,6 +162,16 @@ impl Bus {
             return None;
         }
         due(&tap.station, tap.marks.marks())
+    }
+
+    /// What the tap at a position shows. Its fault: memory was refused.
+    pub fn glance(&self, alloc: Global, tap: usize) -> Result<Glance, NoMemory>
+        requires kept { IsKept self.now }
+        requires there { tap < length self.now.taps.items }
+        ensures shows { IfOk result (IsGlance (world_of self.entry.now) tap) }
+        ensures turn { IfOk result CanBeDecided }
+    {
+        glance(alloc, &self.taps, tap, self.now)
     }
 
     /// The station at a tap.

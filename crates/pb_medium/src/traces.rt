@@ -41,6 +41,13 @@ impl Trace {
         &self.entries
     }
 
+    /// All entries, in order, for one who keeps no trace.
+    pub fn into_entries(self) -> Vec<Entry>
+        ensures { map entry_of result.items ≡ entries_of self }
+    {
+        self.entries
+    }
+
     /// The entries behind those that are over.
     pub fn recent(&self) -> &[Entry]
         ensures { map entry_of result.now ≡ recent_of self.entry.now }

@@ -29,6 +29,23 @@ pub enum Mark {
 }
 
 impl Mark {
+    /// An equal mark.
+    pub fn copy(&self) -> Mark
+        ensures { mark_of result ≡ mark_of self.now }
+    {
+        match self {
+            Mark::Begin { at, seen } => Mark::Begin {
+                at: *at,
+                seen: *seen,
+            },
+            Mark::End { at, seen, chars } => Mark::End {
+                at: *at,
+                seen: *seen,
+                chars: copy_chars(chars),
+            },
+        }
+    }
+
     /// The mark's own moment.
     pub(crate) fn moment(&self) -> Moment
         ensures { result ≡ moment_of (mark_of self.now) }
@@ -46,4 +63,13 @@ impl Mark {
             Mark::Begin { seen, .. } | Mark::End { seen, .. } => *seen,
         }
     }
+}
+
+/// A copy of the characters of a mark.
+fn copy_chars(chars: &ArrayVec<RxChar, 255>) -> ArrayVec<RxChar, 255>
+    ensures { result.items ≡ chars.now.items }
+{
+    let mut copy = ArrayVec::new();
+    copy.try_extend_from_slice(chars).unwrap();
+    copy
 }

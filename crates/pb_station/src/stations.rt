@@ -168,6 +168,13 @@ impl Station {
         self.master
     }
 
+    /// The data that it replies to a request for data.
+    pub fn reply_data(&self) -> &[u8]
+        ensures { result.now ≡ self.now.reply_data }
+    {
+        &self.reply_data
+    }
+
     /// The parameters of its bus.
     pub fn params(&self) -> &BusParams
         ensures { result.now ≡ self.now.params }

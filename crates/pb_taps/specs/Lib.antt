@@ -4,3 +4,4 @@ pub mod Faults
 pub mod Making
 pub mod Queueing
 pub mod Turning
+pub mod Glancing

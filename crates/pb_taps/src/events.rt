@@ -1,8 +1,9 @@
 ghost use Rattle.std.specs.Prelude.{◌≡◌};
-ghost use Rattle.pb_taps.specs.Events.{event_of};
+ghost use Rattle.pb_taps.specs.Events.{event_of, reply_of};
 
 use arrayvec::ArrayVec;
 use pb_cycles::Request;
+use pb_telegram::copy_octets;
 use pb_timers::Moment;
 
 /// What happens on the bus. A tap is a position in the list of taps, counted from 0.
@@ -76,10 +77,25 @@ impl Event {
 }
 
 /// What comes of an event.
-#[derive(Debug, Drop)]
+#[derive(Debug, PartialEq, Eq, Drop)]
 pub struct Reply {
     /// The clock, in bit times.
     pub now: Moment,
     /// The octets that a turn sent, if it did.
     pub spoke: Option<ArrayVec<u8, 255>>,
+}
+
+impl Reply {
+    /// An equal reply.
+    pub fn copy(&self) -> Reply
+        ensures { reply_of result ≡ reply_of self.entry.now }
+    {
+        Reply {
+            now: self.now,
+            spoke: match &self.spoke {
+                Some(octets) => Some(copy_octets(octets)),
+                None => None,
+            },
+        }
+    }
 }

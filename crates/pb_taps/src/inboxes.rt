@@ -1,3 +1,6 @@
+ghost use Rattle.std.specs.Prelude.{◌≡◌, IfOk, map};
+ghost use Rattle.pb_station.specs.MarkViews.{mark_of};
+
 use pb_station::Mark;
 use std::alloc::{AllocError, Global};
 use std::marker::Model;
@@ -45,6 +48,13 @@ impl Inbox {
         &self.marks
     }
 
+    /// Equal marks, in the same order. The fault: memory was refused.
+    pub fn copy_marks(&self, alloc: Global) -> Result<Vec<Mark>, AllocError>
+        ensures { IfOk result (λ v. map mark_of v.items ≡ self.now) }
+    {
+        copy_all(alloc, self.marks())
+    }
+
     /// One more mark, behind the others.
     pub fn push(&mut self, mark: Mark)
         requires { length self.old < mark_limit }
@@ -59,4 +69,15 @@ impl Inbox {
     {
         self.marks.clear();
     }
+}
+
+/// Equal marks, in the same order. The fault: memory was refused.
+fn copy_all(alloc: Global, marks: &[Mark]) -> Result<Vec<Mark>, AllocError>
+    ensures { IfOk result (λ v. map mark_of v.items ≡ map mark_of marks.now) }
+{
+    let mut copies = Vec::with_capacity(alloc, marks.len())?;
+    for mark in marks {
+        copies.push(mark.copy())?;
+    }
+    Ok(copies)
 }

@@ -4,6 +4,7 @@
 
 mod events;
 mod faults;
+mod glancing;
 mod inboxes;
 mod making;
 mod moments;
@@ -13,6 +14,7 @@ mod turning;
 
 pub use events::{Event, Reply};
 pub use faults::{NewFault, WorldFault};
+pub use glancing::glance;
 pub use inboxes::{Inbox, MARK_LIMIT};
 pub use making::{check_taps, new_taps};
 pub use moments::beginning;

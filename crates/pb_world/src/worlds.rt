@@ -6,7 +6,7 @@ ghost use Rattle.pb_token.specs.Promises.{LeavesOneToken};
 
 use pb_bus::{Bus, new_bus};
 use pb_medium::Entry;
-use pb_station::Station;
+use pb_station::{Glance, NoMemory, Station};
 use pb_taps::{Event, NewFault, Reply, TapSpec, WorldFault};
 use pb_timers::{BusParams, Moment};
 use std::alloc::Global;
@@ -33,13 +33,14 @@ impl Model for World {
 }
 
 impl World {
-    ghost use Rattle.std.specs.Prelude.{◌≡◌, [], ◌∷◌, Ok, None, IfOk, IfErr, OnOk, MatchOption, map, slice_get};
+    ghost use Rattle.std.specs.Prelude.{◌≡◌, ◌<◌, [], ◌∷◌, Ok, None, IfOk, IfErr, OnOk, MatchOption, length, map, slice_get};
     ghost use Rattle.pb_model.specs.World.{new_world};
     ghost use Rattle.pb_medium.specs.Entries.{entry_of};
     ghost use Rattle.pb_taps.specs.Events.{event_of};
     ghost use Rattle.pb_taps.specs.Faults.{RefusesNew};
     ghost use Rattle.pb_taps.specs.Taps.{spec_of};
     ghost use Rattle.pb_bus.specs.Worlds.{due_at, Follows, Goes, IsStationAt};
+    ghost use Rattle.pb_bus.specs.Glances.{CanBeDecided, IsGlance};
     ghost use Rattle.pb_token.specs.Promises.{HasOneToken, LeavesOneToken};
 
     /// A world whose taps don't run yet, at clock 0.
@@ -112,11 +113,25 @@ impl World {
         self.bus.trace.entries()
     }
 
+    /// Its trace, for one who has no more use for the world: what [`trace`](World::trace) shows.
+    pub fn into_trace(self) -> Vec<Entry>
+        ensures { map entry_of result.items ≡ self.trace }
+    {
+        self.bus.trace.into_entries()
+    }
+
     /// The clock, in bit times.
     pub fn now(&self) -> Moment
         ensures { result ≡ self.entry.now.now }
     {
         self.bus.now
+    }
+
+    /// How many taps the bus has.
+    pub fn taps(&self) -> usize
+        ensures { result ≡ length self.entry.now.taps }
+    {
+        self.bus.taps.len()
     }
 
     /// When the station at a tap has to take its turn, in bit times: at the first unread mark, its timer or
@@ -126,6 +141,19 @@ impl World {
         ensures { result ≡ due_at self.entry.now tap }
     {
         self.bus.due(tap)
+    }
+
+    /// What a worker sees of a tap: its station, its unread marks, and the clock. The tap is in the list, the
+    /// caller's condition. A tap that doesn't run shows a station in phase Offline, without marks. A turn can be
+    /// decided on it ([`decide`](pb_station::decide)).
+    ///
+    /// Fault: `NoMemory` where memory was refused, for the station and the marks.
+    pub fn glance_of(&self, alloc: Global, tap: usize) -> Result<Glance, NoMemory>
+        requires { tap < length self.now.taps }
+        ensures shows { IfOk result (IsGlance self.entry.now tap) }
+        ensures turn { IfOk result CanBeDecided }
+    {
+        self.bus.glance(alloc, tap)
     }
 
     /// The station at a tap, if there is such a tap.

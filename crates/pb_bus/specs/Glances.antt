@@ -1,0 +1,21 @@
+-- What a tap of a world shows to one that works outside it.
+use Rattle.std.specs.Prelude.{◌≡◌, ◌≤◌, ℕ, Some, map, slice_get}
+use Rattle.pb_core.specs.Clocks.{last_turn}
+use Rattle.pb_model.specs.Medium as medium
+use Rattle.pb_model.specs.World.{World}
+use Rattle.pb_station.specs.MarkViews.{mark_of, AreOver}
+use Rattle.pb_station.specs.Stations.{StationView}
+use Rattle.pb_station.specs.declared.decisions.Glance.{Glance}
+
+-- the station at a tap, as a reader sees it
+abbrev pub station_at : World → ℕ → medium.Tap → StationView
+station_at w tap t = record { tap = tap; params = w.params; master = t.spec.master; reply_data = t.spec.reply; station = t.station }
+
+-- a glance shows the station at a tap, its unread marks, and the clock
+abbrev pub IsGlance : World → ℕ → Glance → Type 0
+IsGlance w tap g = (t : medium.Tap) × (slice_get w.taps tap ≡ Some t)
+    × (g.tap ≡ tap) × (g.station ≡ station_at w tap t) × (map mark_of g.marks.items ≡ t.marks) × (g.now ≡ w.now)
+
+-- a turn can be decided on it: the clock is at most 2^61, and no mark is of a later moment
+abbrev pub CanBeDecided : Glance → Type 0
+CanBeDecided g = (g.now ≤ last_turn) × AreOver g.now g.marks.items
