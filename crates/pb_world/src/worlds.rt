@@ -144,8 +144,7 @@ impl World {
     }
 
     /// What a worker sees of a tap: its station, its unread marks, and the clock. The tap is in the list, the
-    /// caller's condition. A tap that doesn't run shows a station in phase Offline, without marks. A turn can be
-    /// decided on it ([`decide`](pb_station::decide)).
+    /// caller's condition. A turn can be decided on it ([`decide`](pb_station::decide)).
     ///
     /// Fault: `NoMemory` where memory was refused, for the station and the marks.
     pub fn glance_of(&self, alloc: Global, tap: usize) -> Result<Glance, NoMemory>
