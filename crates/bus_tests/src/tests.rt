@@ -51,6 +51,10 @@ fn due(world: &World, tap: usize) -> Option<u64> {
     Some(world.due(tap)?.get())
 }
 
+fn next_change(world: &World) -> Option<u64> {
+    Some(world.next_change()?.get())
+}
+
 #[test]
 fn events_change_a_world(rt: HostRuntime) {
     let alloc = rt.alloc();
@@ -71,6 +75,32 @@ fn events_change_a_world(rt: HostRuntime) {
     assert_eq!(rt; spoke.as_slice(), [0xdc, 1, 1].as_slice());
     assert_eq!(rt; world.trace().len(), 1);
     assert_eq!(rt; phase_name(&world, 0), Some("Claim"));
+}
+
+/// What begins can be known one bit time later; then the next change is its end. A tap that starts amid
+/// something knows of it one bit time later.
+#[test]
+fn a_world_says_when_it_changes(rt: HostRuntime) {
+    let alloc = rt.alloc();
+    let mut world = two_masters(&rt);
+    assert_eq!(rt; next_change(&world), None);
+    let events = [Event::Start(0), Event::Pass(800)];
+    run(alloc, &mut world, &events).expect(&rt, "800 silent bit times");
+    assert_eq!(rt; next_change(&world), None);
+    world.apply(alloc, Event::Turn(0)).expect(&rt, "a claim");
+    assert_eq!(rt; next_change(&world), Some(801));
+    world.apply(alloc, Event::Pass(1)).expect(&rt, "a bit time");
+    assert_eq!(rt; next_change(&world), Some(833));
+    world
+        .apply(alloc, Event::Start(1))
+        .expect(&rt, "a start amid the claim");
+    assert_eq!(rt; next_change(&world), Some(802));
+    world.apply(alloc, Event::Pass(32)).expect(&rt, "its end");
+    assert_eq!(rt; next_change(&world), None);
+    world.apply(alloc, Event::Noise(20)).expect(&rt, "noise");
+    assert_eq!(rt; next_change(&world), Some(834));
+    world.apply(alloc, Event::Pass(1)).expect(&rt, "a bit time");
+    assert_eq!(rt; next_change(&world), Some(853));
 }
 
 /// A master claims the token, asks a passive station for its data, and gets it.

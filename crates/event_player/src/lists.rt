@@ -93,7 +93,18 @@ pub struct Bus {
 impl Default for Bus {
     ghost use Rattle.std.specs.Prelude.{◌≡◌};
 
-    ghost is_default = { λ bus. bus ≡ record { tsl = 100; tid1 = 37; tid2 = 60; tsdr = 11; lag = 0; ttr = 10000; gap = 10; hsa = 5; retries = 1; ttd = 0 } };
+    ghost is_default = { λ bus. bus ≡ record {
+      tsl = 100;
+      tid1 = 37;
+      tid2 = 60;
+      tsdr = 11;
+      lag = 0;
+      ttr = 10000;
+      gap = 10;
+      hsa = 5;
+      retries = 1;
+      ttd = 0;
+    } };
 
     /// The usual parameters.
     fn default() -> Bus {

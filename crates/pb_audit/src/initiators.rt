@@ -5,9 +5,9 @@ ghost use Rattle.pb_theorem.specs.Initiators as initiators;
 ghost use Rattle.pb_medium.specs.Entries.{record_of};
 
 use arrayvec::ArrayVec;
-use pb_core::whole_telegram;
+use pb_core::{is_request, whole_telegram};
 use pb_medium::Record;
-use pb_telegram::{Fc, RxChar, Telegram};
+use pb_telegram::{RxChar, Telegram};
 
 /// Whether only the station with the token may send it: a token, or a request.
 pub(crate) fn is_initiator(sent: &Record) -> bool
@@ -15,10 +15,8 @@ pub(crate) fn is_initiator(sent: &Record) -> bool
 {
     match telegram_of(sent) {
         Some(Telegram::Token(_)) => true,
-        Some(Telegram::Short(telegram)) => Fc(telegram.fc).is_request(),
-        Some(Telegram::Var(telegram)) => Fc(telegram.fc).is_request(),
-        Some(Telegram::Fixed8(telegram)) => Fc(telegram.fc).is_request(),
-        Some(Telegram::Ack) | None => false,
+        Some(telegram) => is_request(&telegram),
+        None => false,
     }
 }
 

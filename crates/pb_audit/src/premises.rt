@@ -150,7 +150,8 @@ pub(crate) fn follow(
     ensures silent { IfOk result (λ next. next.quiet ≡ quiet_at bus.new.now (world_of bus.new).trace) }
     ensures stands { IfOk result (GoesOn watch (world_of bus.old) (event_of event.now)) }
     ensures err { IfErr result (λ fault. (world_of bus.new ≡ world_of bus.old)
-        × Refuses (world_of bus.old) (event_of event.now) (step (world_of bus.old) (event_of event.now)) fault) }
+        × Refuses (world_of bus.old) (event_of event.now)
+        (step (world_of bus.old) (event_of event.now)) fault) }
 {
     let foresight = foresee(bus, event);
     bus.apply(alloc, event)?;

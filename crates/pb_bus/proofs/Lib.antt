@@ -4,3 +4,5 @@ pub mod Passing
 pub mod Stepping
 pub mod Running
 pub mod Showing
+pub mod Ending
+pub mod Changing

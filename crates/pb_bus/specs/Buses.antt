@@ -1,6 +1,7 @@
 -- A bus as the model says it.
 use Rattle.std.specs.Prelude.{◌≡◌, ◌≤◌, [], length, map, Result}
 use Rattle.pb_model.specs.World.{World, Event, clock_limit, tap_limit}
+use Rattle.pb_bus.specs.Ends.{AllBy, last_end}
 use Rattle.pb_bus.specs.Worlds.{Sends}
 use Rattle.pb_taps.specs.declared.faults.WorldFault.{WorldFault}
 use Rattle.pb_model.specs.Laws.{IsSound}
@@ -19,6 +20,7 @@ pub record IsKept (w : Bus) : Type 0 where
   pub room : length w.taps.items ≤ tap_limit
   pub seats : AreSeated w.params 0 (map seat_of w.taps.items)
   pub cut : IsCut w.now (over_of w.trace) (entries_of w.trace)
+  pub ends : AllBy last_end (entries_of w.trace)
 
 -- nothing has happened yet
 pub record IsBlank (w : World) : Type 0 where

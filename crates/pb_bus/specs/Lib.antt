@@ -5,3 +5,4 @@ pub mod Stopping
 pub mod Clocks
 pub mod Buses
 pub mod Glances
+pub mod Ends

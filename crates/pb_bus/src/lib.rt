@@ -3,6 +3,7 @@
 #![tactic(auto)]
 
 mod buses;
+mod changes;
 mod clocks;
 mod making;
 mod passes;

@@ -1,5 +1,5 @@
 -- Which characters a line of hex stands for.
-use Rattle.std.specs.Prelude.{ℕ, ◌+◌, ◌*◌, ◌==◌, ◌&&◌, ◌||◌, Bool, not, if◌then◌else◌, List, [], ◌∷◌, filter, Option, Some, None}
+use Rattle.std.specs.Prelude.{◌≡◌, ℕ, ◌+◌, ◌*◌, ◌==◌, ◌&&◌, ◌||◌, Bool, not, if◌then◌else◌, List, [], ◌∷◌, filter, Option, Some, None}
 use Rattle.std.specs.Option.{option_map}
 use Rattle.hex.specs.Hex.{hex_digit_value}
 use Rattle.pb_telegram.specs.declared.chars.RxChar.{RxChar}
@@ -35,3 +35,12 @@ characters_of_pairs (first ∷ second ∷ rest) = before (character_of first sec
 -- the characters that a line stands for, blanks dropped; none where it is no hex
 abbrev pub characters_of : List ℕ → Option (List RxChar)
 characters_of line = characters_of_pairs (filter (λ byte. not (is_blank byte)) line)
+
+-- the bytes of a line that count
+abbrev pub digits_of : List ℕ → List ℕ
+digits_of line = filter (λ byte. not (is_blank byte)) line
+
+-- the next byte that counts, by what was left of the line before and is left behind it; none where nothing else counts
+abbrev pub IsNextDigit : Option ℕ → List ℕ → List ℕ → Type 0
+IsNextDigit (Some byte) before behind = digits_of before ≡ byte ∷ digits_of behind
+IsNextDigit None before behind = digits_of before ≡ []

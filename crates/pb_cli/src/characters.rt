@@ -1,33 +1,48 @@
-ghost use Rattle.std.specs.Prelude.{◌≡◌, if◌then◌else◌, Some, None, IfOk};
+ghost use Rattle.std.specs.Prelude.{◌≡◌, ◌<◌, ◌≤◌, [], drop, length, IfSome, OnSome, is_some};
 ghost use Rattle.hex.specs.Hex.{hex_digit_value};
-ghost use Rattle.pb_cli.specs.Characters.{is_blank, octet_of_digits, character_of, characters_of};
+ghost use Rattle.pb_telegram.specs.Receiving.{StandsFor};
+ghost use Rattle.pb_cli.specs.Characters.{is_blank, octet_of_digits, character_of, characters_of, IsNextDigit};
 
 use hex::FromHex;
-use pb_telegram::RxChar;
-use std::alloc::AllocError;
+use pb_telegram::{Receiver, RxChar};
 
-/// Puts the characters that a line of hex stands for into `chars`, and says whether the line is
-/// hex: spaces and tabs apart, pairs of hex digits of either case, or `--` for a damaged character.
-/// What `chars` has when the line is no hex is left open.
-pub fn read_characters(chars: &mut Vec<RxChar>, line: &[u8]) -> Result<bool, AllocError>
-    ensures { IfOk result (λ is_hex. characters_of line.now
-        ≡ (if is_hex then Some chars.new.items else None)) }
+/// Feeds the characters that a line of hex stands for to a receiver to which none has come, and
+/// says whether the line is hex: spaces and tabs apart, pairs of hex digits of either case, or `--`
+/// for a damaged character. What the receiver has when the line is no hex is left open.
+pub fn feed_characters(receiver: &mut Receiver, line: &[u8]) -> bool
+    requires { StandsFor receiver.old [] }
+    ensures hex { result ≡ is_some (characters_of line.now) }
+    ensures fed { IfSome (characters_of line.now) (StandsFor receiver.new) }
 {
-    chars.clear();
-    let mut first = None;
-    for byte in line {
-        if is_blank(*byte) {
-            continue;
-        }
-        match first.take() {
-            None => first = Some(*byte),
-            Some(high) => match character(high, *byte) {
-                Some(char) => chars.push(char)?,
-                None => return Ok(false),
-            },
+    let mut place = 0;
+    while let Some(high) = next_digit(line, &mut place) {
+        let Some(low) = next_digit(line, &mut place) else {
+            return false;
+        };
+        match character(high, low) {
+            Some(char) => receiver.feed(char),
+            None => return false,
         }
     }
-    Ok(first.is_none())
+    true
+}
+
+/// The next byte of a line from a place on that is no blank; the place goes behind it, or to the
+/// end of the line where there is none.
+fn next_digit(line: &[u8], place: &mut usize) -> Option<u8>
+    requires { place.old ≤ length line.now }
+    ensures next { IsNextDigit result (drop place.old line.now) (drop place.new line.now) }
+    ensures behind { OnSome result (place.old < place.new) }
+    ensures within { place.new ≤ length line.now }
+{
+    while *place < line.len() {
+        let byte = line[*place];
+        *place += 1;
+        if !is_blank(byte) {
+            return Some(byte);
+        }
+    }
+    None
 }
 
 /// Whether the byte is a space or a tab.

@@ -36,8 +36,8 @@ pub fn decode_lines<R: Source, W: Sink>(
 
     // A fault comes only where its cause is.
     ensures read { IsErrOf result CliFault.Read
-        → IsReadCause (R.failures reader.old) (R.failures reader.new) (R.calls reader.old) (R.calls reader.new)
-        (R.interruptions reader.old) (R.interruptions reader.new) }
+        → IsReadCause (R.failures reader.old) (R.failures reader.new)
+        (R.calls reader.old) (R.calls reader.new) (R.interruptions reader.old) (R.interruptions reader.new) }
     ensures too_long { IsErrOf result CliFault.TooLong
         → IfSome (R.remaining reader.old) (λ input. byte_limit < length input) }
     ensures write { IsErrOf result CliFault.Write

@@ -1,13 +1,15 @@
-ghost use Rattle.std.specs.Prelude.{◌≡◌, ◌++◌, ◌||◌, IfOk, OnOk, is_some};
+ghost use Rattle.std.specs.Prelude.{◌≡◌, ◌++◌, ◌||◌, List, IfOk, OnOk, is_some};
 ghost use Rattle.pb_telegram.specs.Faults.{fault_of};
+ghost use Rattle.pb_telegram.specs.Receiving.{StandsFor};
+ghost use Rattle.pb_telegram.specs.declared.chars.RxChar.{RxChar};
 ghost use Rattle.pb_cli.specs.Characters.{characters_of};
 ghost use Rattle.pb_cli.specs.Decoding.{answer_text, hex_text, is_refused, line_text, output_of, refuses};
 
-use crate::characters::read_characters;
+use crate::characters::feed_characters;
 use crate::laws::spelled_text_is_the_telegrams;
 use crate::texts::{push_fault, push_telegram};
 use bstr::ByteSlice;
-use pb_telegram::{RxChar, parse};
+use pb_telegram::Receiver;
 use std::alloc::{AllocError, Global};
 
 /// Lines of text, and whether one of them is a fault.
@@ -23,45 +25,48 @@ pub fn decode(alloc: Global, input: &[u8]) -> Result<Decoded, AllocError>
     ensures refused { IfOk result (λ decoded. decoded.is_refused ≡ refuses input.now) }
 {
     let mut text = Vec::new(alloc);
-    let mut chars = Vec::new(alloc);
+    let mut receiver = Receiver::new();
     let mut is_refused = false;
     for line in input.lines() {
-        is_refused |= push_line(&mut text, &mut chars, line)?;
+        is_refused |= push_line(&mut text, &mut receiver, line)?;
     }
     Ok(Decoded { text, is_refused })
 }
 
-/// Appends the line of text for a line of hex, and says whether it is refused; `chars` is room for
-/// its characters.
-fn push_line(text: &mut Vec<u8>, chars: &mut Vec<RxChar>, line: &[u8]) -> Result<bool, AllocError>
+/// Appends the line of text for a line of hex, and says whether it is refused; `receiver` is for its
+/// characters.
+fn push_line(text: &mut Vec<u8>, receiver: &mut Receiver, line: &[u8]) -> Result<bool, AllocError>
     ensures text { OnOk result (text.new.items ≡ text.old.items ++ line_text line.now) }
     ensures refused { IfOk result (λ refused. refused ≡ is_refused (characters_of line.now)) }
 {
-    let refused = push_hex(text, chars, line)?;
+    let refused = push_hex(text, receiver, line)?;
     text.extend_from_slice(b"\n")?;
     Ok(refused)
 }
 
 /// Appends the text of the characters that a line stands for, where it is hex, and says whether the
 /// line is refused.
-fn push_hex(text: &mut Vec<u8>, chars: &mut Vec<RxChar>, line: &[u8]) -> Result<bool, AllocError>
+fn push_hex(text: &mut Vec<u8>, receiver: &mut Receiver, line: &[u8]) -> Result<bool, AllocError>
     ensures text { OnOk result (text.new.items ≡ text.old.items ++ hex_text (characters_of line.now)) }
     ensures refused { IfOk result (λ refused. refused ≡ is_refused (characters_of line.now)) }
 {
-    if read_characters(chars, line)? {
-        return push_answer(text, chars);
+    receiver.restart();
+    if feed_characters(receiver, line) {
+        return push_answer(text, receiver);
     }
     text.extend_from_slice(b"fault 0 NotHex")?;
     Ok(true)
 }
 
-/// Appends the text of characters, the telegram that they spell or their first fault, and says
-/// whether it is a fault.
-fn push_answer(text: &mut Vec<u8>, chars: &[RxChar]) -> Result<bool, AllocError>
-    ensures text { OnOk result (text.new.items ≡ text.old.items ++ answer_text chars.now) }
-    ensures refused { IfOk result (λ refused. refused ≡ is_some (fault_of chars.now)) }
+/// Appends the text of the characters that came to a receiver, the telegram that they spell or
+/// their first fault, and says whether it is a fault.
+fn push_answer(text: &mut Vec<u8>, receiver: &Receiver) -> Result<bool, AllocError>
+    ensures text { (chars : List RxChar) → StandsFor receiver.now chars
+        → OnOk result (text.new.items ≡ text.old.items ++ answer_text chars) }
+    ensures refused { (chars : List RxChar) → StandsFor receiver.now chars
+        → IfOk result (λ refused. refused ≡ is_some (fault_of chars)) }
 {
-    match parse(chars) {
+    match receiver.answer() {
         Ok(telegram) => {
             spelled_text_is_the_telegrams();
             push_telegram(text, telegram)?;

@@ -21,8 +21,8 @@ pub fn read_input<R: Source>(alloc: Global, reader: &mut R) -> Result<Vec<u8>, C
     ensures whole { IfOk result (λ input. IfSome (R.remaining reader.old) (λ bytes. input.items ≡ bytes)) }
     ensures fits { IfOk result (λ input. vec_len input ≤ byte_limit) }
     ensures read { IsErrOf result CliFault.Read
-        → IsReadCause (R.failures reader.old) (R.failures reader.new) (R.calls reader.old) (R.calls reader.new)
-        (R.interruptions reader.old) (R.interruptions reader.new) }
+        → IsReadCause (R.failures reader.old) (R.failures reader.new)
+        (R.calls reader.old) (R.calls reader.new) (R.interruptions reader.old) (R.interruptions reader.new) }
     ensures too_long { IsErrOf result CliFault.TooLong
         → IfSome (R.remaining reader.old) (λ bytes. byte_limit < length bytes) }
     ensures unfailed { (result ≢ Err CliFault.Read) → R.failures reader.new ≡ R.failures reader.old }

@@ -2,13 +2,13 @@
 use Rattle.std.specs.Option.{option_map, option_or}
 use Rattle.std.specs.Prelude.{ℕ, ◌+◌, Bool, true, false, if◌then◌else◌, [], Option, Some, None}
 use Rattle.pb_timers.specs.Timers.{Params}
+use Rattle.pb_telegram.specs.declared.heads.Head.{Head}
 use Rattle.pb_messages.specs.Fields.{Fields}
 use Rattle.pb_messages.specs.Messages.{reply_octets}
 use Rattle.pb_messages.specs.declared.messages.Message.{Message}
 use Rattle.pb_cycles.specs.Responding.{reply_frame, reply_to_message, after_message}
 use Rattle.pb_turn.specs.Stations as turn
 use Rattle.pb_turn.specs.Hearing.{asks_status, passive, not_ready, ready_for_ring, in_ring}
-use Rattle.pb_core.specs.declared.replies.Head.{Head}
 use Rattle.pb_core.specs.declared.replies.Reply.{Reply}
 use Rattle.pb_core.specs.declared.replies.StationType.{StationType}
 use Rattle.pb_core.specs.declared.replies.StationType.TheVariants.{Passive, NotReady, Ready, InRing}

@@ -3,7 +3,7 @@ ghost use Rattle.pb_turn.specs.Arrivals as turn;
 ghost use Rattle.pb_core.specs.Arrivals.{brings};
 
 use pb_telegram::{
-    RxChar, Telegram, parse, spelled_unit_is_the_telegrams, what_is_spelled_has_no_fault,
+    Receiver, RxChar, Telegram, spelled_unit_is_the_telegrams, what_is_spelled_has_no_fault,
 };
 
 /// The telegram that the characters of a burst bring; none where they are not one that is whole.
@@ -12,7 +12,11 @@ pub fn whole_telegram(chars: &[RxChar]) -> Option<Telegram>
 {
     spelled_unit_is_the_telegrams();
     what_is_spelled_has_no_fault();
-    match parse(chars) {
+    let mut receiver = Receiver::new();
+    for char in chars {
+        receiver.feed(*char);
+    }
+    match receiver.end() {
         Ok(telegram) => Some(telegram),
         Err(_) => None,
     }

@@ -20,6 +20,6 @@ pub use cycles::{Cycles, copy_outcome, give_up};
 pub use lists::{entered, heard, readied, removed};
 pub use moments::{PastMoment, after};
 pub use past::Past;
-pub use replies::{Head, Reply, StationType, answer, status_answer};
+pub use replies::{Reply, StationType, answer, is_request, status_answer};
 pub use sending::SendBuffer;
 pub use waiting::Waiting;

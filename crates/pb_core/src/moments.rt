@@ -60,7 +60,7 @@ impl PastMoment {
     pub fn later(self, other: PastMoment) -> PastMoment
         ensures { result ≡ max self other }
     {
-        if self.moment.get() < other.moment.get() {
+        if self.moment < other.moment {
             other
         } else {
             self

@@ -3,6 +3,7 @@ ghost use Rattle.std.specs.Option.{option_map};
 ghost use Rattle.pb_telegram.specs.Grammar.{spelling};
 ghost use Rattle.pb_messages.specs.Messages.{frame_octets, address_in, message_of};
 ghost use Rattle.pb_turn.specs.Hearing.{asks_status};
+ghost use Rattle.pb_core.specs.Arrivals.{is_request};
 ghost use Rattle.pb_core.specs.Clocks.{last_turn};
 ghost use Rattle.pb_turn.specs.Phases.{Phase};
 ghost use Rattle.pb_core.specs.Cores.{Becomes};
@@ -11,7 +12,7 @@ ghost use Rattle.pb_core.specs.Replies.{reply_of, code_of, joins, fields_of, ans
 use crate::cores::Kept;
 use crate::moments::after;
 use arrayvec::ArrayVec;
-use pb_telegram::{Fc, ShortTelegram, Telegram, write};
+use pb_telegram::{Fc, Head, ShortTelegram, Telegram, write};
 use pb_timers::{BusParams, Moment};
 
 /// A reply that is not sent yet.
@@ -63,24 +64,6 @@ impl StationType {
 /// The function code of Request FDL Status.
 const STATUS_CODE: u8 = 9;
 
-/// The addresses and the control octet of a telegram.
-#[derive(Clone, Copy, Debug)]
-pub struct Head {
-    pub da: u8,
-    pub sa: u8,
-    pub fc: u8,
-}
-
-impl Head {
-    /// Whether it is that of a request for the status of the station `ts`.
-    fn asks_status(self, ts: u8) -> bool
-        ensures { result ≡ asks_status ts (fields_of self) }
-    {
-        let fc = Fc(self.fc);
-        fc.is_request() && fc.code() == STATUS_CODE && self.da % 128 == ts
-    }
-}
-
 /// The answer to a telegram that ended at a moment, if it is a request for the station's status.
 pub fn status_answer(
     kept: &Kept,
@@ -94,7 +77,7 @@ pub fn status_answer(
         ≡ answer_to params.now kept.now.address at (fields_of head) station_type }
 {
     let ts = kept.address.get();
-    if !head.asks_status(ts) {
+    if !asks_status(head, ts) {
         return None;
     }
     Some(Reply {
@@ -128,6 +111,21 @@ pub fn answer(
             joins: false,
         });
     }
+}
+
+/// Whether a telegram with this head is a request for the status of the station `ts`.
+fn asks_status(head: Head, ts: u8) -> bool
+    ensures { result ≡ asks_status ts (fields_of head) }
+{
+    let fc = Fc(head.fc);
+    fc.is_request() && fc.code() == STATUS_CODE && head.da % 128 == ts
+}
+
+/// Whether a telegram is a request.
+pub fn is_request(telegram: &Telegram) -> bool
+    ensures { result ≡ is_request telegram.now }
+{
+    telegram.head().is_some_and(|head| Fc(head.fc).is_request())
 }
 
 /// When the reply to a request is sent that ended at a moment.

@@ -78,7 +78,8 @@ impl Waiting {
     /// Takes the request of high priority that has waited longest, if one waits.
     pub fn take_high(&mut self) -> Option<Request>
         ensures { MatchOption result ((self.old.high ≡ []) × (self.new ≡ self.old))
-            (λ request. (self.old.high ≡ request ∷ self.new.high) × (self.new ≡ record { high = drop 1 self.old.high; low = self.old.low })) }
+            (λ request. (self.old.high ≡ request ∷ self.new.high)
+            × (self.new ≡ record { high = drop 1 self.old.high; low = self.old.low })) }
     {
         self.queue.take_high()
     }
@@ -86,7 +87,8 @@ impl Waiting {
     /// Takes the request of low priority that has waited longest, if one waits.
     pub fn take_low(&mut self) -> Option<Request>
         ensures { MatchOption result ((self.old.low ≡ []) × (self.new ≡ self.old))
-            (λ request. (self.old.low ≡ request ∷ self.new.low) × (self.new ≡ record { high = self.old.high; low = drop 1 self.old.low })) }
+            (λ request. (self.old.low ≡ request ∷ self.new.low)
+            × (self.new ≡ record { high = self.old.high; low = drop 1 self.old.low })) }
     {
         self.queue.take_low()
     }

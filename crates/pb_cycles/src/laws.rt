@@ -29,10 +29,12 @@ pub fn what_reply_codes_mean()
     ensures data_back { (unit : List ℕ)
         → (code_outcome 8 unit ≡ Some (Data (record { items = unit })))
         × (code_outcome 10 unit ≡ Some (Data (record { items = unit })))
-        × (code_outcome 12 unit ≡ Some (Data (record { items = unit }))) × (code_outcome 13 unit ≡ Some (Data (record { items = unit }))) }
+        × (code_outcome 12 unit ≡ Some (Data (record { items = unit })))
+        × (code_outcome 13 unit ≡ Some (Data (record { items = unit }))) }
     ensures unknown { (unit : List ℕ)
         → (code_outcome 4 unit ≡ None) × (code_outcome 5 unit ≡ None) × (code_outcome 6 unit ≡ None)
-        × (code_outcome 7 unit ≡ None) × (code_outcome 11 unit ≡ None) × (code_outcome 14 unit ≡ None) × (code_outcome 15 unit ≡ None) }
+        × (code_outcome 7 unit ≡ None) × (code_outcome 11 unit ≡ None) × (code_outcome 14 unit ≡ None)
+        × (code_outcome 15 unit ≡ None) }
     ensures above { (code : ℕ) (unit : List ℕ) → 16 ≤ code → code_outcome code unit ≡ None }
 {}
 
@@ -50,7 +52,8 @@ pub fn a_reply_means_what_was_meant()
     ensures srd { (ts d station_type : ℕ) (f : Fields) (high : Bool) (x : ℕ) (unit : List ℕ) → ts ≤ 126
         → d ≤ 126 → station_type ≤ 3 → f.sa ≡ ts
         → IsFalse (has_bit f.da 7)
-        → reply_outcome ts d (heard_as (service_reply d station_type f Srd high (x ∷ unit))) ≡ Some (Data (record { items = x ∷ unit })) }
+        → reply_outcome ts d (heard_as (service_reply d station_type f Srd high (x ∷ unit)))
+        ≡ Some (Data (record { items = x ∷ unit })) }
     ensures srd_without_data { (ts d station_type : ℕ) (f : Fields) (high : Bool) → ts ≤ 126 → d ≤ 126
         → station_type ≤ 3 → f.sa ≡ ts
         → IsFalse (has_bit f.da 7)
@@ -93,7 +96,8 @@ pub fn a_responder_stands_for_what_it_heard()
         → ResponderStandsFor ts (record { reply = reply; kept = None; executed = 0 }) [] }
     ensures message { (ts station_type : ℕ) (t : ResponderTable) (heard : List Heard) (m : Message)
         → ResponderStandsFor ts t heard
-        → ResponderStandsFor ts (after_message t ts station_type m) (heard ++ record { station_type = station_type; message = m } ∷ []) }
+        → ResponderStandsFor ts (after_message t ts station_type m) (heard
+        ++ record { station_type = station_type; message = m } ∷ []) }
 {}
 
 /// Over a link between one initiator and one responder that loses requests and replies, where each
@@ -107,5 +111,9 @@ pub fn a_request_is_executed_once()
     ensures { (l : Link) (retries : ℕ) (t : ResponderTable) (requests : List (RequestFields × List Fate))
         → l.d ≤ 126
         → All (λ x. IsCallTo l x.0) requests
-        → All ExecutesOnce (cycles l (record { retries = retries; counts = replicate 127 First; pending = None }) t requests) }
+        → All ExecutesOnce (cycles l (record {
+          retries = retries;
+          counts = replicate 127 First;
+          pending = None;
+        }) t requests) }
 {}

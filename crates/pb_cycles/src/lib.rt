@@ -25,6 +25,3 @@ pub use pb_messages::{
     octets_say_what_the_telegram_says,
 };
 pub use responders::Responder;
-
-#[cfg(test)]
-mod tests;

@@ -48,7 +48,11 @@ impl Model for Responder {
 
     ghost view = { λ r. record { reply = r.reply.items; kept = r.kept; executed = r.executed } };
 
-    ghost inverse = { λ t. record { reply = record { items = t.reply }; kept = t.kept; executed = t.executed } };
+    ghost inverse = { λ t. record {
+      reply = record { items = t.reply };
+      kept = t.kept;
+      executed = t.executed;
+    } };
 }
 
 /// A reply telegram from `ts`, whose type is `station_type`, to the station that sent the request.

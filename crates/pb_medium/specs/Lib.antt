@@ -7,3 +7,4 @@ pub mod Damaging
 pub mod Noising
 pub mod Losing
 pub mod Settling
+pub mod Changing

@@ -2,6 +2,7 @@
 //! All times are in bit times.
 #![tactic(auto)]
 
+mod changing;
 mod cutting;
 mod damaging;
 mod entries;
@@ -14,6 +15,7 @@ mod spans;
 mod speaking;
 mod traces;
 
+pub use changing::{something_begins, something_lasts};
 pub use entries::{Entry, Heard, Hit, Record};
 pub use senses::{burst_begins, burst_characters, burst_ends, is_in_air_by, is_reached, next_end};
 pub use speaking::Speaker;

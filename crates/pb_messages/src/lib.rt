@@ -21,6 +21,3 @@ pub use messages::{Message, Reply};
 pub use queues::{Queue, QueueFull};
 pub use requests::{Request, RequestFault};
 pub use services::{Asked, Service};
-
-#[cfg(test)]
-mod tests;

@@ -22,17 +22,13 @@ impl Message {
     pub fn read(telegram: &Telegram) -> Message
         ensures { result ≡ message_of telegram.now }
     {
+        if let Some(head) = telegram.head() {
+            let unit = copy_octets(telegram.unit());
+            return Message::Framed(Frame::new(head.da, head.sa, head.fc, unit));
+        }
         match telegram {
-            Telegram::Short(t) => Message::Framed(Frame::new(t.da, t.sa, t.fc, ArrayVec::new())),
-            Telegram::Var(t) => Message::Framed(Frame::new(t.da, t.sa, t.fc, copy_octets(&t.unit))),
-            Telegram::Fixed8(t) => Message::Framed(Frame::new(
-                t.da,
-                t.sa,
-                t.fc,
-                copy_octets(&t.unit),
-            )),
             Telegram::Token(_) => Message::TokenPass,
-            Telegram::Ack => Message::Acknowledgement,
+            _ => Message::Acknowledgement,
         }
     }
 }

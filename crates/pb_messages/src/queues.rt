@@ -116,7 +116,8 @@ impl Queue {
     /// Takes the request of high priority that has waited longest, if one waits.
     pub fn take_high(&mut self) -> Option<Request>
         ensures { MatchOption result ((self.old.high ≡ []) × (self.new ≡ self.old))
-            (λ request. (self.old.high ≡ request ∷ self.new.high) × (self.new ≡ record { high = drop 1 self.old.high; low = self.old.low })) }
+            (λ request. (self.old.high ≡ request ∷ self.new.high)
+            × (self.new ≡ record { high = drop 1 self.old.high; low = self.old.low })) }
     {
         take(&mut self.high)
     }
@@ -124,7 +125,8 @@ impl Queue {
     /// Takes the request of low priority that has waited longest, if one waits.
     pub fn take_low(&mut self) -> Option<Request>
         ensures { MatchOption result ((self.old.low ≡ []) × (self.new ≡ self.old))
-            (λ request. (self.old.low ≡ request ∷ self.new.low) × (self.new ≡ record { high = self.old.high; low = drop 1 self.old.low })) }
+            (λ request. (self.old.low ≡ request ∷ self.new.low)
+            × (self.new ≡ record { high = self.old.high; low = drop 1 self.old.low })) }
     {
         take(&mut self.low)
     }

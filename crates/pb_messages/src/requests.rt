@@ -38,7 +38,12 @@ impl Model for Request {
 
     ghost invariant = { λ r. IsAddressed r.da r.service };
 
-    ghost inverse = { λ r. record { da = r.da; service = r.service; high = r.high; unit = record { items = r.unit } } };
+    ghost inverse = { λ r. record {
+      da = r.da;
+      service = r.service;
+      high = r.high;
+      unit = record { items = r.unit };
+    } };
 }
 
 impl Default for Request {

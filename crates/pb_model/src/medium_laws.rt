@@ -48,7 +48,8 @@ pub fn whole_telegrams_fill_their_bursts_alone()
 /// that sends the other.
 pub fn telegrams_of_one_instant_are_not_heard()
     ensures { (delay : ℕ) (tap : ℕ) (t : Tap) (trace before after : List Entry) (q r : Record) → delay ≡ 0
-        → trace ≡ before ++ Sent q ∷ after → q.tap ≡ tap → q.begin ≡ r.begin → q.begin < q.end → r.begin < r.end
+        → trace ≡ before ++ Sent q ∷ after → q.tap ≡ tap → q.begin ≡ r.begin → q.begin < q.end
+        → r.begin < r.end
         → fills_burst delay tap t trace r ≡ false }
 {}
 
@@ -60,13 +61,17 @@ pub fn only_a_pass_opens_a_burst()
         → is_open (sensed delay tap now trace) now ≡ false }
     ensures begun { (delay : ℕ) (tap since now : ℕ) (e : Entry) (trace : List Entry) → delay ≡ 0
         → entry_begin e ≡ now
-        → is_open (sensed delay tap since (with_entry e trace)) now ≡ is_open (sensed delay tap since trace) now }
+        → is_open (sensed delay tap since (with_entry e trace)) now
+        ≡ is_open (sensed delay tap since trace) now }
     ensures stopped { (delay : ℕ) (tap since now speaker : ℕ) (trace : List Entry) → delay ≡ 0
-        → is_open (sensed delay tap since (map (cut_at now speaker) trace)) now ≡ is_open (sensed delay tap since trace) now }
+        → is_open (sensed delay tap since (map (cut_at now speaker) trace)) now
+        ≡ is_open (sensed delay tap since trace) now }
     ensures longer { (delay : ℕ) (tap since now end : ℕ) (trace : List Entry) → now < end
-        → is_open (sensed delay tap since (change_first (is_noise_at now) (noisy_until end) trace)) now ≡ is_open (sensed delay tap since trace) now }
+        → is_open (sensed delay tap since (change_first (is_noise_at now) (noisy_until end) trace)) now
+        ≡ is_open (sensed delay tap since trace) now }
     ensures lost { (delay : ℕ) (tap since now at speaker : ℕ) (trace : List Entry)
-        → is_open (sensed delay tap since (change_first (begins_from now speaker) (unheard_at at) trace)) now ≡ is_open (sensed delay tap since trace) now }
+        → is_open (sensed delay tap since (change_first (begins_from now speaker) (unheard_at at) trace)) now
+        ≡ is_open (sensed delay tap since trace) now }
 {}
 
 /// What has ended before everything recent began, and before the clock, matters no more: a tap's
@@ -76,7 +81,8 @@ pub fn what_has_ended_matters_no_more()
         → next_end_of delay now (old ++ recent) ≡ next_end_of delay now recent }
     ensures telegrams { (delay : ℕ) (m from to : ℕ) (taps : List Tap) (old recent : List Entry) → delay ≡ 0
         → AllOver m old → AllFrom m recent → m ≤ from
-        → map (entry_at delay taps (old ++ recent) from to) (old ++ recent) ≡ old ++ map (entry_at delay taps recent from to) recent }
+        → map (entry_at delay taps (old ++ recent) from to) (old ++ recent)
+        ≡ old ++ map (entry_at delay taps recent from to) recent }
     ensures marks { (delay : ℕ) (tap m from to : ℕ) (t : Tap) (old recent : List Entry) → delay ≡ 0
         → AllOver m old → AllFrom m recent → m ≤ from
         → marks_between delay tap t (old ++ recent) from to ≡ marks_between delay tap t recent from to }

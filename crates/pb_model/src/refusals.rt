@@ -56,7 +56,8 @@ pub fn only_what_is_in_the_air_is_damaged()
     ensures lost { refusals_of two_masters
         (Start 0 ∷ Start 1 ∷ Pass 800 ∷ Unheard 1 0 ∷ Turn 0 ∷ Unheard 0 0 ∷ Unheard 1 0 ∷ Pass 1 ∷ Unheard 1
         0 ∷ [])
-        ≡ None ∷ None ∷ None ∷ Some NothingInAir ∷ None ∷ Some NothingInAir ∷ None ∷ None ∷ Some NothingInAir ∷ [] }
+        ≡ None ∷ None ∷ None ∷ Some NothingInAir ∷ None ∷ Some NothingInAir ∷ None ∷ None
+        ∷ Some NothingInAir ∷ [] }
     ensures every_character { marks_of two_masters
         (Start 0 ∷ Start 1 ∷ Pass 800 ∷ Turn 0 ∷ Damage 1 0 None ∷ Pass 33 ∷ [])
         ≡ [] ∷ (Begin 800 833 ∷ End 833 833 (Bad ∷ Bad ∷ Bad ∷ []) ∷ []) ∷ [] }

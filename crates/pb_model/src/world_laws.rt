@@ -28,6 +28,8 @@ pub fn marks_stand_in_order_of_time()
 pub fn what_a_pass_tells_a_tap()
     ensures { (p : Params) (specs : List TapSpec) (w : World) (events : List Event) (d tap : ℕ)
         (next : World) (reply : Reply) (t : Tap)
-        → p.ttd ≡ 0 → AllFit specs → AreEvents events → new_world p specs ≡ Ok w → step (replay w events) (Pass d) ≡ Ok (next, reply)
-        → slice_get (replay w events).taps tap ≡ Some t → t.running ≡ true → PassTells (replay w events) next tap t }
+        → p.ttd ≡ 0 → AllFit specs → AreEvents events → new_world p specs ≡ Ok w
+        → step (replay w events) (Pass d) ≡ Ok (next, reply)
+        → slice_get (replay w events).taps tap ≡ Some t → t.running ≡ true
+        → PassTells (replay w events) next tap t }
 {}

@@ -42,11 +42,9 @@ fn phase_begun(phase: Phase, own: Moment, at: Moment) -> Phase
         Phase::Claim(holder) => Phase::Idle(holder.on_foreign()),
         Phase::Use(holder) => Phase::Idle(holder.on_foreign()),
         Phase::AwaitData(holder) => Phase::AwaitData(holder.on_activity(own, at)),
-        Phase::AwaitStatus(holder) if at.get() >= own.get() => {
-            Phase::AwaitStatus(holder.on_activity())
-        }
+        Phase::AwaitStatus(holder) if at >= own => Phase::AwaitStatus(holder.on_activity()),
         Phase::Pass(holder) => Phase::Idle(holder.on_foreign()),
-        Phase::Checking(checking) if at.get() >= own.get() => Phase::Idle(checking.on_activity()),
+        Phase::Checking(checking) if at >= own => Phase::Idle(checking.on_activity()),
         other => other,
     }
 }

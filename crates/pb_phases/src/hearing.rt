@@ -9,7 +9,7 @@ ghost use Rattle.pb_turn.specs.Arrivals.{Framed};
 ghost use Rattle.pb_turn.specs.Phases as turn;
 ghost use Rattle.pb_turn.specs.Hearing.{doubled_by, listening_hears, is_taken_from, own_token, foreign_token, token_in_idle, idle_hears, passive_hears, holder_hears, no_reply, data_told, awaiting_data_hears, status_told, awaiting_status_hears, with_token, lost, tells_ready, phase_ended, ended};
 ghost use Rattle.pb_tokenfsm.specs.Phases.{phase_of, is_doubled, refused_by, asked_station, was_asked, has_data_slot};
-ghost use Rattle.pb_core.specs.Arrivals.{brings, telegram_brings, is_framed, is_request, is_token};
+ghost use Rattle.pb_core.specs.Arrivals.{brings, telegram_brings, is_framed, is_token};
 ghost use Rattle.pb_core.specs.Replies.{reply_of, fields_of, answer_to};
 ghost use Rattle.pb_core.specs.declared.replies.StationType.TheVariants.{Ready, NotReady};
 ghost use Rattle.pb_core.specs.Clocks.{last_turn};
@@ -18,11 +18,11 @@ ghost use Rattle.pb_core.specs.Cores.{Becomes};
 use crate::rotations::received_if;
 use crate::timers::given_up;
 use pb_core::{
-    Head, Kept, Reply, StationType, after, answer, cycles, entered, heard, status_answer,
+    Kept, Reply, StationType, after, answer, cycles, entered, heard, is_request, status_answer,
 };
 use pb_cycles::status_reply;
 use pb_ring::Las;
-use pb_telegram::{Fc, Telegram, TokenTelegram};
+use pb_telegram::{Fc, Head, Telegram, TokenTelegram};
 use pb_timers::{BusParams, Moment};
 use pb_tokenfsm::{AwaitData, AwaitStatus, Holding, Idle, Listening, Phase};
 
@@ -201,16 +201,11 @@ fn listening_hears(
 {
     match arrival {
         Some(Telegram::Token(token)) => listening_token(listening, kept, token),
-        Some(Telegram::Short(t)) => {
-            listening_asked(listening, kept, params, at, head(t.da, t.sa, t.fc))
-        }
-        Some(Telegram::Var(t)) => {
-            listening_asked(listening, kept, params, at, head(t.da, t.sa, t.fc))
-        }
-        Some(Telegram::Fixed8(t)) => {
-            listening_asked(listening, kept, params, at, head(t.da, t.sa, t.fc))
-        }
-        Some(Telegram::Ack) | None => Phase::Listening(listening),
+        Some(telegram) => match telegram.head() {
+            Some(head) => listening_asked(listening, kept, params, at, head),
+            None => Phase::Listening(listening),
+        },
+        None => Phase::Listening(listening),
     }
 }
 
@@ -272,12 +267,6 @@ fn listening_answer(kept: &Kept, params: &BusParams, at: Moment, head: Head) -> 
     status_answer(kept, params, at, head, station_type)
 }
 
-fn head(da: u8, sa: u8, fc: u8) -> Head
-    ensures { result ≡ record { da = da; sa = sa; fc = fc } }
-{
-    Head { da, sa, fc }
-}
-
 // ---- holders, and Checking
 
 /// One that holds the token, or checks what became of it, takes note of a token that it hears.
@@ -300,18 +289,6 @@ fn token_lost<S: Copy>(holder: Holding<S>, kept: &mut Kept, token: &TokenTelegra
     Phase::Idle(holder.on_foreign())
 }
 
-/// Whether a telegram is a request.
-fn is_request(telegram: &Telegram) -> bool
-    ensures { result ≡ is_request telegram.now }
-{
-    match telegram {
-        Telegram::Short(t) => Fc(t.fc).is_request(),
-        Telegram::Var(t) => Fc(t.fc).is_request(),
-        Telegram::Fixed8(t) => Fc(t.fc).is_request(),
-        Telegram::Token(_) | Telegram::Ack => false,
-    }
-}
-
 /// When a station speaks again after an end that brought no reply: the idle time after it, and after its own
 /// telegram.
 fn ready_after(kept: &Kept, params: &BusParams, at: Moment) -> Moment
@@ -326,7 +303,7 @@ fn ready_after(kept: &Kept, params: &BusParams, at: Moment) -> Moment
 fn later(a: Moment, b: Moment) -> Moment
     ensures { result ≡ max a b }
 {
-    if a.get() < b.get() { b } else { a }
+    if a < b { b } else { a }
 }
 
 // ---- AwaitStatus

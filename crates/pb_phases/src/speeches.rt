@@ -52,10 +52,11 @@ pub fn speak(
     requires clock { now ≤ last_turn }
     requires received { HasReceived (station_with kept.old waiting.old (phase_of phase.old)) }
     ensures { let before = station_with kept.old waiting.old (phase_of phase.old) in
-        spoken_with kept.new waiting.new (phase_of phase.new) out.new ≡ speech params.now before (speaks_at before) now }
+        spoken_with kept.new waiting.new (phase_of phase.new) out.new
+        ≡ speech params.now before (speaks_at before) now }
 {
     match speaks_at(phase, kept) {
-        Some(moment) if moment.get() <= now.get() => {
+        Some(moment) if moment <= now => {
             let before = phase.take();
             *phase = says(before, kept, waiting, params, now, out);
         }
@@ -70,7 +71,7 @@ pub fn would_say(phase: &Phase, kept: &Kept, now: Moment) -> bool
         ≡ is_some (speech p s (speaks_at s) now).1 }
 {
     match speaks_at(phase, kept) {
-        Some(moment) if moment.get() <= now.get() => has_words(phase, kept),
+        Some(moment) if moment <= now => has_words(phase, kept),
         _ => false,
     }
 }
@@ -206,7 +207,8 @@ fn says_in_use(
     requires clock { now ≤ last_turn }
     requires received { IsSome kept.old.rotation.last }
     ensures { let before = station_with kept.old waiting.old (phase_of (Phase.Use holder)) in
-        spoken_with kept.new waiting.new (phase_of result) out.new ≡ says_in_use params.now before (has_asked holder) now }
+        spoken_with kept.new waiting.new (phase_of result) out.new
+        ≡ says_in_use params.now before (has_asked holder) now }
 {
     if waiting.has_high() {
         says_high(holder, kept, waiting, params, now, out)
@@ -314,7 +316,8 @@ fn says_high(
     requires clock { now ≤ last_turn }
     requires received { IsSome kept.old.rotation.last }
     ensures { let before = station_with kept.old waiting.old (phase_of (Phase.Use holder)) in
-        spoken_with kept.new waiting.new (phase_of result) out.new ≡ says_in_use params.now before (has_asked holder) now }
+        spoken_with kept.new waiting.new (phase_of result) out.new
+        ≡ says_in_use params.now before (has_asked holder) now }
 {
     match take_high(kept, waiting, now) {
         Some(request) => says_request(holder, kept, params, now, request, out),
@@ -334,7 +337,8 @@ fn says_low(
     requires clock { now ≤ last_turn }
     requires received { IsSome kept.old.rotation.last }
     ensures { let before = station_with kept.old waiting.old (phase_of (Phase.Use holder)) in
-        spoken_with kept.new waiting.new (phase_of result) out.new ≡ says_low params.now before (has_asked holder) (low_request before now) now }
+        spoken_with kept.new waiting.new (phase_of result) out.new
+        ≡ says_low params.now before (has_asked holder) (low_request before now) now }
 {
     if waiting.has_low() {
         says_first_low(holder, kept, waiting, params, now, out)
@@ -410,7 +414,8 @@ fn says_first_low(
     requires clock { now ≤ last_turn }
     requires received { IsSome kept.old.rotation.last }
     ensures { let before = station_with kept.old waiting.old (phase_of (Phase.Use holder)) in
-        spoken_with kept.new waiting.new (phase_of result) out.new ≡ says_low params.now before (has_asked holder) (low_request before now) now }
+        spoken_with kept.new waiting.new (phase_of result) out.new
+        ≡ says_low params.now before (has_asked holder) (low_request before now) now }
 {
     match take_low(kept, waiting, now) {
         Some(request) => says_request(holder, kept, params, now, request, out),

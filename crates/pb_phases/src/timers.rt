@@ -19,12 +19,12 @@ use pb_timers::{BusParams, Moment};
 use pb_tokenfsm::{AwaitData, Checking, Holding, Phase, TRIES};
 
 /// The station after its timer, where that ends before the limit.
-pub fn after_timer(phase: Phase, kept: &mut Kept, params: &BusParams, limit: u64) -> Phase
+pub fn after_timer(phase: Phase, kept: &mut Kept, params: &BusParams, limit: Moment) -> Phase
     ensures { Becomes (λ s. after_timer params.now limit s)
         kept.old (phase_of phase) kept.new (phase_of result) }
 {
     match timer(&phase, kept, params) {
-        Some(moment) if moment.get() < limit => timed_out(phase, kept, moment),
+        Some(moment) if moment < limit => timed_out(phase, kept, moment),
         _ => phase,
     }
 }

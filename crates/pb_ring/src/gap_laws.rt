@@ -12,7 +12,8 @@ ghost use Rattle.pb_ring.specs.Laws.{Look, StandsForLooks, look_of, asked_in_rou
 pub fn a_round_stands_for_its_looks()
     ensures fresh { StandsForLooks (Open None) [] }
     ensures look { (round : Round) (looks : List Look) (ts ns hsa now : ℕ) → StandsForLooks round looks
-        → StandsForLooks (round_after (next_asked ts ns hsa (last_asked round)) now) (looks ++ look_of (next_asked ts ns hsa (last_asked round)) now ∷ []) }
+        → StandsForLooks (round_after (next_asked ts ns hsa (last_asked round)) now) (looks
+        ++ look_of (next_asked ts ns hsa (last_asked round)) now ∷ []) }
     ensures asked { (round : Round) (looks : List Look) → StandsForLooks round looks
         → last_asked round ≡ last_of (asked_in_round [] looks) }
 {}
@@ -22,12 +23,14 @@ pub fn a_round_stands_for_its_looks()
 pub fn gaps_share_out_the_other_addresses()
     ensures each { (members : List ℕ) (m a hsa : ℕ) → IsAscending members → is_member members m ≡ true
         → is_member members a ≡ false → a ≤ hsa
-        → is_member (gap_range (previous_address a members) (next_address (previous_address a members) members) hsa) a ≡ true }
+        → is_member (gap_range (previous_address a members)
+        (next_address (previous_address a members) members) hsa) a ≡ true }
     ensures owner { (members : List ℕ) (m a : ℕ) → IsAscending members → is_member members m ≡ true
         → is_member members (previous_address a members) ≡ true }
     ensures once { (members : List ℕ) (m n a hsa : ℕ) → IsAscending members → is_member members m ≡ true
         → is_member members n ≡ true
-        → is_member (gap_range m (next_address m members) hsa) a ≡ true → is_member (gap_range n (next_address n members) hsa) a ≡ true → m ≡ n }
+        → is_member (gap_range m (next_address m members) hsa) a ≡ true
+        → is_member (gap_range n (next_address n members) hsa) a ≡ true → m ≡ n }
     ensures highest { (ts ns hsa a : ℕ) → is_member (gap_range ts ns hsa) a ≡ true → a ≤ hsa }
     ensures others { (members : List ℕ) (m a hsa : ℕ) → IsAscending members → is_member members m ≡ true
         → is_member (gap_range m (next_address m members) hsa) a ≡ true → is_member members a ≡ false }
@@ -38,7 +41,8 @@ pub fn gaps_share_out_the_other_addresses()
 pub fn a_round_asks_each_address_once()
     ensures answers { (ts ns hsa now : ℕ) (round : Round) (moments : List ℕ) → last_asked round ≡ None
         → length moments ≡ length (from_behind ts (gap_range ts ns hsa))
-        → answers ts ns hsa round (moments ++ now ∷ []) ≡ map Some (from_behind ts (gap_range ts ns hsa)) ++ None ∷ [] }
+        → answers ts ns hsa round (moments ++ now ∷ [])
+        ≡ map Some (from_behind ts (gap_range ts ns hsa)) ++ None ∷ [] }
     ensures closes { (ts ns hsa now : ℕ) (round : Round) (moments : List ℕ) → last_asked round ≡ None
         → length moments ≡ length (from_behind ts (gap_range ts ns hsa))
         → round_at_end ts ns hsa round (moments ++ now ∷ []) ≡ Closed now }

@@ -73,7 +73,8 @@ pub fn skips_are_counted()
         → CountsTo (heard t sa da) place.address 0 }
     ensures other { (t : LasTable) (members : List ℕ) (place : Place) (sa da : ℕ)
         → t.stage ≡ Complete members (Some place)
-        → is_retry t.last sa da ≡ false → (sa == place.address || da == place.address) ≡ false → is_between sa da place.address ≡ false
+        → is_retry t.last sa da ≡ false → (sa == place.address || da == place.address) ≡ false
+        → is_between sa da place.address ≡ false
         → CountsTo (heard t sa da) place.address place.skipped }
     ensures retry { (t : LasTable) (sa da : ℕ) → is_retry t.last sa da ≡ true
         → (heard t sa da).stage ≡ t.stage }

@@ -116,7 +116,8 @@ impl Rotation {
         ensures value { result ≡ model.may_high self.now now }
         ensures receipts { (ttr : ℕ) (happenings : List heard.Happening)
             → model.StandsFor ttr self.now happenings
-            → IfSome (heard.measured_from happenings) (λ from. result ≡ (nat_lt 0 (from + ttr - now) || not (heard.has_started_high happenings))) }
+            → IfSome (heard.measured_from happenings) (λ from. result
+            ≡ (nat_lt 0 (from + ttr - now) || not (heard.has_started_high happenings))) }
     {
         self.may_low(now) || self.last.is_some_and(|last| !last.high)
     }

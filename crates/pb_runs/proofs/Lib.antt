@@ -1,5 +1,5 @@
 mod Accepting
-mod Moments
+pub mod Moments
 mod Sorting
 mod Following
 mod Ending

@@ -26,7 +26,7 @@ after-entry : (delay now : ℕ) (e : Entry) → LiesAfter now (entry_next_end de
 after-entry delay now (Noise span) = after-later_end now span.end
 after-entry delay now (Sent r) = earlier-later now (later_end now r.end) (later_end now (reaches delay r).end) (after-later_end now r.end) (after-later_end now (reaches delay r).end)
 
-after-next_end : (delay now : ℕ) (es : List Entry) → LiesAfter now (next_end_of delay now es)
+pub after-next_end : (delay now : ℕ) (es : List Entry) → LiesAfter now (next_end_of delay now es)
 after-next_end delay now [] = tt
 after-next_end delay now (e ∷ es) = earlier-later now (entry_next_end delay now e) (next_end_of delay now es) (after-entry delay now e) (after-next_end delay now es)
 

@@ -31,7 +31,7 @@ pub(crate) fn after_marks(
 {
     let mut current = phase;
     for mark in marks {
-        let timed = after_timer(current, kept, params, mark.moment().get());
+        let timed = after_timer(current, kept, params, mark.moment());
         current = after_mark(timed, kept, params, mark);
     }
     current

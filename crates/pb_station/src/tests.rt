@@ -80,7 +80,7 @@ fn mark(word: &str) -> Result<Mark, Fail> {
 fn are_over(marks: &[Mark], now: Moment) -> bool
     ensures { result ≡ true → AreOver now marks.now }
 {
-    marks.iter().all(|mark| mark.moment().get() <= now.get())
+    marks.iter().all(|mark| mark.moment() <= now)
 }
 
 /// A moment, or `-` for none.

@@ -10,7 +10,7 @@ ghost use Rattle.pb_station.specs.MarkViews.{mark_of, AreOver};
 
 use crate::marks::Mark;
 use crate::reading::after_marks;
-use pb_core::{Core, Kept, SendBuffer};
+use pb_core::{Core, Kept, SendBuffer, after};
 use pb_phases::{after_timer, speak, speaks_at, timer, would_say};
 use pb_timers::{BusParams, Moment};
 use pb_tokenfsm::Phase;
@@ -69,7 +69,7 @@ fn settle(phase: Phase, kept: &mut Kept, params: &BusParams, marks: &[Mark], now
         kept.old (phase_of phase) kept.new (phase_of result) }
 {
     let read = after_marks(phase, kept, params, marks, now);
-    after_timer(read, kept, params, now.get() + 1)
+    after_timer(read, kept, params, after(now, 1))
 }
 
 /// The earlier of two moments, of which either may be missing.
@@ -77,7 +77,7 @@ fn earlier(a: Option<Moment>, b: Option<Moment>) -> Option<Moment>
     ensures { result ≡ earlier a b }
 {
     match (a, b) {
-        (Some(a), Some(b)) => Some(if b.get() < a.get() { b } else { a }),
+        (Some(a), Some(b)) => Some(if b < a { b } else { a }),
         (a, b) => a.or(b),
     }
 }

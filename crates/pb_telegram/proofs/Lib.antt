@@ -2,3 +2,5 @@ pub mod Frames
 pub mod Spelled
 pub mod OneTelegram
 pub mod Beginnings
+mod Standing
+mod Ended

@@ -2,3 +2,5 @@ pub mod FaultWords
 pub mod Faults
 pub mod Grammar
 pub mod Initiators
+pub mod Heads
+pub mod Receiving

@@ -10,8 +10,10 @@ mod chars;
 mod control;
 mod copying;
 mod faults;
+mod heads;
 mod laws;
 mod parsing;
+mod receiving;
 mod telegrams;
 mod writing;
 
@@ -19,11 +21,13 @@ pub use chars::RxChar;
 pub use control::{Fc, fcs};
 pub use copying::copy_octets;
 pub use faults::TelegramFault;
+pub use heads::Head;
 pub use laws::{
     first_fault_comes_first, no_spelling_begins_another, one_telegram_for_octets,
     spelled_unit_is_the_telegrams, what_is_spelled_has_no_fault,
 };
 pub use parsing::parse;
+pub use receiving::Receiver;
 pub use telegrams::{Fixed8Telegram, ShortTelegram, Telegram, TokenTelegram, VarTelegram};
 pub use writing::write;
 

@@ -1,6 +1,7 @@
 use super::*;
 use arrayvec::ArrayVec;
 use std::alloc::{AllocError, Global};
+use std::process::Abort;
 use std::test::Fail;
 
 /// Octets as characters that are all good.
@@ -261,4 +262,249 @@ fn faults_have_numbers_and_names(rt: HostRuntime) -> Result<(), Fail> {
         assert!(rt; shown.contains(fault.name()));
     }
     Ok(())
+}
+
+#[test]
+fn a_telegram_gives_its_fields(rt: HostRuntime) -> Result<(), Fail> {
+    for (octets, da, sa, fc, unit) in [
+        (
+            [0x10, 7, 1, 0x6c, 0x74, 0x16].as_slice(),
+            7,
+            1,
+            0x6c,
+            [].as_slice(),
+        ),
+        (
+            [0x68, 5, 5, 0x68, 7, 1, 0x6d, 0xaa, 0xbb, 0xda, 0x16].as_slice(),
+            7,
+            1,
+            0x6d,
+            [0xaa, 0xbb].as_slice(),
+        ),
+        (
+            [0xa2, 1, 7, 8, 1, 2, 3, 4, 5, 6, 7, 8, 0x34, 0x16].as_slice(),
+            1,
+            7,
+            8,
+            [1, 2, 3, 4, 5, 6, 7, 8].as_slice(),
+        ),
+    ] {
+        let telegram = parse(&good(rt.alloc(), octets)?)?;
+        assert_eq!(rt; telegram.head(), Some(Head { da, sa, fc }));
+        assert_eq!(rt; telegram.unit(), unit);
+    }
+    let token = parse(&good(rt.alloc(), &[0xdc, 2, 1])?)?;
+    assert_eq!(rt; token.head(), None);
+    assert!(rt; token.unit().is_empty());
+    assert_eq!(rt; Telegram::Ack.head(), None);
+    Ok(())
+}
+
+/// What a receiver makes of characters.
+fn fed(chars: &[RxChar]) -> Result<Telegram, TelegramFault> {
+    let mut receiver = Receiver::new();
+    for char in chars {
+        receiver.feed(*char);
+    }
+    receiver.end()
+}
+
+#[test]
+fn a_receiver_is_fed_a_character_at_a_time(rt: HostRuntime) {
+    let bad = RxChar::Bad;
+    assert_eq!(rt; Receiver::new().end(), Err(TelegramFault::Empty));
+    assert_eq!(rt; Receiver::new().fed(), 0);
+    let acknowledged = [RxChar::Good(0xe5), bad, RxChar::Good(0x16)];
+    assert_eq!(rt; fed(&acknowledged), Err(TelegramFault::Faulty(1)));
+    let var = [RxChar::Good(0x68), RxChar::Good(4), bad];
+    assert_eq!(rt; fed(&var), Err(TelegramFault::Faulty(2)));
+    let short = [RxChar::Good(0x10), RxChar::Good(3), bad];
+    assert_eq!(rt; fed(&short), Err(TelegramFault::Faulty(2)));
+    let mut receiver = Receiver::new();
+    for char in &short {
+        receiver.feed(*char);
+    }
+    assert_eq!(rt; receiver.fed(), 3);
+    assert_eq!(rt; receiver.answer(), Err(TelegramFault::Faulty(2)));
+    receiver.restart();
+    assert_eq!(rt; receiver.answer(), Err(TelegramFault::Empty));
+    receiver.feed(RxChar::Good(0xe5));
+    assert_eq!(rt; receiver.answer(), Ok(Telegram::Ack));
+}
+
+/// What is found in the fronts of octets: from how many octets on which fault, and the telegram that
+/// all of them spell, where there is one.
+#[derive(Drop)]
+struct Fronts<'a> {
+    octets: &'a [u8],
+    faults: &'a [(usize, TelegramFault)],
+    telegram: Option<Telegram>,
+}
+
+impl Fronts<'_> {
+    /// What is found in so many of the octets.
+    fn found(&self, count: usize) -> Result<&Telegram, TelegramFault> {
+        if count == self.octets.len() {
+            if let Some(telegram) = &self.telegram {
+                return Ok(telegram);
+            }
+        }
+        let mut found = TelegramFault::Empty;
+        for (from, fault) in self.faults {
+            if *from <= count {
+                found = *fault;
+            }
+        }
+        Err(found)
+    }
+}
+
+/// Each front of the octets is received as it is parsed, with its answer.
+fn fronts_are_received(rt: &impl Abort, alloc: Global, fronts: &Fronts) -> Result<(), Fail> {
+    let chars = good(alloc, fronts.octets)?;
+    for count in 0..=chars.len() {
+        let front = &chars[..count];
+        assert_eq!(rt;
+            fed(front).as_ref().map_err(|fault| *fault),
+            fronts.found(count)
+        );
+        assert_eq!(rt; fed(front), parse(front));
+    }
+    Ok(())
+}
+
+/// With a damaged character at each place, each front is received as it is parsed: what it is
+/// without the damage, or the place of it.
+fn damaged_fronts_are_received(
+    rt: &impl Abort,
+    alloc: Global,
+    fronts: &Fronts,
+) -> Result<(), Fail> {
+    let mut chars = good(alloc, fronts.octets)?;
+    for place in 0..chars.len() {
+        let octet = std::mem::replace(&mut chars[place], RxChar::Bad);
+        for count in 0..=chars.len() {
+            let answer = fed(&chars[..count]);
+            if count > place {
+                assert_eq!(rt; answer, Err(TelegramFault::Faulty(place)));
+            }
+            assert_eq!(rt; answer, parse(&chars[..count]));
+        }
+        chars[place] = octet;
+    }
+    Ok(())
+}
+
+#[test]
+fn fronts_of_telegrams_are_received_as_they_are_parsed(rt: HostRuntime) -> Result<(), Fail> {
+    let (empty, truncated) = ((0, TelegramFault::Empty), (1, TelegramFault::Truncated));
+    let cut = [empty, truncated];
+    let wrong_check = [empty, truncated, (6, TelegramFault::BadFcs)];
+    let wrong_length = [empty, truncated, (4, TelegramFault::BadLength)];
+    let two_lengths = [empty, truncated, (10, TelegramFault::LengthsDiffer)];
+    let no_address = [empty, truncated, (3, TelegramFault::BadAddress)];
+    let unit = ArrayVec::try_from([0xff].as_slice())?;
+    let (da, sa, fc) = (127, 2, 0x44);
+    let rows = [
+        Fronts {
+            octets: &[0xdc, 3, 2],
+            faults: &cut,
+            telegram: Some(Telegram::Token(TokenTelegram { da: 3, sa: 2 })),
+        },
+        Fronts {
+            octets: &[0x10, 3, 2, 0x49, 0x4e, 0x16],
+            faults: &cut,
+            telegram: Some(Telegram::Short(ShortTelegram {
+                da: 3,
+                sa: 2,
+                fc: 0x49,
+            })),
+        },
+        Fronts {
+            octets: &[0x10, 3, 2, 0x49, 0x4f, 0x16],
+            faults: &wrong_check,
+            telegram: None,
+        },
+        Fronts {
+            octets: &[0x68, 4, 4, 0x68, 0x7f, 2, 0x44, 0xff, 0xc4, 0x16],
+            faults: &cut,
+            telegram: Some(Telegram::Var(VarTelegram { da, sa, fc, unit })),
+        },
+        Fronts {
+            octets: &[0x68, 3, 3, 0x68, 2, 1, 0x44, 0x47, 0x16],
+            faults: &wrong_length,
+            telegram: None,
+        },
+        Fronts {
+            octets: &[0x68, 4, 5, 0x68, 0x7f, 2, 0x44, 0xff, 0xc4, 0x16],
+            faults: &two_lengths,
+            telegram: None,
+        },
+        Fronts {
+            octets: &[0x68, 5, 5, 0x68, 0x7f, 2, 0x44, 0xff, 0xc4, 0x16],
+            faults: &cut,
+            telegram: None,
+        },
+        Fronts {
+            octets: &[0xa2, 5, 2, 0x7d, 0, 0, 0, 0, 0, 0, 0, 0, 0x84, 0x16],
+            faults: &cut,
+            telegram: Some(Telegram::Fixed8(Fixed8Telegram {
+                da: 5,
+                sa: 2,
+                fc: 0x7d,
+                unit: [0; 8],
+            })),
+        },
+        Fronts {
+            octets: &[0xe5],
+            faults: &[empty],
+            telegram: Some(Telegram::Ack),
+        },
+        Fronts {
+            octets: &[0xdc, 0x7f, 2],
+            faults: &no_address,
+            telegram: None,
+        },
+    ];
+    for row in &rows {
+        fronts_are_received(&rt, rt.alloc(), row)?;
+        damaged_fronts_are_received(&rt, rt.alloc(), row)?;
+    }
+    assert_eq!(rt; fed(&[RxChar::Good(0xe5)]), Ok(Telegram::Ack));
+    let twice = [RxChar::Good(0xe5), RxChar::Good(0xe5)];
+    assert_eq!(rt; fed(&twice), Err(TelegramFault::Trailing));
+    Ok(())
+}
+
+#[test]
+fn fronts_of_the_longest_telegram_are_received(rt: HostRuntime) -> Result<(), Fail> {
+    let mut octets = vec![in rt.alloc(); 0x68, 0xf9, 0xf9, 0x68, 2, 1, 0x44]?;
+    octets.extend_from_slice(&[0; 246])?;
+    octets.extend_from_slice(&[0x47, 0x16])?;
+    let longest = Telegram::Var(VarTelegram {
+        da: 2,
+        sa: 1,
+        fc: 0x44,
+        unit: ArrayVec::try_from([0; 246].as_slice())?,
+    });
+    let faults = [(0, TelegramFault::Empty), (1, TelegramFault::Truncated)];
+    let fronts = Fronts {
+        octets: &octets,
+        faults: &faults,
+        telegram: Some(longest),
+    };
+    fronts_are_received(&rt, rt.alloc(), &fronts)?;
+    octets[1] = 0xfa;
+    octets[2] = 0xfa;
+    let too_long = [
+        (0, TelegramFault::Empty),
+        (1, TelegramFault::Truncated),
+        (4, TelegramFault::BadLength),
+    ];
+    let fronts = Fronts {
+        octets: &octets,
+        faults: &too_long,
+        telegram: None,
+    };
+    fronts_are_received(&rt, rt.alloc(), &fronts)
 }

@@ -238,7 +238,7 @@ impl Holding<AwaitData> {
             ≡ turn.AwaitData (was_asked self) None (has_data_slot self && nat_lt at own) }
     {
         let Holding { state } = self;
-        let slot = state.slot && at.get() < own.get();
+        let slot = state.slot && at < own;
         Holding::awaiting(state.asked, None, slot)
     }
 

@@ -51,7 +51,8 @@ pub fn a_holder_gives_way()
         → awaiting_status_hears p s of at (Token da sa)
         ≡ record s { phase = Idle None; las = las.heard s.las sa da } }
     ensures request { (p : Params) (s : Station) (asked slot : Bool) (at da sa : ℕ)
-        → awaiting_data_hears p s asked slot at (Token da sa) ≡ record s { phase = Idle None; las = las.heard s.las sa da } }
+        → awaiting_data_hears p s asked slot at (Token da sa)
+        ≡ record s { phase = Idle None; las = las.heard s.las sa da } }
 {}
 
 /// What a station without the token knows outlasts what it hears and replies, where that says nothing of it: whose
@@ -62,7 +63,8 @@ pub fn what_a_station_knows_outlasts_its_replies()
     ensures asked_listening { (p : Params) (s : Station) (doubled : Bool) (at : ℕ) (f : Fields)
         → (listening_hears p s doubled at (Framed f)).phase ≡ s.phase }
     ensures token { (p : Params) (s : Station) (doubled : Bool) (at da sa : ℕ) → (sa == s.address) ≡ false
-        → listening_hears p s doubled at (Token da sa) ≡ record s { phase = Listening doubled; las = las.heard s.las sa da } }
+        → listening_hears p s doubled at (Token da sa)
+        ≡ record s { phase = Listening doubled; las = las.heard s.las sa da } }
     ensures replied { (p : Params) (s : Station) (refused : Option ℕ) (now : ℕ)
         → (phase_says p s (Idle refused) now).0.phase ≡ s.phase }
     ensures replied_listening { (p : Params) (s : Station) (doubled : Bool) (now : ℕ) (r : Reply)
@@ -81,7 +83,8 @@ pub fn what_is_no_telegram_tells_nothing()
         → after_mark p s (End at seen chars) ≡ record s { busy = false; quiet = max s.quiet at } }
     ensures acknowledgement { (p : Params) (s : Station) (at seen : ℕ) (chars : List RxChar)
         → is_offline s.phase ≡ false → awaits_reply s.phase ≡ false
-        → arrival_of chars ≡ Acknowledgement → after_mark p s (End at seen chars) ≡ record s { busy = false; quiet = max s.quiet at } }
+        → arrival_of chars ≡ Acknowledgement → after_mark p s (End at seen chars)
+        ≡ record s { busy = false; quiet = max s.quiet at } }
 {}
 
 /// After an End, whatever it brings, a station is no longer busy, and the bus has been quiet since it, or
@@ -125,7 +128,8 @@ pub fn a_reply_to_the_question_goes_into_the_list()
         → (awaiting_status_hears p s of at (Framed f)).phase ≡ Use true (at + p.tid1) }
     ensures no_reply { (p : Params) (s : Station) (of at : ℕ) (f : Fields) → has_bit f.fc 6 ≡ false
         → status_reply s.address of (message.Framed f) ≡ None
-        → awaiting_status_hears p s of at (Framed f) ≡ record s { phase = Use true (max at s.own.end + p.tid1) } }
+        → awaiting_status_hears p s of at (Framed f)
+        ≡ record s { phase = Use true (max at s.own.end + p.tid1) } }
     ensures damaged { (p : Params) (s : Station) (of at : ℕ)
         → awaiting_status_hears p s of at NoTelegram
         ≡ record s { phase = Use true (max at s.own.end + p.tid1) } }
@@ -134,7 +138,8 @@ pub fn a_reply_to_the_question_goes_into_the_list()
         ≡ record s { phase = Use true (max at s.own.end + p.tid1) } }
     ensures ready { (p : Params) (s : Station) (of at fc : ℕ) (f : Fields) → has_bit f.fc 6 ≡ false
         → status_reply s.address of (message.Framed f) ≡ Some fc
-        → fc / 16 % 4 ≡ 2 → fc % 16 ≡ 0 → (awaiting_status_hears p s of at (Framed f)).las ≡ las.entered s.las of }
+        → fc / 16 % 4 ≡ 2 → fc % 16 ≡ 0 → (awaiting_status_hears p s of at (Framed f)).las
+        ≡ las.entered s.las of }
     ensures another_type { (p : Params) (s : Station) (of at fc : ℕ) (f : Fields) → has_bit f.fc 6 ≡ false
         → status_reply s.address of (message.Framed f) ≡ Some fc
         → fc / 16 % 4 ≢ 2 → (awaiting_status_hears p s of at (Framed f)).las ≡ s.las }

@@ -54,14 +54,18 @@ pub fn a_mark_comes_before_a_timer_at_its_moment()
 /// activity until a slot time after the end of its telegram.
 pub fn a_slot_counts_from_the_end()
     ensures checking { (p : Params) (s : Station) (marks : List Mark) (now tries : ℕ) (octets : List ℕ)
-        → (turn_of p s marks now).1 ≡ Some octets → (turn_of p s marks now).0.phase ≡ Checking tries → (turn_of p s marks now).0.busy ≡ false
+        → (turn_of p s marks now).1 ≡ Some octets → (turn_of p s marks now).0.phase ≡ Checking tries
+        → (turn_of p s marks now).0.busy ≡ false
         → due_of p (turn_of p s marks now).0 [] ≡ Some (now + bits (length octets) + p.tsl) }
     ensures asking { (p : Params) (s : Station) (marks : List Mark) (now of : ℕ) (octets : List ℕ)
-        → (turn_of p s marks now).1 ≡ Some octets → (turn_of p s marks now).0.phase ≡ AwaitStatus of true → (turn_of p s marks now).0.busy ≡ false
+        → (turn_of p s marks now).1 ≡ Some octets → (turn_of p s marks now).0.phase ≡ AwaitStatus of true
+        → (turn_of p s marks now).0.busy ≡ false
         → due_of p (turn_of p s marks now).0 [] ≡ Some (now + bits (length octets) + p.tsl) }
     ensures requesting { (p : Params) (s : Station) (marks : List Mark) (now : ℕ) (asked : Bool)
         (octets : List ℕ)
-        → (turn_of p s marks now).1 ≡ Some octets → (turn_of p s marks now).0.phase ≡ AwaitData asked None true → (turn_of p s marks now).0.busy ≡ false
+        → (turn_of p s marks now).1 ≡ Some octets
+        → (turn_of p s marks now).0.phase ≡ AwaitData asked None true
+        → (turn_of p s marks now).0.busy ≡ false
         → due_of p (turn_of p s marks now).0 [] ≡ Some (now + bits (length octets) + p.tsl) }
 {}
 
@@ -74,7 +78,8 @@ pub fn a_station_that_is_due_speaks()
     ensures speaks { (p : Params) (s : Station) (now moment : ℕ) → HasOpenRequest s
         → speaks_at s ≡ Some moment → IsSome (phase_says p s s.phase now).1 }
     ensures not_due { (p : Params) (s : Station) (marks : List Mark) (now : ℕ)
-        → IfSome (speaks_at (settled p s marks now)) (λ moment. now < moment) → (turn_of p s marks now).1 ≡ None }
+        → IfSome (speaks_at (settled p s marks now)) (λ moment. now < moment)
+        → (turn_of p s marks now).1 ≡ None }
 {}
 
 /// A station that listens takes no token, whatever it hears.
@@ -86,7 +91,8 @@ pub fn one_that_listens_takes_no_token()
 /// A station in Idle that has refused nobody takes a token from its previous station alone.
 pub fn a_first_token_is_taken_from_the_previous_station()
     ensures { (p : Params) (s : Station) (at seen : ℕ) (chars : List RxChar) → s.phase ≡ Idle None
-        → may_initiate (after_mark p s (End at seen chars)).phase ≡ true → arrival_of chars ≡ Token s.address (previous_station s) }
+        → may_initiate (after_mark p s (End at seen chars)).phase ≡ true
+        → arrival_of chars ≡ Token s.address (previous_station s) }
 {}
 
 /// Nobody but a holder says a token or a request: a station that does, may initiate as it speaks.
@@ -94,7 +100,8 @@ pub fn only_a_holder_initiates()
     ensures started { (p : Params) (s : Station) (master : Bool) (now : ℕ)
         → HasReply (started p s master now) }
     ensures speech { (p : Params) (s : Station) (marks : List Mark) (now : ℕ) → HasReply s → HasCycles s
-        → IfSome (turn_of p s marks now).1 (λ octets. are_initiator octets ≡ true → may_initiate (settled p s marks now).phase ≡ true) }
+        → IfSome (turn_of p s marks now).1 (λ octets. are_initiator octets ≡ true
+        → may_initiate (settled p s marks now).phase ≡ true) }
     ensures reply { (p : Params) (s : Station) (marks : List Mark) (now : ℕ) → HasReply s → HasCycles s
         → HasReply (turn_of p s marks now).0 }
     ensures stopped { (s : Station) → HasReply (stopped s) }

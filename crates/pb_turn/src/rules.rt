@@ -35,10 +35,12 @@ pub fn activity_ends_the_check()
         → after_mark p s (Begin at seen) ≡ record s { phase = Idle None; busy = true } }
     ensures in_slot { (p : Params) (s : Station) (tries at seen now : ℕ) (marks : List Mark)
         → s.phase ≡ Checking tries → s.own.begin ≤ at → at ≤ s.own.end + p.tsl
-        → turn_of p s (Begin at seen ∷ marks) now ≡ turn_of p (record s { phase = Idle None; busy = true }) marks now }
+        → turn_of p s (Begin at seen ∷ marks) now
+        ≡ turn_of p (record s { phase = Idle None; busy = true }) marks now }
     ensures taken { (p : Params) (s : Station) (tries at seen until delivered : ℕ) (chars : List RxChar)
         → s.phase ≡ Checking tries → s.own.begin ≤ at
-        → may_initiate (after_mark p (after_mark p s (Begin at seen)) (End until delivered chars)).phase ≡ true → arrival_of chars ≡ Token s.address (previous_station s) }
+        → may_initiate (after_mark p (after_mark p s (Begin at seen)) (End until delivered chars)).phase
+        ≡ true → arrival_of chars ≡ Token s.address (previous_station s) }
     ensures before { (p : Params) (s : Station) (tries at seen : ℕ) → s.phase ≡ Checking tries
         → at < s.own.begin
         → after_mark p s (Begin at seen) ≡ record s { busy = true } }
@@ -49,11 +51,14 @@ pub fn activity_ends_the_check()
 /// Where nothing is heard, the token is passed again once its slot has ended and not before.
 pub fn a_token_is_passed_again_after_its_slot()
     ensures waits { (p : Params) (s : Station) (tries now : ℕ) → now < s.own.end + p.tsl
-        → turn_of p (record s { phase = Checking tries; busy = false }) [] now ≡ (record s { phase = Checking tries; busy = false }, None) }
+        → turn_of p (record s { phase = Checking tries; busy = false }) [] now
+        ≡ (record s { phase = Checking tries; busy = false }, None) }
     ensures again { (p : Params) (s : Station) (tries now : ℕ) → s.own.end + p.tsl ≤ now → tries < 3
-        → (turn_of p (record s { phase = Checking tries; busy = false }) [] now).1 ≡ Some (token_octets (next_station s) s.address) }
+        → (turn_of p (record s { phase = Checking tries; busy = false }) [] now).1
+        ≡ Some (token_octets (next_station s) s.address) }
     ensures given_up { (p : Params) (s : Station) (now : ℕ) → s.own.end + p.tsl ≤ now
-        → (turn_of p (record s { phase = Checking 3; busy = false }) [] now).1 ≡ Some (token_octets (next_station (record s { las = removed s.las (next_station s) })) s.address) }
+        → (turn_of p (record s { phase = Checking 3; busy = false }) [] now).1
+        ≡ Some (token_octets (next_station (record s { las = removed s.las (next_station s) })) s.address) }
 {}
 
 /// A token is tried three times at a successor; after the third silent slot the successor leaves the list.
@@ -76,7 +81,8 @@ pub fn a_token_is_tried_three_times()
 pub fn one_station_is_asked_per_receipt()
     ensures asked { (p : Params) (s : Station) (ready now : ℕ) → high_request s now ≡ None
         → low_request s now ≡ None
-        → (phase_says p (record s { phase = Use true ready }) (Use true ready) now).1 ≡ Some (token_octets (next_station s) s.address) }
+        → (phase_says p (record s { phase = Use true ready }) (Use true ready) now).1
+        ≡ Some (token_octets (next_station s) s.address) }
     ensures heard { (p : Params) (s : Station) (m : Mark) (of : ℕ) (slot : Bool)
         → s.phase ≡ AwaitStatus of slot → HasAsked (after_mark p s m).phase }
     ensures silence { (s : Station) (of t : ℕ) (slot : Bool)
@@ -152,7 +158,8 @@ pub fn a_namesake_is_given_way()
 pub fn a_station_that_is_skipped_twice_listens()
     ensures twice { (p : Params) (s : Station) (refused : Option ℕ) (at da sa : ℕ)
         → (da == s.address) ≡ false → 2 ≤ skips_of (place_of (heard s.las sa da).stage)
-        → idle_hears p s refused at (Token da sa) ≡ record s { phase = Listening false; las = listening; reply = None } }
+        → idle_hears p s refused at (Token da sa)
+        ≡ record s { phase = Listening false; las = listening; reply = None } }
     ensures once { (p : Params) (s : Station) (refused : Option ℕ) (at da sa : ℕ) → (da == s.address) ≡ false
         → skips_of (place_of (heard s.las sa da).stage) < 2
         → idle_hears p s refused at (Token da sa) ≡ record s { las = heard s.las sa da } }
@@ -164,21 +171,25 @@ pub fn without_holding_time_one_high_request_is_sent()
     ensures first { (p : Params) (s : Station) (asked : Bool) (ready now : ℕ) (r : RequestFields)
         (rs : List RequestFields) → is_unused s.rotation.last ≡ true
         → s.cycles.queue.high ≡ r ∷ rs
-        → phase_says p (record s { phase = Use asked ready }) (Use asked ready) now ≡ says_request p (high_taken (record s { phase = Use asked ready })) asked r now }
+        → phase_says p (record s { phase = Use asked ready }) (Use asked ready) now
+        ≡ says_request p (high_taken (record s { phase = Use asked ready })) asked r now }
     ensures used { (s : Station) → is_unused (high_taken s).rotation.last ≡ false }
     ensures second { (p : Params) (s : Station) (asked : Bool) (ready now : ℕ)
         → holding_left s.rotation now ≡ 0 → is_unused s.rotation.last ≡ false
-        → phase_says p (record s { phase = Use asked ready }) (Use asked ready) now ≡ says_token p (record s { phase = Use asked ready }) 0 now }
+        → phase_says p (record s { phase = Use asked ready }) (Use asked ready) now
+        ≡ says_token p (record s { phase = Use asked ready }) 0 now }
     ensures low { (p : Params) (s : Station) (asked : Bool) (ready now : ℕ) → holding_left s.rotation now ≡ 0
         → s.cycles.queue.high ≡ []
-        → phase_says p (record s { phase = Use asked ready }) (Use asked ready) now ≡ says_token p (record s { phase = Use asked ready }) 0 now }
+        → phase_says p (record s { phase = Use asked ready }) (Use asked ready) now
+        ≡ says_token p (record s { phase = Use asked ready }) 0 now }
 {}
 
 /// A request that nobody answers is followed after the second idle time: the station waits for nothing.
 pub fn what_is_only_told_waits_for_no_answer()
     ensures { (p : Params) (s : Station) (asked : Bool) (r : RequestFields) (now : ℕ)
         → is_answered r.service ≡ false
-        → (says_request p s asked r now).0.phase ≡ Use asked (now + bits (length (frame_octets (first_sending s.cycles.initiator s.address r))) + p.tid2) }
+        → (says_request p s asked r now).0.phase ≡ Use asked (now
+        + bits (length (frame_octets (first_sending s.cycles.initiator s.address r))) + p.tid2) }
 {}
 
 /// Where activity begins, a station that answers requests drops a reply that is not sent yet; another keeps it.
@@ -196,10 +207,12 @@ pub fn a_reply_is_dropped_where_activity_begins()
 /// Where nothing is heard, a request is sent again once its slot has ended and not before, in the same octets.
 pub fn a_request_is_sent_again_after_its_slot()
     ensures waits { (p : Params) (s : Station) (asked : Bool) (now : ℕ) → now < s.own.end + p.tsl
-        → turn_of p (record s { phase = AwaitData asked None true; busy = false }) [] now ≡ (record s { phase = AwaitData asked None true; busy = false }, None) }
+        → turn_of p (record s { phase = AwaitData asked None true; busy = false }) [] now
+        ≡ (record s { phase = AwaitData asked None true; busy = false }, None) }
     ensures again { (p : Params) (s : Station) (asked : Bool) (now : ℕ) (f : Fields)
         → s.own.end + p.tsl ≤ now → retry_of s.cycles.initiator.pending ≡ Some f
-        → (turn_of p (record s { phase = AwaitData asked None true; busy = false }) [] now).1 ≡ Some (frame_octets f) }
+        → (turn_of p (record s { phase = AwaitData asked None true; busy = false }) [] now).1
+        ≡ Some (frame_octets f) }
 {}
 
 /// A request without a retry left, to which nothing was heard in its slot, has the outcome "no answer": the
@@ -207,13 +220,15 @@ pub fn a_request_is_sent_again_after_its_slot()
 pub fn without_an_answer_the_next_request_is_a_first_one()
     ensures outcome { (s : Station) (asked : Bool) (retry : Option ℕ) (slot : Bool) (t : ℕ) (o : OpenRequest)
         → s.cycles.initiator.pending ≡ Some o → o.left ≡ 0
-        → (phase_timed_out s (AwaitData asked retry slot) t).cycles.last_outcome ≡ Some (o.sent.da, NoAnswer) }
+        → (phase_timed_out s (AwaitData asked retry slot) t).cycles.last_outcome
+        ≡ Some (o.sent.da, NoAnswer) }
     ensures goes_on { (s : Station) (asked : Bool) (retry : Option ℕ) (slot : Bool) (t : ℕ) (o : OpenRequest)
         → s.cycles.initiator.pending ≡ Some o → o.left ≡ 0
         → (phase_timed_out s (AwaitData asked retry slot) t).phase ≡ Use asked t }
     ensures first { (s : Station) (asked : Bool) (retry : Option ℕ) (slot : Bool) (t : ℕ) (o : OpenRequest)
         (r : RequestFields) → s.cycles.initiator.pending ≡ Some o → o.left ≡ 0
-        → r.da ≡ o.sent.da → is_answered r.service ≡ true → bits_for (phase_timed_out s (AwaitData asked retry slot) t).cycles.initiator r ≡ 0x20 }
+        → r.da ≡ o.sent.da → is_answered r.service ≡ true
+        → bits_for (phase_timed_out s (AwaitData asked retry slot) t).cycles.initiator r ≡ 0x20 }
 {}
 
 /// A passive station stays one, whatever it hears, and says no token and no request.
@@ -231,17 +246,23 @@ pub fn requests_go_by_priority()
     ensures high { (p : Params) (s : Station) (asked : Bool) (ready now : ℕ) (r : RequestFields)
         (rs : List RequestFields) → may_high s.rotation now ≡ true
         → s.cycles.queue.high ≡ r ∷ rs
-        → phase_says p (record s { phase = Use asked ready }) (Use asked ready) now ≡ says_request p (high_taken (record s { phase = Use asked ready })) asked r now }
+        → phase_says p (record s { phase = Use asked ready }) (Use asked ready) now
+        ≡ says_request p (high_taken (record s { phase = Use asked ready })) asked r now }
     ensures low { (p : Params) (s : Station) (asked : Bool) (ready now : ℕ) (r : RequestFields)
         (rs : List RequestFields) → s.cycles.queue.high ≡ []
         → may_low s.rotation now ≡ true → s.cycles.queue.low ≡ r ∷ rs
-        → phase_says p (record s { phase = Use asked ready }) (Use asked ready) now ≡ says_request p (low_taken (record s { phase = Use asked ready })) asked r now }
+        → phase_says p (record s { phase = Use asked ready }) (Use asked ready) now
+        ≡ says_request p (low_taken (record s { phase = Use asked ready })) asked r now }
     ensures high_left { (p : Params) (s : Station) (asked : Bool) (ready now : ℕ) (r : RequestFields)
         (rs : List RequestFields) → may_high s.rotation now ≡ true
-        → s.cycles.queue.high ≡ r ∷ rs → (phase_says p (record s { phase = Use asked ready }) (Use asked ready) now).0.cycles.queue.high ≡ rs }
+        → s.cycles.queue.high ≡ r ∷ rs
+        → (phase_says p (record s { phase = Use asked ready }) (Use asked ready) now).0.cycles.queue.high
+        ≡ rs }
     ensures low_left { (p : Params) (s : Station) (asked : Bool) (ready now : ℕ) (r : RequestFields)
         (rs : List RequestFields) → s.cycles.queue.high ≡ []
-        → may_low s.rotation now ≡ true → s.cycles.queue.low ≡ r ∷ rs → (phase_says p (record s { phase = Use asked ready }) (Use asked ready) now).0.cycles.queue.low ≡ rs }
+        → may_low s.rotation now ≡ true → s.cycles.queue.low ≡ r ∷ rs
+        → (phase_says p (record s { phase = Use asked ready }) (Use asked ready) now).0.cycles.queue.low
+        ≡ rs }
 {}
 
 /// A request waits behind the others of its priority, and is not taken where sixteen wait.
@@ -259,22 +280,28 @@ pub fn a_request_waits_behind_those_of_its_priority()
 pub fn a_reply_is_the_outcome()
     ensures told { (p : Params) (s : Station) (asked slot : Bool) (at : ℕ) (f : Fields) (o : OpenRequest)
         (outcome : Outcome) → has_bit f.fc 6 ≡ false
-        → s.cycles.initiator.pending ≡ Some o → reply_outcome o.sent.sa o.sent.da (message.Framed f) ≡ Some outcome
+        → s.cycles.initiator.pending ≡ Some o → reply_outcome o.sent.sa o.sent.da (message.Framed f)
+        ≡ Some outcome
         → (awaiting_data_hears p s asked slot at (Framed f)).cycles.last_outcome ≡ Some (o.sent.da, outcome) }
     ensures goes_on { (p : Params) (s : Station) (asked slot : Bool) (at : ℕ) (f : Fields) (o : OpenRequest)
         (outcome : Outcome) → has_bit f.fc 6 ≡ false
-        → s.cycles.initiator.pending ≡ Some o → reply_outcome o.sent.sa o.sent.da (message.Framed f) ≡ Some outcome
+        → s.cycles.initiator.pending ≡ Some o → reply_outcome o.sent.sa o.sent.da (message.Framed f)
+        ≡ Some outcome
         → (awaiting_data_hears p s asked slot at (Framed f)).phase ≡ Use asked (at + p.tid1) }
     ensures acknowledged { (p : Params) (s : Station) (asked slot : Bool) (at : ℕ) (o : OpenRequest)
         → s.cycles.initiator.pending ≡ Some o
-        → (awaiting_data_hears p s asked slot at Acknowledgement).cycles.last_outcome ≡ Some (o.sent.da, Acked) }
+        → (awaiting_data_hears p s asked slot at Acknowledgement).cycles.last_outcome
+        ≡ Some (o.sent.da, Acked) }
     ensures no_reply { (p : Params) (s : Station) (asked slot : Bool) (at : ℕ) (f : Fields) (o : OpenRequest)
         → has_bit f.fc 6 ≡ false
-        → s.cycles.initiator.pending ≡ Some o → reply_outcome o.sent.sa o.sent.da (message.Framed f) ≡ None → 0 < o.left
-        → (awaiting_data_hears p s asked slot at (Framed f)).phase ≡ AwaitData asked (Some (max at s.own.end + p.tid1)) slot }
+        → s.cycles.initiator.pending ≡ Some o → reply_outcome o.sent.sa o.sent.da (message.Framed f) ≡ None
+        → 0 < o.left
+        → (awaiting_data_hears p s asked slot at (Framed f)).phase
+        ≡ AwaitData asked (Some (max at s.own.end + p.tid1)) slot }
     ensures damaged { (p : Params) (s : Station) (asked slot : Bool) (at : ℕ) (o : OpenRequest)
         → s.cycles.initiator.pending ≡ Some o → 0 < o.left
-        → (awaiting_data_hears p s asked slot at NoTelegram).phase ≡ AwaitData asked (Some (max at s.own.end + p.tid1)) slot }
+        → (awaiting_data_hears p s asked slot at NoTelegram).phase
+        ≡ AwaitData asked (Some (max at s.own.end + p.tid1)) slot }
 {}
 
 /// A reply is ready a reply delay after the end of the request.
@@ -302,17 +329,20 @@ pub fn a_round_is_due_some_rotations_after_the_last()
     ensures waits { (p : Params) (s : Station) (asked : Bool) (ready now closed : ℕ)
         → high_request s now ≡ None → low_request s now ≡ None
         → s.gap ≡ Closed closed → now < closed + p.gap * p.ttr
-        → phase_says p (record s { phase = Use asked ready }) (Use asked ready) now ≡ says_token p (record s { phase = Use asked ready }) 0 now }
+        → phase_says p (record s { phase = Use asked ready }) (Use asked ready) now
+        ≡ says_token p (record s { phase = Use asked ready }) 0 now }
     ensures begins { (p : Params) (s : Station) (ready now closed : ℕ) → high_request s now ≡ None
         → low_request s now ≡ None → may_low s.rotation now ≡ true
         → s.gap ≡ Closed closed → closed + p.gap * p.ttr ≤ now
         → phase_says p (record s { phase = Use false ready }) (Use false ready) now
-        ≡ says_look p (record s { phase = Use false ready }) (next_asked s.address (next_station s) p.hsa None) now }
+        ≡ says_look p (record s { phase = Use false ready })
+        (next_asked s.address (next_station s) p.hsa None) now }
     ensures goes_on { (p : Params) (s : Station) (ready now : ℕ) (last : Option ℕ)
         → high_request s now ≡ None → low_request s now ≡ None → may_low s.rotation now ≡ true
         → s.gap ≡ Open last
         → phase_says p (record s { phase = Use false ready }) (Use false ready) now
-        ≡ says_look p (record s { phase = Use false ready }) (next_asked s.address (next_station s) p.hsa last) now }
+        ≡ says_look p (record s { phase = Use false ready })
+        (next_asked s.address (next_station s) p.hsa last) now }
 {}
 
 /// The next station of one in the ring is the one behind it, and the previous one that before it.

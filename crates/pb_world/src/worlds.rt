@@ -41,6 +41,7 @@ impl World {
     ghost use Rattle.pb_taps.specs.Taps.{spec_of};
     ghost use Rattle.pb_bus.specs.Worlds.{due_at, Follows, Goes, IsStationAt};
     ghost use Rattle.pb_bus.specs.Glances.{CanBeDecided, IsGlance};
+    ghost use Rattle.pb_runs.specs.Bus.{next_change};
     ghost use Rattle.pb_token.specs.Promises.{HasOneToken, LeavesOneToken};
 
     /// A world whose taps don't run yet, at clock 0.
@@ -141,6 +142,15 @@ impl World {
         ensures { result ≡ due_at self.entry.now tap }
     {
         self.bus.due(tap)
+    }
+
+    /// The next moment at which something changes on the bus, apart from turns, in bit times: the least among the
+    /// ends in the air, and the next bit time where a telegram or noise begins now, or a tap has started now while
+    /// something was in the air. None where nothing is to come.
+    pub fn next_change(&self) -> Option<Moment>
+        ensures { result ≡ next_change self.entry.now }
+    {
+        self.bus.next_change()
     }
 
     /// What a worker sees of a tap: its station, its unread marks, and the clock. The tap is in the list, the

@@ -8,6 +8,7 @@ use Rattle.pb_model.proofs.Worlds.{sound-new_world}
 use Rattle.pb_medium.specs.Airs.{IsCut}
 use Rattle.pb_medium.specs.Traces.{entries_of}
 use Rattle.pb_taps.specs.Taps.{spec_of, tap_of}
+use Rattle.pb_bus.specs.Ends.{AllBy, last_end}
 use Rattle.pb_bus.proofs.making.new_bus.Goals as goal
 
 pub returns-clause-kept : goal.returns-clause-kept
@@ -36,4 +37,5 @@ returns-clause-kept c =
       );
       seats = c.in_ok-taps.ensures.seats;
       cut = subst (λ over. IsCut c.beginning.result over (entries_of c.new.result)) (sym c.new.ensures.over) (0, omega arith, omega arith, tt, subst (AllFrom 0) (sym none) tt);
+      ends = subst (AllBy last_end) (sym none) tt;
     }

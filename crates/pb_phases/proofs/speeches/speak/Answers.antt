@@ -6,7 +6,7 @@ use Rattle.pb_core.specs.Cores.{station_with}
 use Rattle.pb_phases.specs.Speeches.{spoken_with}
 use Rattle.pb_phases.proofs.Speaking.{speaks, waits, has_none}
 use Rattle.pb_phases.proofs.speeches.speak.Goals as goal
-use Rattle.pb_phases.proofs.speeches.speak.Goals.{in_default-via-in-Some+else-get, in_default-via-in_default}
+use Rattle.pb_phases.proofs.speeches.speak.Goals.{in_default-via-in-Some+else-le, in_default-via-in_default}
 
 pub returns-in-Some : goal.returns-in-Some
 returns-in-Some c =
@@ -21,7 +21,7 @@ returns-in_default c =
     let s = station_with c.args.kept.now c.args.waiting.now (phase_of c.args.phase.now) in
     ap (λ sent. spoken_with c.args.kept.now c.args.waiting.now (phase_of c.args.phase.now) sent) c.clear.ensures
     ∙ elim c.in_default.branch [
-      | in_default-via-in-Some+else-get w ↦
+      | in_default-via-in-Some+else-le w ↦
           (let early : c.args.now < w.in-Some.moment = search rules in waits c.args.params.now s c.speaks_at.result (speaks_at s) w.in-Some.moment c.args.now w.in-Some.is (c.speaks_at.ensures c.args.waiting.now) early)
       | in_default-via-in_default w ↦ has_none c.args.params.now s c.speaks_at.result (speaks_at s) c.args.now w.in_default.is (c.speaks_at.ensures c.args.waiting.now)
     ]

@@ -9,6 +9,7 @@ use Rattle.pb_medium.specs.Entries.{hit_of}
 use Rattle.pb_medium.specs.Senses.{at_once}
 use Rattle.pb_medium.specs.Traces.{over_of, recent_of}
 use Rattle.pb_taps.specs.Taps.{tap_of}
+use Rattle.pb_bus.proofs.Ending.{in-time}
 use Rattle.pb_bus.proofs.Stepping.{both-there, is-there, in-err, cut-after, from-changed, begin-with_hit, sound-after, damage-done, damage-refused}
 use Rattle.pb_bus.proofs.buses.Bus.damage.Goals as goal
 
@@ -57,4 +58,5 @@ returns-clause-kept c =
       cut = cut-after bus.now (damaged c.args.speaker bus.now (hit_of hit)) bus.trace c.damage.new.self c.in_ok-damage.ensures.ok
           (λ m at from. from-changed m (is_in_air_by at_once bus.now c.args.speaker) (with_hit (hit_of hit)) (recent_of bus.trace) (begin-with_hit (hit_of hit)) from)
           c.requires.cut;
+      ends = in-time (world_of bus) (Damage hit.tap c.args.speaker hit.place) _ _ (returns-clause-follows c) tt c.requires.clock c.requires.sound c.requires.ends;
     }

@@ -1,10 +1,11 @@
-use Rattle.std.proofs.Common.{◌∙◌, ap, sym, Ok, ◌+◌, ◌++◌}
+use Rattle.std.proofs.Common.{◌∙◌, ap, sym, Ok, ◌+◌, ◌++◌, arith}
 use Rattle.std.specs.Prelude.{drop, take}
 use Rattle.pb_model.specs.Step.{with_noise}
 use Rattle.pb_model.specs.World.{Noise}
 use Rattle.pb_bus.specs.Buses.{world_of}
 use Rattle.pb_medium.specs.Noising.{has_noise}
 use Rattle.pb_medium.specs.Traces.{over_of, recent_of}
+use Rattle.pb_bus.proofs.Ending.{in-time}
 use Rattle.pb_bus.proofs.Stepping.{in-err, sound-after, cut-after, from-noise, noise-done, noise-refused}
 use Rattle.pb_bus.proofs.buses.Bus.noise.Goals as goal
 
@@ -41,4 +42,5 @@ returns-clause-kept c =
       seats = c.requires.seats;
       cut = cut-after bus.now (with_noise bus.now end noisy) bus.trace c.make_noise.new.self c.in_ok-make_noise.ensures.ok
           (λ m at from. from-noise m bus.now end noisy recent at from) c.requires.cut;
+      ends = in-time (world_of bus) (Noise c.args.bits) _ _ (returns-clause-follows c) (omega arith) c.requires.clock c.requires.sound c.requires.ends;
     }

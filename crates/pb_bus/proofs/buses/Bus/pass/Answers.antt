@@ -12,6 +12,7 @@ use Rattle.pb_taps.specs.Taps.{tap_of, seat_of, AreSeated}
 use Rattle.pb_bus.proofs.Airing.{air-recent}
 use Rattle.pb_taps.proofs.Behind.{written-back}
 use Rattle.pb_taps.proofs.Items.{as-many}
+use Rattle.pb_bus.proofs.Ending.{in-time}
 use Rattle.pb_bus.proofs.Stepping.{in-err, sound-after, sound-recent, pass-done, pass-refused, cut-passed}
 use Rattle.pb_bus.proofs.buses.Bus.pass.Goals as goal
 
@@ -75,4 +76,5 @@ returns-clause-kept c =
       cut = c.close.ensures.cut bus.now c.in_ok-self.ensures.clock.0
           (subst (λ n. IsCut bus.now n after) (sym c.pass.ensures.over) (cut-passed w over c.args.bits to after taps c.requires.cut passes))
           (subst (AllBegun to) c.close.ensures.entries sound.begun);
+      ends = in-time w (Pass c.args.bits) _ _ (returns-clause-follows c) tt c.requires.clock c.requires.sound c.requires.ends;
     }

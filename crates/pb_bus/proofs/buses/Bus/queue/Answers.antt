@@ -17,6 +17,7 @@ use Rattle.pb_taps.specs.declared.faults.WorldFault.TheVariants as fault
 use Rattle.pb_taps.specs.declared.taps.Tap.{Tap}
 use Rattle.pb_taps.proofs.Behind.{written-back}
 use Rattle.pb_taps.proofs.Seats.{same-seats}
+use Rattle.pb_bus.proofs.Ending.{in-time}
 use Rattle.pb_bus.proofs.Stepping.{in-err, sound-after, queue-done, queue-missing, queue-idle, queue-full}
 use Rattle.pb_bus.proofs.buses.Bus.queue.Goals as goal
 
@@ -80,4 +81,5 @@ returns-clause-kept c =
       room = omega (arith, ap length back, size bus c.args.tap c.args.request.now next takes, c.requires.room);
       seats = subst (λ ts. AreSeated bus.params 0 (map seat_of ts)) (sym back) (seated bus c.args.tap c.args.request.now next c.requires takes);
       cut = c.requires.cut;
+      ends = in-time (world_of bus) (Queue c.args.tap c.args.request.now) _ _ (returns-clause-follows c) tt c.requires.clock c.requires.sound c.requires.ends;
     }

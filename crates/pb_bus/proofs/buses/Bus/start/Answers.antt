@@ -21,6 +21,7 @@ use Rattle.pb_taps.specs.declared.faults.WorldFault.TheVariants as fault
 use Rattle.pb_taps.specs.declared.taps.Tap.{Tap}
 use Rattle.pb_taps.proofs.Behind.{written-back}
 use Rattle.pb_taps.proofs.Seats.{seat-of-tap, same-seats}
+use Rattle.pb_bus.proofs.Ending.{in-time}
 use Rattle.pb_bus.proofs.Stepping.{in-err, sound-after, start-done, start-missing, start-running}
 use Rattle.pb_medium.proofs.Widening.{started_amid}
 use Rattle.pb_bus.proofs.buses.Bus.start.Goals as goal
@@ -99,4 +100,5 @@ returns-clause-kept c =
       room = omega (arith, ap length back, size bus c.args.tap next starts, c.requires.room);
       seats = subst (λ ts. AreSeated bus.params 0 (map seat_of ts)) (sym back) (seated bus c.args.tap next c.requires starts);
       cut = c.requires.cut;
+      ends = in-time (world_of bus) (Start c.args.tap) _ _ (returns-clause-follows c) tt c.requires.clock c.requires.sound c.requires.ends;
     }

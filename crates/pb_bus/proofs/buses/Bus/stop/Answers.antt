@@ -19,6 +19,7 @@ use Rattle.pb_taps.specs.declared.faults.WorldFault.TheVariants as fault
 use Rattle.pb_taps.specs.declared.taps.Tap.{Tap}
 use Rattle.pb_taps.proofs.Behind.{written-back}
 use Rattle.pb_taps.proofs.Seats.{same-seats}
+use Rattle.pb_bus.proofs.Ending.{in-time}
 use Rattle.pb_bus.proofs.Stepping.{in-err, sound-after, stop-done, stop-missing, stop-stopped, cut-after, from-cut}
 use Rattle.pb_bus.proofs.buses.Bus.stop.Goals as goal
 
@@ -85,4 +86,5 @@ returns-clause-kept c =
       seats = subst (λ ts. AreSeated bus.params 0 (map seat_of ts)) (sym back) (seated bus c.args.tap next c.requires stops);
       cut = cut-after bus.now (map (cut_at bus.now c.args.tap)) bus.trace c.cut.new.self c.cut.ensures
           (λ m at from. from-cut m bus.now c.args.tap (recent_of bus.trace) from) c.requires.cut;
+      ends = in-time (world_of bus) (Stop c.args.tap) _ _ (returns-clause-follows c) tt c.requires.clock c.requires.sound c.requires.ends;
     }

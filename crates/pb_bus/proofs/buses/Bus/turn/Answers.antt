@@ -14,6 +14,7 @@ use Rattle.pb_taps.specs.Turning.{says, turned_tap}
 use Rattle.pb_taps.proofs.Behind.{written-back}
 use Rattle.pb_taps.proofs.Seats.{seat-of-tap, same-seats}
 use Rattle.pb_taps.proofs.Turned.{turned-seat, turned-tap}
+use Rattle.pb_bus.proofs.Ending.{in-time}
 use Rattle.pb_bus.proofs.Stepping.{in-err, sound-after, cut-after, from-said, room-said, turn-done, turn-refused}
 use Rattle.pb_bus.proofs.buses.Bus.turn.Goals as goal
 
@@ -93,4 +94,5 @@ returns-clause-kept c =
       seats = subst (AreSeated bus.params 0) (sym (ap (map seat_of) (back ∙ set) ∙ same-seats bus.taps.items i t (turned_tap t bus.now) at (turned-seat t bus.now))) c.requires.seats;
       cut = cut-after bus.now (with_said i spoke bus.now w.taps) bus.trace c.say.new.self becomes
           (λ m at from. from-said m i bus.now spoke w.taps (recent_of bus.trace) at from) c.requires.cut;
+      ends = in-time w (Turn i) _ _ (returns-clause-follows c) tt c.requires.clock c.requires.sound c.requires.ends;
     }

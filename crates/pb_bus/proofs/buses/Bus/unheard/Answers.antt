@@ -7,6 +7,7 @@ use Rattle.pb_bus.specs.Buses.{world_of}
 use Rattle.pb_medium.specs.Losing.{lost}
 use Rattle.pb_medium.specs.Traces.{entries_of, over_of, recent_of}
 use Rattle.pb_taps.specs.Taps.{tap_of}
+use Rattle.pb_bus.proofs.Ending.{in-time}
 use Rattle.pb_bus.proofs.Stepping.{both-there, is-there, in-err, cut-after, from-changed, begin-unheard_at, sound-after, unheard-done, unheard-refused}
 use Rattle.pb_bus.proofs.buses.Bus.unheard.Goals as goal
 
@@ -51,4 +52,5 @@ returns-clause-kept c =
       seats = c.requires.seats;
       cut = cut-after bus.now (lost c.args.tap c.args.speaker bus.now) bus.trace c.lose.new.self c.in_ok-lose.ensures.ok
           (λ m at from. from-changed m (begins_from bus.now c.args.speaker) (unheard_at c.args.tap) (recent_of bus.trace) (begin-unheard_at c.args.tap) from) c.requires.cut;
+      ends = in-time (world_of bus) (Unheard c.args.tap c.args.speaker) _ _ (returns-clause-follows c) tt c.requires.clock c.requires.sound c.requires.ends;
     }

@@ -1,0 +1,50 @@
+mod cycles;
+mod first_half;
+mod messages;
+mod queues;
+mod requests;
+mod second_half;
+mod sequences;
+mod services;
+
+use arrayvec::ArrayVec;
+use pb_cycles::{Request, Service};
+use pb_telegram::{RxChar, Telegram, parse, write};
+use std::str;
+use std::test::Fail;
+
+/// The octets of hex digits; `-` is none.
+fn octets(hex: &str) -> Result<ArrayVec<u8, 255>, Fail> {
+    let mut octets = ArrayVec::new();
+    for pair in hex.as_bytes().chunks_exact(2) {
+        octets.try_push(u8::from_str_radix(str::from_utf8(pair)?, 16)?)?;
+    }
+    Ok(octets)
+}
+
+/// The data of hex digits.
+fn unit(hex: &str) -> Result<ArrayVec<u8, 246>, Fail> {
+    Ok(ArrayVec::try_from(octets(hex)?.as_slice())?)
+}
+
+/// The telegram that hex digits spell.
+fn telegram(hex: &str) -> Result<Telegram, Fail> {
+    let mut characters = ArrayVec::<RxChar, 255>::new();
+    for octet in &octets(hex)? {
+        characters.try_push(RxChar::Good(*octet))?;
+    }
+    Ok(parse(&characters)?)
+}
+
+/// A request without data, or with the data of hex digits.
+fn request(da: u8, service: Service, high: bool, hex: &str) -> Result<Request, Fail> {
+    Ok(Request::new(da, service, high, unit(hex)?)?)
+}
+
+/// The octets of a telegram, if there is one.
+fn spelled(telegram: Option<Telegram>) -> ArrayVec<u8, 255> {
+    match telegram {
+        Some(telegram) => write(&telegram),
+        None => ArrayVec::new(),
+    }
+}

@@ -1,0 +1,26 @@
+use super::request;
+use pb_messages::{Queue, Service};
+use std::test::Fail;
+
+#[test]
+fn sixteen_requests_wait_in_order(rt: HostRuntime) -> Result<(), Fail> {
+    let mut queue = Queue::new();
+    for da in 0..16 {
+        queue.push_high(request(da, Service::Sda, true, "-")?)?;
+        queue.push_low(request(da, Service::Sda, false, "-")?)?;
+    }
+    let refused = queue.push_high(request(16, Service::Sda, true, "-")?);
+    assert_eq!(rt; refused.err().map(|refused| refused.request.da()), Some(16));
+    let refused = queue.push_low(request(17, Service::Sda, false, "-")?);
+    assert_eq!(rt; refused.err().map(|refused| refused.request.da()), Some(17));
+    assert_eq!(rt; queue.copy().len_high(), 16);
+    for da in 0..16 {
+        assert_eq!(rt; queue.take_high().map(|request| request.da()), Some(da));
+        assert_eq!(rt; queue.take_low().map(|request| request.da()), Some(da));
+    }
+    assert!(rt; queue.take_high().is_none());
+    assert!(rt; queue.take_low().is_none());
+    assert_eq!(rt; queue.len_high(), 0);
+    assert_eq!(rt; queue.len_low(), 0);
+    Ok(())
+}

@@ -1,0 +1,22 @@
+use pb_messages::{Asked, Service};
+use std::test::Fail;
+
+#[test]
+fn function_codes_name_services(rt: HostRuntime) -> Result<(), Fail> {
+    for (code, service, high) in [
+        (3, Service::Sda, false),
+        (5, Service::Sda, true),
+        (4, Service::Sdn, false),
+        (6, Service::Sdn, true),
+        (12, Service::Srd, false),
+        (13, Service::Srd, true),
+    ] {
+        assert_eq!(rt; service.code(high), code);
+        assert_eq!(rt; Asked::by(code), Asked::Send(service, high));
+    }
+    assert_eq!(rt; Asked::by(9), Asked::Status);
+    assert_eq!(rt; Asked::by(0), Asked::Unknown);
+    assert!(rt; Service::Srd.is_answered());
+    assert!(rt; !Service::Sdn.is_answered());
+    Ok(())
+}
