@@ -300,13 +300,20 @@ fn a_telegram_gives_its_fields(rt: HostRuntime) -> Result<(), Fail> {
     Ok(())
 }
 
-/// What a receiver makes of characters.
-fn fed(chars: &[RxChar]) -> Result<Telegram, TelegramFault> {
+/// A receiver to which the characters came.
+fn receiver_of(chars: &[RxChar]) -> Receiver {
     let mut receiver = Receiver::new();
     for char in chars {
-        receiver.feed(*char);
+        if receiver.fed() < u64::MAX {
+            receiver.feed(*char);
+        }
     }
-    receiver.end()
+    receiver
+}
+
+/// What a receiver makes of characters.
+fn fed(chars: &[RxChar]) -> Result<Telegram, TelegramFault> {
+    receiver_of(chars).end()
 }
 
 #[test]
@@ -320,10 +327,7 @@ fn a_receiver_is_fed_a_character_at_a_time(rt: HostRuntime) {
     assert_eq!(rt; fed(&var), Err(TelegramFault::Faulty(2)));
     let short = [RxChar::Good(0x10), RxChar::Good(3), bad];
     assert_eq!(rt; fed(&short), Err(TelegramFault::Faulty(2)));
-    let mut receiver = Receiver::new();
-    for char in &short {
-        receiver.feed(*char);
-    }
+    let mut receiver = receiver_of(&short);
     assert_eq!(rt; receiver.fed(), 3);
     assert_eq!(rt; receiver.answer(), Err(TelegramFault::Faulty(2)));
     receiver.restart();
@@ -332,30 +336,30 @@ fn a_receiver_is_fed_a_character_at_a_time(rt: HostRuntime) {
     assert_eq!(rt; receiver.answer(), Ok(Telegram::Ack));
 }
 
-/// What is found in the fronts of octets: from how many octets on which fault, and the telegram that
-/// all of them spell, where there is one.
+/// Octets, and what is found in each front of them: none is Empty, the others are Truncated until they
+/// spell the telegram or have the fault.
 #[derive(Drop)]
 struct Fronts<'a> {
     octets: &'a [u8],
-    faults: &'a [(usize, TelegramFault)],
-    telegram: Option<Telegram>,
+    whole: Result<Telegram, Found>,
+}
+
+/// A fault, and the number of octets from which on it is found.
+#[derive(Drop)]
+struct Found {
+    from: usize,
+    fault: TelegramFault,
 }
 
 impl Fronts<'_> {
     /// What is found in so many of the octets.
     fn found(&self, count: usize) -> Result<&Telegram, TelegramFault> {
-        if count == self.octets.len() {
-            if let Some(telegram) = &self.telegram {
-                return Ok(telegram);
-            }
+        match &self.whole {
+            _ if count == 0 => Err(TelegramFault::Empty),
+            Ok(telegram) if count == self.octets.len() => Ok(telegram),
+            Err(Found { from, fault }) if *from <= count => Err(*fault),
+            _ => Err(TelegramFault::Truncated),
         }
-        let mut found = TelegramFault::Empty;
-        for (from, fault) in self.faults {
-            if *from <= count {
-                found = *fault;
-            }
-        }
-        Err(found)
     }
 }
 
@@ -397,24 +401,16 @@ fn damaged_fronts_are_received(
 
 #[test]
 fn fronts_of_telegrams_are_received_as_they_are_parsed(rt: HostRuntime) -> Result<(), Fail> {
-    let (empty, truncated) = ((0, TelegramFault::Empty), (1, TelegramFault::Truncated));
-    let cut = [empty, truncated];
-    let wrong_check = [empty, truncated, (6, TelegramFault::BadFcs)];
-    let wrong_length = [empty, truncated, (4, TelegramFault::BadLength)];
-    let two_lengths = [empty, truncated, (10, TelegramFault::LengthsDiffer)];
-    let no_address = [empty, truncated, (3, TelegramFault::BadAddress)];
     let unit = ArrayVec::try_from([0xff].as_slice())?;
     let (da, sa, fc) = (127, 2, 0x44);
     let rows = [
         Fronts {
             octets: &[0xdc, 3, 2],
-            faults: &cut,
-            telegram: Some(Telegram::Token(TokenTelegram { da: 3, sa: 2 })),
+            whole: Ok(Telegram::Token(TokenTelegram { da: 3, sa: 2 })),
         },
         Fronts {
             octets: &[0x10, 3, 2, 0x49, 0x4e, 0x16],
-            faults: &cut,
-            telegram: Some(Telegram::Short(ShortTelegram {
+            whole: Ok(Telegram::Short(ShortTelegram {
                 da: 3,
                 sa: 2,
                 fc: 0x49,
@@ -422,33 +418,39 @@ fn fronts_of_telegrams_are_received_as_they_are_parsed(rt: HostRuntime) -> Resul
         },
         Fronts {
             octets: &[0x10, 3, 2, 0x49, 0x4f, 0x16],
-            faults: &wrong_check,
-            telegram: None,
+            whole: Err(Found {
+                from: 6,
+                fault: TelegramFault::BadFcs,
+            }),
         },
         Fronts {
             octets: &[0x68, 4, 4, 0x68, 0x7f, 2, 0x44, 0xff, 0xc4, 0x16],
-            faults: &cut,
-            telegram: Some(Telegram::Var(VarTelegram { da, sa, fc, unit })),
+            whole: Ok(Telegram::Var(VarTelegram { da, sa, fc, unit })),
         },
         Fronts {
             octets: &[0x68, 3, 3, 0x68, 2, 1, 0x44, 0x47, 0x16],
-            faults: &wrong_length,
-            telegram: None,
+            whole: Err(Found {
+                from: 4,
+                fault: TelegramFault::BadLength,
+            }),
         },
         Fronts {
             octets: &[0x68, 4, 5, 0x68, 0x7f, 2, 0x44, 0xff, 0xc4, 0x16],
-            faults: &two_lengths,
-            telegram: None,
+            whole: Err(Found {
+                from: 10,
+                fault: TelegramFault::LengthsDiffer,
+            }),
         },
         Fronts {
             octets: &[0x68, 5, 5, 0x68, 0x7f, 2, 0x44, 0xff, 0xc4, 0x16],
-            faults: &cut,
-            telegram: None,
+            whole: Err(Found {
+                from: 1,
+                fault: TelegramFault::Truncated,
+            }),
         },
         Fronts {
             octets: &[0xa2, 5, 2, 0x7d, 0, 0, 0, 0, 0, 0, 0, 0, 0x84, 0x16],
-            faults: &cut,
-            telegram: Some(Telegram::Fixed8(Fixed8Telegram {
+            whole: Ok(Telegram::Fixed8(Fixed8Telegram {
                 da: 5,
                 sa: 2,
                 fc: 0x7d,
@@ -457,13 +459,14 @@ fn fronts_of_telegrams_are_received_as_they_are_parsed(rt: HostRuntime) -> Resul
         },
         Fronts {
             octets: &[0xe5],
-            faults: &[empty],
-            telegram: Some(Telegram::Ack),
+            whole: Ok(Telegram::Ack),
         },
         Fronts {
             octets: &[0xdc, 0x7f, 2],
-            faults: &no_address,
-            telegram: None,
+            whole: Err(Found {
+                from: 3,
+                fault: TelegramFault::BadAddress,
+            }),
         },
     ];
     for row in &rows {
@@ -481,30 +484,23 @@ fn fronts_of_the_longest_telegram_are_received(rt: HostRuntime) -> Result<(), Fa
     let mut octets = vec![in rt.alloc(); 0x68, 0xf9, 0xf9, 0x68, 2, 1, 0x44]?;
     octets.extend_from_slice(&[0; 246])?;
     octets.extend_from_slice(&[0x47, 0x16])?;
-    let longest = Telegram::Var(VarTelegram {
-        da: 2,
-        sa: 1,
-        fc: 0x44,
-        unit: ArrayVec::try_from([0; 246].as_slice())?,
-    });
-    let faults = [(0, TelegramFault::Empty), (1, TelegramFault::Truncated)];
+    let longest = fed(&good(rt.alloc(), &octets)?)?;
+    let (da, sa, fc) = (2, 1, 0x44);
+    assert_eq!(rt; longest.head(), Some(Head { da, sa, fc }));
+    assert_eq!(rt; longest.unit(), [0; 246].as_slice());
     let fronts = Fronts {
         octets: &octets,
-        faults: &faults,
-        telegram: Some(longest),
+        whole: Ok(longest),
     };
     fronts_are_received(&rt, rt.alloc(), &fronts)?;
     octets[1] = 0xfa;
     octets[2] = 0xfa;
-    let too_long = [
-        (0, TelegramFault::Empty),
-        (1, TelegramFault::Truncated),
-        (4, TelegramFault::BadLength),
-    ];
     let fronts = Fronts {
         octets: &octets,
-        faults: &too_long,
-        telegram: None,
+        whole: Err(Found {
+            from: 4,
+            fault: TelegramFault::BadLength,
+        }),
     };
     fronts_are_received(&rt, rt.alloc(), &fronts)
 }
