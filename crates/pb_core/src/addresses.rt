@@ -1,7 +1,7 @@
 use std::marker::Model;
 
 /// The address of a station, 0 to 126: a number in every clause.
-#[derive(Clone, Copy, Debug)]
+#[derive(Clone, Copy, Debug, PartialEq, Eq)]
 pub struct Address {
     number: u8,
 }

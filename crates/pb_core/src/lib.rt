@@ -6,6 +6,7 @@ mod addresses;
 mod arrivals;
 mod cores;
 pub mod cycles;
+mod equality;
 mod lists;
 mod moments;
 mod past;

@@ -6,7 +6,7 @@ use std::marker::Model;
 
 /// A moment up to which a station was quiet, or spoke: never later than the end of the longest telegram that
 /// is said at the last moment of a turn. So what a timer adds to it is still a [`Moment`].
-#[derive(Clone, Copy, Debug)]
+#[derive(Clone, Copy, Debug, PartialEq, Eq)]
 pub struct PastMoment {
     moment: Moment,
 }

@@ -6,7 +6,7 @@ use crate::moments::PastMoment;
 use pb_timers::Moment;
 
 /// What a station keeps of its past.
-#[derive(Clone, Copy, Debug)]
+#[derive(Clone, Copy, Debug, PartialEq, Eq)]
 pub struct Past {
     /// The latest of its start, its last End and the end of its own last telegram.
     pub quiet: PastMoment,

@@ -16,7 +16,7 @@ use pb_telegram::{Fc, Head, ShortTelegram, Telegram, write};
 use pb_timers::{BusParams, Moment};
 
 /// A reply that is not sent yet.
-#[derive(Debug, Drop)]
+#[derive(Debug, PartialEq, Eq, Drop)]
 pub struct Reply {
     /// When it is sent.
     pub ready: Moment,

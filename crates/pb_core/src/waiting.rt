@@ -1,3 +1,5 @@
+ghost use Rattle.std.specs.Prelude.{◌≡◌, true};
+
 use pb_cycles::{Queue, Request};
 use std::alloc::{AllocError, Global};
 use std::marker::Model;
@@ -34,6 +36,13 @@ impl Waiting {
     {
         let queue = Box::new(alloc, self.queue.copy())?;
         Ok(Waiting { queue })
+    }
+
+    /// Whether the same requests wait in another.
+    pub fn is_same(&self, other: &Waiting) -> bool
+        ensures { IsTrue result ↔ (self.now ≡ other.now) }
+    {
+        are_same(self.queue(), other.queue())
     }
 
     /// They all.
@@ -99,4 +108,11 @@ impl Waiting {
     {
         self.queue.clear();
     }
+}
+
+fn are_same(one: &Queue, other: &Queue) -> bool
+    ensures same { result ≡ true → one.now ≡ other.now }
+    ensures differs { one.now ≡ other.now → result ≡ true }
+{
+    one == other
 }

@@ -1,9 +1,10 @@
 -- What setting and clearing a bit does to the set that the bits list.
 use Rattle.std.proofs.Common.{Option, Some, None, ◌≡◌, ℕ, ◌+◌, ◌-◌, ◌*◌, ◌%◌, ◌^◌, ◌<◌, ◌≤◌, List, [], ◌∷◌, Bool, true, false, ◌==◌, ◌&&◌, ◌||◌, refl, ap, sym, ◌∙◌, subst, arith, inl, inr, bit_and, bit_or}
-use Rattle.std.specs.Prelude.{filter, not, nat_le, nat_lt, min}
+use Rattle.std.specs.Prelude.{filter, not, nat_le, nat_lt, min, IsTrue, ◌↔◌}
 use Rattle.std.specs.Option.{option_or}
 use Rattle.std.proofs.lemmas.Bool.Decides.{nat_tests}
 use Rattle.std.specs.Int.{bit_at}
+use Rattle.std.proofs.lemmas.Bool.Decides.{Decides-eqb}
 use Rattle.std.proofs.Math.Bool.{and-true}
 use Rattle.std.proofs.lemmas.Bool.{and_right, and_from, and_left, lt-ltb, le-leb, leb-true, ltb-true, cases_Bool, eq-eqb, ne_eqb, cases_eq}
 use Rattle.std.proofs.lemmas.Nat.{or_lt, one_shl}
@@ -196,3 +197,12 @@ equal-words r xs ys m n e first second low high =
     let mine : bits_of xs ≡ m = sym (ap bits_of first) ∙ bits_of-listed m low in
     let theirs : bits_of ys ≡ n = sym (ap bits_of second) ∙ bits_of-listed n high in
     rw (mine, theirs) e
+
+-- two sets are the same exactly where their bits are
+pub same-words : (xs ys : List ℕ) (m n : ℕ) → listed m ≡ xs → listed n ≡ ys → m < 2 ^ 127 → n < 2 ^ 127 → IsTrue (m == n) ↔ (xs ≡ ys)
+same-words xs ys m n first second low high =
+    let mine : bits_of xs ≡ m = sym (ap bits_of first) ∙ bits_of-listed m low in
+    let theirs : bits_of ys ≡ n = sym (ap bits_of second) ∙ bits_of-listed n high in (
+      (λ same. sym first ∙ ap listed ((Decides-eqb m n).0 same) ∙ second),
+      λ e. (Decides-eqb m n).1 (sym mine ∙ ap bits_of e ∙ theirs),
+    )

@@ -1,6 +1,6 @@
 //! Sets of station addresses.
 
-ghost use Rattle.std.specs.Prelude.{◌≡◌, ◌<◌, [], List, ◌∷◌, filter, not, nat_le, ◌&&◌, IfSome};
+ghost use Rattle.std.specs.Prelude.{◌≡◌, ◌<◌, [], List, ◌∷◌, filter, not, nat_le, ◌&&◌, IfSome, IsTrue, ◌↔◌};
 ghost use Rattle.pb_ring.specs.AddressSets.{addresses, removes, is_member, with_address, without_address, is_between, is_same, first_of, last_of, from_behind, from_at};
 
 use crate::words::{highest_set, is_set, lowest_set, set_removed};
@@ -101,7 +101,8 @@ impl Addresses {
 
     /// Whether two sets are equal.
     pub(crate) fn equals(self, other: Addresses) -> bool
-        ensures { result ≡ is_same self other }
+        ensures listed { result ≡ is_same self other }
+        ensures same { IsTrue result ↔ (self ≡ other) }
     {
         self.bits == other.bits
     }

@@ -1,6 +1,6 @@
 //! The list of active stations.
 
-ghost use Rattle.std.specs.Prelude.{◌≡◌, ◌<◌, Bool, true};
+ghost use Rattle.std.specs.Prelude.{◌≡◌, ◌<◌, Bool, true, IsTrue, ◌↔◌};
 ghost use Rattle.pb_ring.specs.AddressSets.{is_member, next_address, previous_address};
 ghost use Rattle.pb_ring.specs.Las.{listening, claimed, heard, entered, removed, readied, is_complete, members_of, place_of, skips_of};
 
@@ -54,6 +54,13 @@ impl Las {
             last: None,
             stage: Stage::Complete(Addresses::only(ts), Some(place)),
         }
+    }
+
+    /// Whether another list is equal to it.
+    pub fn is_same(&self, other: &Las) -> bool
+        ensures { IsTrue result ↔ (self.now ≡ other.now) }
+    {
+        self.last == other.last && self.stage.is_same(&other.stage)
     }
 
     /// A token telegram from `sa` to `da`, 0 to 126, is heard. A retry adds nothing. Before the list is

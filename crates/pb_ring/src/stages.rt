@@ -1,6 +1,6 @@
 //! What a list of active stations is made of.
 
-ghost use Rattle.std.specs.Prelude.{◌≡◌};
+ghost use Rattle.std.specs.Prelude.{◌≡◌, IsTrue, ◌↔◌};
 
 use crate::addresses::Addresses;
 
@@ -25,4 +25,33 @@ pub enum Stage {
     Learning(Addresses, Option<Addresses>),
     /// The active stations, and the own place once the station has joined the ring.
     Complete(Addresses, Option<Place>),
+}
+
+impl Stage {
+    ghost use Rattle.std.specs.Prelude.{◌≡◌, IsTrue, ◌↔◌};
+
+    /// Whether another is equal to it.
+    pub(crate) fn is_same(&self, other: &Stage) -> bool
+        ensures { IsTrue result ↔ (self.now ≡ other.now) }
+    {
+        match (self, other) {
+            (Stage::Learning(rotation, closed), Stage::Learning(of_other, closed_of_other)) => {
+                rotation.equals(*of_other) && is_same_rotation(closed, closed_of_other)
+            }
+            (Stage::Complete(members, place), Stage::Complete(of_other, place_of_other)) => {
+                members.equals(*of_other) && place == place_of_other
+            }
+            _ => false,
+        }
+    }
+}
+
+fn is_same_rotation(one: &Option<Addresses>, other: &Option<Addresses>) -> bool
+    ensures { IsTrue result ↔ (one.now ≡ other.now) }
+{
+    match (one, other) {
+        (Some(one), Some(other)) => one.equals(*other),
+        (None, None) => true,
+        _ => false,
+    }
 }

@@ -7,7 +7,7 @@ use pb_timers::Moment;
 use std::marker::Model;
 
 /// A receipt of the token.
-#[derive(Clone, Copy, Debug)]
+#[derive(Clone, Copy, Debug, PartialEq, Eq)]
 struct Receipt {
     /// The receipt before it; at the first one itself.
     previous: Moment,
@@ -19,7 +19,7 @@ struct Receipt {
 /// How long a station may hold the token, from the receipts of the token (EN 50170-2, token holding
 /// time): a rotation that took long leaves little time, and one that took longer than the target rotation
 /// time leaves none but for a first high priority cycle.
-#[derive(Clone, Copy, Debug)]
+#[derive(Clone, Copy, Debug, PartialEq, Eq)]
 pub struct Rotation {
     ttr: u32,
     last: Option<Receipt>,

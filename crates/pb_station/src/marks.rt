@@ -8,7 +8,7 @@ use pb_timers::Moment;
 
 /// What a station is told of the bus: activity of others begins or ends at a moment. The mark is
 /// delivered at the moment `seen`.
-#[derive(Debug, Drop)]
+#[derive(Debug, PartialEq, Eq, Drop)]
 pub enum Mark {
     /// Activity has begun.
     Begin {

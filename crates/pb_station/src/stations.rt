@@ -101,7 +101,7 @@ fn stop_core(core: &mut Core)
 }
 
 impl Station {
-    ghost use Rattle.std.specs.Prelude.{◌≡◌, ◌≤◌, ◌<◌, List, length, Some, None, map, is_some, IfOk, OnOk, OnErr, MatchResult};
+    ghost use Rattle.std.specs.Prelude.{◌≡◌, ◌≤◌, ◌<◌, List, length, Some, None, map, is_some, IsTrue, ◌↔◌, IfOk, OnOk, OnErr, MatchResult};
     ghost use Rattle.pb_timers.specs.Timers.{Params};
     ghost use Rattle.pb_turn.specs.Stations as turn;
     ghost use Rattle.pb_tokenfsm.specs.Phases.{phase_of};
@@ -261,6 +261,17 @@ impl Station {
             reply_data: copy_octets(&self.reply_data),
             core,
         })
+    }
+
+    /// Whether another station is equal to it.
+    pub fn is_same(&self, other: &Station) -> bool
+        ensures { IsTrue result ↔ (self.now ≡ other.now) }
+    {
+        other.tap == self.tap
+            && other.params.is_same(&self.params)
+            && other.master == self.master
+            && other.reply_data == self.reply_data
+            && other.core.is_same(&self.core)
     }
 
     /// The station takes its turn at a moment, at most 2^61, with some unread marks, none of them of a later

@@ -1,4 +1,4 @@
-ghost use Rattle.std.specs.Prelude.{◌≡◌, Some, None, IfOk, IfErr, OnOk};
+ghost use Rattle.std.specs.Prelude.{◌≡◌, Some, None, IsTrue, ◌↔◌, IfOk, IfErr, OnOk};
 ghost use Rattle.pb_refusals.specs.FirstFault.{first_fault};
 ghost use Rattle.pb_timers.specs.Timers.{tto};
 ghost use Rattle.pb_timers.specs.ParamRules.{is_outside, late_faults};
@@ -197,6 +197,21 @@ impl BusParams {
             hsa,
             retries,
         })
+    }
+
+    /// Whether other parameters are equal to these.
+    pub fn is_same(&self, other: &BusParams) -> bool
+        ensures { IsTrue result ↔ (self.now ≡ other.now) }
+    {
+        other.tsl == self.tsl
+            && other.tid1 == self.tid1
+            && other.tid2 == self.tid2
+            && other.tsdr == self.tsdr
+            && other.lag == self.lag
+            && other.ttr == self.ttr
+            && other.gap == self.gap
+            && other.hsa == self.hsa
+            && other.retries == self.retries
     }
 
     /// The slot time, in bit times.

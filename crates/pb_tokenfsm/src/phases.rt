@@ -8,7 +8,7 @@ use crate::waiting::{Idle, Listening, Offline, PassiveIdle};
 use std::mem;
 
 /// The state that a station is in (IEC 61158-4-3, states of the data link layer of a master).
-#[derive(Debug, Drop)]
+#[derive(Debug, PartialEq, Eq, Drop)]
 pub enum Phase {
     /// It does not run.
     Offline(Offline),

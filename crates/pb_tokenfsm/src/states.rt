@@ -16,21 +16,21 @@ use pb_timers::Moment;
 pub const TRIES: u8 = 3;
 
 /// The token has been passed, and the station waits for a sign that it was taken.
-#[derive(Debug, Drop)]
+#[derive(Debug, PartialEq, Eq, Drop)]
 pub struct Checking {
     /// How often the token was sent to this successor, 1 to 3.
     tries: u8,
 }
 
 /// A station that may initiate.
-#[derive(Debug, Drop)]
+#[derive(Debug, PartialEq, Eq, Drop)]
 pub struct Holding<S> {
     /// What it is about.
     state: S,
 }
 
 /// It claims the token, with two token telegrams to its own address.
-#[derive(Clone, Copy, Debug)]
+#[derive(Clone, Copy, Debug, PartialEq, Eq)]
 pub struct Claim {
     /// How many of the two are sent.
     sent: u8,
@@ -39,7 +39,7 @@ pub struct Claim {
 }
 
 /// It uses the token.
-#[derive(Clone, Copy, Debug)]
+#[derive(Clone, Copy, Debug, PartialEq, Eq)]
 pub struct Use {
     /// Whether a station was asked for its status since the receipt of the token.
     asked: bool,
@@ -48,7 +48,7 @@ pub struct Use {
 }
 
 /// It has sent an SDA or SRD, and waits for the reply.
-#[derive(Clone, Copy, Debug)]
+#[derive(Clone, Copy, Debug, PartialEq, Eq)]
 pub struct AwaitData {
     /// Whether a station was asked for its status since the receipt of the token.
     asked: bool,
@@ -59,7 +59,7 @@ pub struct AwaitData {
 }
 
 /// It has asked a station for its status.
-#[derive(Clone, Copy, Debug)]
+#[derive(Clone, Copy, Debug, PartialEq, Eq)]
 pub struct AwaitStatus {
     /// The station that was asked.
     of: u8,
@@ -68,7 +68,7 @@ pub struct AwaitStatus {
 }
 
 /// It passes the token.
-#[derive(Clone, Copy, Debug)]
+#[derive(Clone, Copy, Debug, PartialEq, Eq)]
 pub struct Pass {
     /// How often the token was sent to this successor, 0 to 3.
     tries: u8,

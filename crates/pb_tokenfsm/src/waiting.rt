@@ -10,22 +10,22 @@ use pb_telegram::TokenTelegram;
 use pb_timers::Moment;
 
 /// The station does not run.
-#[derive(Debug, Drop)]
+#[derive(Debug, PartialEq, Eq, Drop)]
 pub struct Offline;
 
 /// A passive station, which says nothing as an initiator.
-#[derive(Debug, Drop)]
+#[derive(Debug, PartialEq, Eq, Drop)]
 pub struct PassiveIdle;
 
 /// A master that listens for the ring, and takes no token.
-#[derive(Debug, Drop)]
+#[derive(Debug, PartialEq, Eq, Drop)]
 pub struct Listening {
     /// Whether a token was heard that had the own address as its source.
     doubled: bool,
 }
 
 /// A master in the ring that waits for the token.
-#[derive(Debug, Drop)]
+#[derive(Debug, PartialEq, Eq, Drop)]
 pub struct Idle {
     /// The station whose token to this one was not accepted, if any.
     refused: Option<u8>,
