@@ -161,10 +161,12 @@ fn a_turn_is_decided_outside_the_world(rt: HostRuntime) {
     let decision = decide(alloc, glance).expect(&rt, "a decision");
     let said = decision.speak.as_ref().expect(&rt, "a telegram");
     assert_eq!(rt; said.as_slice(), [0xdc, 1, 1].as_slice());
+    assert!(rt; world.fits(&decision));
     let turn = world.apply(alloc, Event::Turn(0)).expect(&rt, "a turn");
     assert_eq!(rt; turn.copy(), turn);
     assert_eq!(rt; turn.spoke, decision.speak);
     assert_eq!(rt; phase_name(&world, 0), Some(decision.after.phase().name()));
+    assert!(rt; !world.fits(&decision));
     assert_eq!(rt; world.into_trace().len(), 1);
 }
 

@@ -4,6 +4,7 @@ use Rattle.pb_core.specs.Clocks.{last_turn}
 use Rattle.pb_model.specs.Medium as medium
 use Rattle.pb_model.specs.World.{World}
 use Rattle.pb_station.specs.MarkViews.{mark_of, AreOver}
+use Rattle.pb_station.specs.Decisions.{DecisionView}
 use Rattle.pb_station.specs.Stations.{StationView}
 use Rattle.pb_station.specs.declared.decisions.Glance.{Glance}
 
@@ -19,3 +20,8 @@ IsGlance w tap g = (t : medium.Tap) × (slice_get w.taps tap ≡ Some t)
 -- a turn can be decided on it: the clock is at most 2^61, and no mark is of a later moment
 abbrev pub CanBeDecided : Glance → Type 0
 CanBeDecided g = (g.now ≤ last_turn) × AreOver g.now g.marks.items
+
+-- a decision was made on its tap as that is: on its station, its unread marks, and the clock
+abbrev pub Fits : World → DecisionView → Type 0
+Fits w d = (t : medium.Tap) × (slice_get w.taps d.tap ≡ Some t)
+    × (d.before ≡ station_at w d.tap t) × (map mark_of d.marks ≡ t.marks) × (d.now ≡ w.now)

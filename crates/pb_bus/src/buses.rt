@@ -4,8 +4,8 @@ use crate::starting::start;
 use crate::stopping::stop;
 use pb_cycles::Request;
 use pb_medium::{Hit, Speaker, Trace};
-use pb_station::{Glance, NoMemory, SendBuffer, Station, due};
-use pb_taps::{Event, Tap, WorldFault, check_running, glance, queue, take_turn};
+use pb_station::{Decision, Glance, NoMemory, SendBuffer, Station, due};
+use pb_taps::{Event, Tap, WorldFault, check_running, fits, glance, queue, take_turn};
 use pb_timers::{BusParams, Moment};
 use std::alloc::Global;
 
@@ -21,13 +21,13 @@ pub struct Bus {
 }
 
 impl Bus {
-    ghost use Rattle.std.specs.Prelude.{◌≡◌, ◌<◌, None, IfOk, MatchOption, length, slice_get};
+    ghost use Rattle.std.specs.Prelude.{◌≡◌, ◌<◌, None, IsTrue, ◌↔◌, IfOk, MatchOption, length, slice_get};
     ghost use Rattle.pb_model.specs.World as events;
     ghost use Rattle.pb_bus.specs.Buses.{world_of, Does, IsKept};
     ghost use Rattle.pb_medium.specs.Entries.{hit_of};
     ghost use Rattle.pb_taps.specs.Events.{event_of};
     ghost use Rattle.pb_bus.specs.Worlds.{due_at, IsStationAt};
-    ghost use Rattle.pb_bus.specs.Glances.{CanBeDecided, IsGlance};
+    ghost use Rattle.pb_bus.specs.Glances.{CanBeDecided, Fits, IsGlance};
 
     /// Does an event. What a station says in it stands in `sent`.
     pub fn apply(&mut self, alloc: Global, event: &Event) -> Result<(), WorldFault>
@@ -172,6 +172,14 @@ impl Bus {
         ensures turn { IfOk result CanBeDecided }
     {
         glance(alloc, &self.taps, tap, self.now)
+    }
+
+    /// Whether a decision was made on its tap as that is now.
+    pub fn fits(&self, decision: &Decision) -> bool
+        requires { IsKept self.now }
+        ensures { IsTrue result ↔ Fits (world_of self.entry.now) decision.entry.now }
+    {
+        fits(&self.taps, decision, self.now)
     }
 
     /// The station at a tap.

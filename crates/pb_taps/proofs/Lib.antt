@@ -1,4 +1,5 @@
 pub mod Behind
+pub mod Equal
 pub mod Items
 pub mod Replacing
 pub mod Seats

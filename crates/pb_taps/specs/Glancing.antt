@@ -1,5 +1,6 @@
 -- What a tap shows to one that works outside its bus.
-use Rattle.std.specs.Prelude.{◌≡◌, ℕ, map}
+use Rattle.std.specs.Prelude.{◌≡◌, ℕ, List, Some, map, slice_get}
+use Rattle.pb_station.specs.Decisions.{DecisionView}
 use Rattle.pb_station.specs.MarkViews.{mark_of}
 use Rattle.pb_station.specs.declared.decisions.Glance.{Glance}
 use Rattle.pb_taps.specs.declared.taps.Tap.{Tap}
@@ -7,3 +8,11 @@ use Rattle.pb_taps.specs.declared.taps.Tap.{Tap}
 -- a glance shows the station of the tap at a position, its unread marks, and the clock
 abbrev pub Shows : Tap → ℕ → ℕ → Glance → Type 0
 Shows t position now g = (g.tap ≡ position) × (g.station ≡ t.station) × (map mark_of g.marks.items ≡ t.marks) × (g.now ≡ now)
+
+-- a decision was made on a tap as it is at a moment: on its station, its unread marks, and the clock
+abbrev pub WasMadeOn : Tap → ℕ → DecisionView → Type 0
+WasMadeOn t now d = (d.before ≡ t.station) × (map mark_of d.marks ≡ t.marks) × (d.now ≡ now)
+
+-- one was made on the tap at its position, as that is
+abbrev pub FitsTap : List Tap → ℕ → DecisionView → Type 0
+FitsTap taps now d = (t : Tap) × (slice_get taps d.tap ≡ Some t) × WasMadeOn t now d

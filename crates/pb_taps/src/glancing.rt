@@ -1,9 +1,9 @@
-ghost use Rattle.std.specs.Prelude.{◌≡◌, ◌<◌, IfOk, Some, slice_get, length, map};
-ghost use Rattle.pb_taps.specs.Glancing.{Shows};
+ghost use Rattle.std.specs.Prelude.{◌≡◌, ◌<◌, IsTrue, ◌↔◌, IfOk, Some, slice_get, length, map};
+ghost use Rattle.pb_taps.specs.Glancing.{Shows, WasMadeOn, FitsTap};
 ghost use Rattle.pb_taps.specs.declared.taps.Tap as declared;
 
 use crate::taps::Tap;
-use pb_station::{Glance, NoMemory};
+use pb_station::{Decision, Glance, NoMemory};
 use pb_timers::Moment;
 use std::alloc::Global;
 
@@ -16,6 +16,16 @@ pub fn glance(alloc: Global, taps: &[Tap], position: usize, now: Moment) -> Resu
     show(alloc, &taps[position], position, now)
 }
 
+/// Whether a decision was made on the tap at its position, as that is now.
+pub fn fits(taps: &[Tap], decision: &Decision, now: Moment) -> bool
+    ensures { IsTrue result ↔ FitsTap taps.now now decision.entry.now }
+{
+    match taps.get(decision.tap) {
+        Some(tap) => was_made_on(tap, decision, now),
+        None => false,
+    }
+}
+
 fn show(alloc: Global, tap: &Tap, position: usize, now: Moment) -> Result<Glance, NoMemory>
     ensures { IfOk result (Shows tap.now position now) }
 {
@@ -25,4 +35,10 @@ fn show(alloc: Global, tap: &Tap, position: usize, now: Moment) -> Result<Glance
         marks: tap.marks.copy_marks(alloc)?,
         now,
     })
+}
+
+fn was_made_on(tap: &Tap, decision: &Decision, now: Moment) -> bool
+    ensures { IsTrue result ↔ WasMadeOn tap.now now decision.entry.now }
+{
+    decision.now == now && tap.marks.are(&decision.marks) && tap.station.is_same(&decision.before)
 }

@@ -1,4 +1,4 @@
-ghost use Rattle.std.specs.Prelude.{◌≡◌, IfOk, map};
+ghost use Rattle.std.specs.Prelude.{◌≡◌, IsTrue, ◌↔◌, IfOk, map};
 ghost use Rattle.pb_station.specs.MarkViews.{mark_of};
 
 use pb_station::Mark;
@@ -29,7 +29,7 @@ impl Model for Inbox {
 }
 
 impl Inbox {
-    ghost use Rattle.std.specs.Prelude.{◌≡◌, ◌<◌, ◌++◌, [], ◌∷◌, IfOk, length, map};
+    ghost use Rattle.std.specs.Prelude.{◌≡◌, ◌<◌, ◌++◌, [], ◌∷◌, IsTrue, ◌↔◌, IfOk, length, map};
     ghost use Rattle.pb_model.specs.World.{mark_limit};
     ghost use Rattle.pb_station.specs.MarkViews.{mark_of};
 
@@ -53,6 +53,13 @@ impl Inbox {
         ensures { IfOk result (λ v. map mark_of v.items ≡ self.now) }
     {
         copy_all(alloc, self.marks())
+    }
+
+    /// Whether these are its marks.
+    pub fn are(&self, marks: &[Mark]) -> bool
+        ensures { IsTrue result ↔ (map mark_of marks.now ≡ self.now) }
+    {
+        are_same(marks, self.marks())
     }
 
     /// One more mark, behind the others.
@@ -80,4 +87,10 @@ fn copy_all(alloc: Global, marks: &[Mark]) -> Result<Vec<Mark>, AllocError>
         copies.push(mark.copy())?;
     }
     Ok(copies)
+}
+
+fn are_same(some: &[Mark], others: &[Mark]) -> bool
+    ensures { IsTrue result ↔ (map mark_of some.now ≡ map mark_of others.now) }
+{
+    some == others
 }

@@ -14,7 +14,7 @@ mod turning;
 
 pub use events::{Event, Reply};
 pub use faults::{NewFault, WorldFault};
-pub use glancing::glance;
+pub use glancing::{fits, glance};
 pub use inboxes::{Inbox, MARK_LIMIT};
 pub use making::{check_taps, new_taps};
 pub use moments::beginning;

@@ -6,7 +6,7 @@ ghost use Rattle.pb_token.specs.Promises.{LeavesOneToken};
 
 use pb_bus::{Bus, new_bus};
 use pb_medium::Entry;
-use pb_station::{Glance, NoMemory, Station};
+use pb_station::{Decision, Glance, NoMemory, Station};
 use pb_taps::{Event, NewFault, Reply, TapSpec, WorldFault};
 use pb_timers::{BusParams, Moment};
 use std::alloc::Global;
@@ -33,14 +33,14 @@ impl Model for World {
 }
 
 impl World {
-    ghost use Rattle.std.specs.Prelude.{◌≡◌, ◌<◌, [], ◌∷◌, Ok, None, IfOk, IfErr, OnOk, MatchOption, length, map, slice_get};
+    ghost use Rattle.std.specs.Prelude.{◌≡◌, ◌<◌, [], ◌∷◌, Ok, None, IsTrue, ◌↔◌, IfOk, IfErr, OnOk, MatchOption, length, map, slice_get};
     ghost use Rattle.pb_model.specs.World.{new_world};
     ghost use Rattle.pb_medium.specs.Entries.{entry_of};
     ghost use Rattle.pb_taps.specs.Events.{event_of};
     ghost use Rattle.pb_taps.specs.Faults.{RefusesNew};
     ghost use Rattle.pb_taps.specs.Taps.{spec_of};
     ghost use Rattle.pb_bus.specs.Worlds.{due_at, Follows, Goes, IsStationAt};
-    ghost use Rattle.pb_bus.specs.Glances.{CanBeDecided, IsGlance};
+    ghost use Rattle.pb_bus.specs.Glances.{CanBeDecided, Fits, IsGlance};
     ghost use Rattle.pb_runs.specs.Bus.{next_change};
     ghost use Rattle.pb_token.specs.Promises.{HasOneToken, LeavesOneToken};
 
@@ -163,6 +163,14 @@ impl World {
         ensures turn { IfOk result CanBeDecided }
     {
         self.bus.glance(alloc, tap)
+    }
+
+    /// Whether a decision was made on its tap as that is now: the station, its unread marks and the clock are the
+    /// decision's. It isn't where there is no such tap. It changes nothing, and takes no memory.
+    pub fn fits(&self, decision: &Decision) -> bool
+        ensures { IsTrue result ↔ Fits self.entry.now decision.entry.now }
+    {
+        self.bus.fits(decision)
     }
 
     /// The station at a tap, if there is such a tap.
