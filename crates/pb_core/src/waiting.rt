@@ -1,4 +1,4 @@
-ghost use Rattle.std.specs.Prelude.{◌≡◌, true};
+ghost use Rattle.std.specs.Prelude.{◌≡◌, IsTrue, ◌↔◌};
 
 use pb_cycles::{Queue, Request};
 use std::alloc::{AllocError, Global};
@@ -111,8 +111,7 @@ impl Waiting {
 }
 
 fn are_same(one: &Queue, other: &Queue) -> bool
-    ensures same { result ≡ true → one.now ≡ other.now }
-    ensures differs { one.now ≡ other.now → result ≡ true }
+    ensures { IsTrue result ↔ (one.now ≡ other.now) }
 {
     one == other
 }
