@@ -38,6 +38,18 @@ fn two_masters(rt: &(impl AllocGlobal + Abort)) -> World {
     World::new(rt.alloc(), usual(rt), &specs).expect(rt, "a world")
 }
 
+/// Two masters, of which the first was started 800 bit times ago, and has its turn now.
+fn silent_for_800(rt: &(impl AllocGlobal + Abort)) -> World {
+    let mut world = two_masters(rt);
+    world
+        .apply(rt.alloc(), Event::Start(0))
+        .expect(rt, "a start");
+    world
+        .apply(rt.alloc(), Event::Pass(800))
+        .expect(rt, "a pass");
+    world
+}
+
 /// A request of high priority for the data of station 7.
 fn request(rt: &impl Abort) -> Request {
     Request::new(7, Service::Srd, true, ArrayVec::new()).expect(rt, "a request")
@@ -144,13 +156,11 @@ fn a_master_asks_for_data(rt: HostRuntime) {
     assert_eq!(rt; second.executed(), 1);
 }
 
-/// Of two starts of a tap the second is refused, and the tap runs.
+/// A turn that was decided outside the world is the one that the world takes, and no decision fits after it.
 #[test]
 fn a_turn_is_decided_outside_the_world(rt: HostRuntime) {
     let alloc = rt.alloc();
-    let mut world = two_masters(&rt);
-    world.apply(alloc, Event::Start(0)).expect(&rt, "a start");
-    world.apply(alloc, Event::Pass(800)).expect(&rt, "a pass");
+    let mut world = silent_for_800(&rt);
     assert_eq!(rt; world.taps(), 2);
     let glance = world.glance_of(alloc, 0).expect(&rt, "a glance");
     assert_eq!(rt;
@@ -161,15 +171,65 @@ fn a_turn_is_decided_outside_the_world(rt: HostRuntime) {
     let decision = decide(alloc, glance).expect(&rt, "a decision");
     let said = decision.speak.as_ref().expect(&rt, "a telegram");
     assert_eq!(rt; said.as_slice(), [0xdc, 1, 1].as_slice());
+    let glance = world.glance_of(alloc, 0).expect(&rt, "a glance");
+    let again = decide(alloc, glance).expect(&rt, "a decision");
+    let phase = decision.after.phase().name();
+    assert!(rt; world.fits(&again));
     assert!(rt; world.fits(&decision));
-    let turn = world.apply(alloc, Event::Turn(0)).expect(&rt, "a turn");
-    assert_eq!(rt; turn.copy(), turn);
-    assert_eq!(rt; turn.spoke, decision.speak);
-    assert_eq!(rt; phase_name(&world, 0), Some(decision.after.phase().name()));
-    assert!(rt; !world.fits(&decision));
+    let taken = world.take(alloc, decision).expect(&rt, "a turn");
+    assert_eq!(rt; phase_name(&world, 0), Some(phase));
+    assert!(rt; !world.fits(&again));
+    let mut other = silent_for_800(&rt);
+    let turn = other.apply(alloc, Event::Turn(0)).expect(&rt, "a turn");
+    assert_eq!(rt; turn.copy(), taken);
+    assert_eq!(rt; phase_name(&other, 0), Some(phase));
     assert_eq!(rt; world.into_trace().len(), 1);
 }
 
+/// Why an event would be refused is known before, and nothing changes by that.
+#[test]
+fn refusals_are_known_before(rt: HostRuntime) {
+    let alloc = rt.alloc();
+    let mut world = two_masters(&rt);
+    let asked = Event::Queue {
+        tap: 0,
+        request: request(&rt),
+    };
+    let no_tap = Some(WorldFault::NoSuchTap);
+    let stopped = Some(WorldFault::NotRunning);
+    assert_eq!(rt; world.refusal(&Event::Start(2), false), no_tap);
+    assert_eq!(rt; world.refusal(&Event::Stop(0), false), stopped);
+    assert_eq!(rt; world.refusal(&asked, false), stopped);
+    assert_eq!(rt;
+        world.refusal(&Event::Noise(0), false),
+        Some(WorldFault::ZeroTime)
+    );
+    let age = Event::Pass(1_000_000_000_001);
+    assert_eq!(rt; world.refusal(&age, false), Some(WorldFault::ClockFull));
+    assert_eq!(rt; world.refusal(&Event::Start(0), false), None);
+    world = silent_for_800(&rt);
+    assert_eq!(rt;
+        world.refusal(&Event::Start(0), false),
+        Some(WorldFault::Running)
+    );
+    assert_eq!(rt; world.refusal(&asked, false), None);
+    let lost = Event::Unheard { tap: 1, speaker: 0 };
+    let nothing = Some(WorldFault::NothingInAir);
+    assert_eq!(rt; world.refusal(&lost, false), nothing);
+    world.apply(alloc, Event::Turn(0)).expect(&rt, "a claim");
+    assert_eq!(rt; world.refusal(&lost, false), None);
+    let beyond = Some(WorldFault::TooFar(833));
+    assert_eq!(rt; world.refusal(&Event::Pass(34), false), beyond);
+    let hits_itself = Event::Damage {
+        tap: 0,
+        speaker: 0,
+        place: None,
+    };
+    assert_eq!(rt; world.refusal(&hits_itself, false), nothing);
+    assert_eq!(rt; (world.now().get(), world.trace().len()), (800, 1));
+}
+
+/// Of two starts of a tap the second is refused, and the tap runs.
 #[test]
 fn a_run_stops_at_the_first_refused_event(rt: HostRuntime) {
     let alloc = rt.alloc();
@@ -226,6 +286,10 @@ fn a_full_trace_takes_no_more(rt: HostRuntime) {
         world.apply(alloc, Event::Pass(1)).expect(&rt, "a pass");
     }
     assert_eq!(rt; world.trace().len(), 100_000);
+    assert_eq!(rt;
+        world.refusal(&Event::Noise(1), false),
+        Some(WorldFault::TraceFull)
+    );
     assert_eq!(rt;
         world.apply(alloc, Event::Noise(1)).err(),
         Some(WorldFault::TraceFull)

@@ -1,5 +1,5 @@
 -- What changes next on a bus without delay.
-use Rattle.std.proofs.Common.{◌≡◌, ◌∙◌, ap, sym, refl, ℕ, zero, suc, ◌+◌, ◌<◌, ◌≤◌, ◌==◌, List, [], ◌∷◌, ◌++◌, Bool, true, false, ◌||◌, ◌&&◌, if◌then◌else◌, arith, Option, Some, None}
+use Rattle.std.proofs.Common.{◌≡◌, ◌∙◌, ap, sym, refl, ℕ, zero, suc, ◌+◌, ◌≤◌, ◌==◌, List, [], ◌∷◌, Bool, true, false, ◌||◌, ◌&&◌, if◌then◌else◌, arith, Option, Some, None}
 use Rattle.std.specs.Prelude.{IfSome, nat_lt, take, drop}
 use Rattle.std.specs.List.{list_any}
 use Rattle.std.proofs.lemmas.List.{take-append-drop}
@@ -8,11 +8,11 @@ use Rattle.std.proofs.Math.Bool.{and-false, and_comm}
 use Rattle.std.proofs.lemmas.Bool.{lt-ltb, le-ltb, eqb-true, eqb-false, ne_eqb}
 use Rattle.pb_turn.specs.Stations.{earlier}
 use Rattle.pb_model.specs.Trace.{Entry, Sent, Noise, entry_begin, entry_end}
-use Rattle.pb_model.specs.World.{World, later_end, next_end, next_end_of}
+use Rattle.pb_model.specs.World.{World, later_end, next_end_of}
 use Rattle.pb_model.specs.Laws.{AllBegun, AllOver, IsSound}
 use Rattle.pb_model.proofs.Cases.{by_test}
 use Rattle.pb_model.proofs.Past.{next_end_of-skip}
-use Rattle.pb_runs.specs.Bus.{next_change, next_known, reaches_taps, is_in_air, started_now, is_started_amid}
+use Rattle.pb_runs.specs.Bus.{next_change, next_known, is_in_air, started_now}
 use Rattle.pb_runs.proofs.Moments.{LiesAfter, after-next_end}
 use Rattle.pb_bus.specs.Ends.{AllBy}
 use Rattle.pb_medium.specs.Airs.{IsCut}

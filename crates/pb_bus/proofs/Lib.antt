@@ -5,4 +5,6 @@ pub mod Stepping
 pub mod Running
 pub mod Showing
 pub mod Ending
+pub mod Judging
+pub mod Turns
 pub mod Changing

@@ -6,3 +6,4 @@ pub mod Clocks
 pub mod Buses
 pub mod Glances
 pub mod Ends
+pub mod Refusals

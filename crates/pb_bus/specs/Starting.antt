@@ -24,6 +24,10 @@ fresh_tap t amid now = record t {
 abbrev pub is_up : ℕ → List Entry → ℕ → Tap → Bool
 is_up now entries tap t = t.running || list_any (is_in_air_by at_once now tap) entries
 
+-- a tap is there that is down
+abbrev pub CanStart : ℕ → List Entry → List Tap → ℕ → Type 0
+CanStart now entries taps tap = (t : Tap) × (slice_get taps tap ≡ Some t) × (is_up now entries tap t ≡ false)
+
 -- the taps after the start of one that was down
 abbrev pub IsStarted : ℕ → List Entry → List Tap → ℕ → List Tap → Type 0
 IsStarted now entries taps tap next = (t : Tap) × (slice_get taps tap ≡ Some t) × (is_up now entries tap t ≡ false)

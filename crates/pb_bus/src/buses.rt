@@ -1,11 +1,13 @@
 use crate::clocks::pass;
-use crate::rooms::make_room;
+use crate::rooms::{make_room, make_room_for};
 use crate::starting::start;
 use crate::stopping::stop;
 use pb_cycles::Request;
 use pb_medium::{Hit, Speaker, Trace};
 use pb_station::{Decision, Glance, NoMemory, SendBuffer, Station, due};
-use pb_taps::{Event, Tap, WorldFault, check_running, fits, glance, queue, take_turn};
+use pb_taps::{
+    Event, Tap, WorldFault, check_running, fits, glance, queue, take_decided, take_turn,
+};
 use pb_timers::{BusParams, Moment};
 use std::alloc::Global;
 
@@ -70,6 +72,25 @@ impl Bus {
             taps: self.taps.len(),
             clock: self.now,
         };
+        self.trace.say(alloc, speaker, &self.sent);
+        Ok(())
+    }
+
+    /// Takes the turn of a decision that fits. What the station says stands in `sent`.
+    pub fn take(&mut self, alloc: Global, decision: Decision) -> Result<(), WorldFault>
+        requires kept { IsKept self.old }
+        requires fits { Fits (world_of self.old) decision }
+        ensures follows { Does self.old (events.Turn decision.tap) result self.new }
+        ensures kept { IsKept self.new }
+    {
+        let speaker = Speaker {
+            tap: decision.tap,
+            taps: self.taps.len(),
+            clock: self.now,
+        };
+        check_running(&self.taps, decision.tap)?;
+        make_room_for(&mut self.trace, &decision)?;
+        take_decided(&mut self.taps, decision, self.now, &mut self.sent);
         self.trace.say(alloc, speaker, &self.sent);
         Ok(())
     }

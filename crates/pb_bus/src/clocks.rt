@@ -5,11 +5,12 @@ ghost use Rattle.pb_model.specs.Step.{step_pass};
 ghost use Rattle.pb_model.specs.World as world;
 ghost use Rattle.pb_medium.specs.Airs.{air};
 ghost use Rattle.pb_medium.specs.Traces.{entries_of, over_of, recent_of};
-ghost use Rattle.pb_bus.specs.Clocks.{time_faults, IsFault, IsFirstOf, PassesTo};
+ghost use Rattle.pb_bus.specs.Clocks.{time_faults, CanPass, IsFault, IsFirstOf, PassesTo};
+ghost use Rattle.pb_medium.specs.Entries.{entry_of};
 ghost use Rattle.pb_taps.specs.Taps.{seat_of, tap_of};
 
 use crate::passes::{first_full, tell_all};
-use pb_medium::{Trace, next_end};
+use pb_medium::{Entry, Trace, next_end};
 use pb_taps::{Tap, WorldFault};
 use pb_timers::Moment;
 
@@ -34,12 +35,29 @@ pub(crate) fn pass(
     ensures err { OnErr result ((trace.new ≡ trace.old) × (taps.new ≡ taps.old)) }
     ensures fault { IfErr result (IsFault (step_pass (air now (recent_of trace.old) taps.old) bits)) }
 {
-    let to = later(next_end(trace.recent(), now.get()), now, bits)?;
-    if let Some(tap) = first_full(trace.recent(), taps, now, to) {
-        return Err(WorldFault::InboxFull(tap));
-    }
+    let to = passes_to(trace.recent(), taps, now, bits)?;
     tell_all(trace.recent(), taps, now, to);
     trace.settle(taps, now, to);
+    Ok(to)
+}
+
+/// The clock after some time, of which each tap can be told. Faults, the first that applies: `ZeroTime`; `TooFar`;
+/// `ClockFull`; `InboxFull`.
+pub(crate) fn passes_to(
+    entries: &[Entry],
+    taps: &[Tap],
+    now: Moment,
+    bits: u64,
+) -> Result<Moment, WorldFault>
+    requires sound { IsSound (air now (map entry_of entries.now) taps.now) }
+    ensures ok { IfOk result (CanPass (air now (map entry_of entries.now) taps.now) bits) }
+    ensures fault { IfErr result
+        (IsFault (step_pass (air now (map entry_of entries.now) taps.now) bits)) }
+{
+    let to = later(next_end(entries, now.get()), now, bits)?;
+    if let Some(tap) = first_full(entries, taps, now, to) {
+        return Err(WorldFault::InboxFull(tap));
+    }
     Ok(to)
 }
 

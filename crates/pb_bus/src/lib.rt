@@ -7,6 +7,7 @@ mod changes;
 mod clocks;
 mod making;
 mod passes;
+mod refusing;
 mod rooms;
 mod starting;
 mod stopping;

@@ -3,7 +3,7 @@ ghost use Rattle.std.specs.List.{list_any};
 ghost use Rattle.pb_model.specs.World as world;
 ghost use Rattle.pb_medium.specs.Entries.{entry_of};
 ghost use Rattle.pb_medium.specs.Senses.{at_once};
-ghost use Rattle.pb_bus.specs.Starting.{fresh_tap, is_up, IsStarted, RefusesStart};
+ghost use Rattle.pb_bus.specs.Starting.{fresh_tap, is_up, CanStart, IsStarted, RefusesStart};
 
 use pb_medium::{Entry, is_in_air_by, is_reached};
 use pb_taps::{Tap, WorldFault};
@@ -21,14 +21,28 @@ pub(crate) fn start(
     ensures err { OnErr result (taps.new ≡ taps.old) }
     ensures fault { IfErr result (RefusesStart now (map entry_of entries.now) taps.old tap) }
 {
+    check_start(entries, taps, tap, now)?;
+    let amid = is_reached(entries, tap, now.get());
+    start_tap(&mut taps[tap], amid, now);
+    Ok(())
+}
+
+/// Whether the station at a tap can start. Faults, the first that applies: `NoSuchTap`; `Running`.
+pub(crate) fn check_start(
+    entries: &[Entry],
+    taps: &[Tap],
+    tap: usize,
+    now: Moment,
+) -> Result<(), WorldFault>
+    ensures ok { OnOk result (CanStart now (map entry_of entries.now) taps.now tap) }
+    ensures fault { IfErr result (RefusesStart now (map entry_of entries.now) taps.now tap) }
+{
     if tap >= taps.len() {
         return Err(WorldFault::NoSuchTap);
     }
     if is_up(entries, &taps[tap], tap, now) {
         return Err(WorldFault::Running);
     }
-    let amid = is_reached(entries, tap, now.get());
-    start_tap(&mut taps[tap], amid, now);
     Ok(())
 }
 

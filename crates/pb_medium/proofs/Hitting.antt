@@ -1,6 +1,6 @@
 -- The first entry that passes a test.
 use Rattle.std.proofs.Common.{◌≡◌, ◌∙◌, ap, sym, refl, ℕ, suc, ◌+◌, ◌-◌, ◌<◌, ◌≤◌, nat_lt, not, ◌||◌, ◌++◌, List, [], ◌∷◌, length, Bool, true, false, if◌then◌else◌, cond, None, Some, append_assoc, subst, arith}
-use Rattle.std.specs.Prelude.{find, take, drop, get_or, slice_index_or, slice_set, map}
+use Rattle.std.specs.Prelude.{is_some, find, take, drop, get_or, slice_index_or, slice_set, map}
 use Rattle.std.proofs.Math.ListN.{set}
 use Rattle.std.specs.List.{list_any, position, position_or_len}
 use Rattle.std.proofs.Math.Seq.{take-add}
@@ -91,6 +91,14 @@ any-placed test (x ∷ xs) = by (any-placed test xs) (test x) refl
     by rest true passes = ap (λ (b : Bool). b || list_any test xs) passes ∙ sym (lt-ltb 0 (suc (length xs)) (omega arith)) ∙ sym (ap (λ n. nat_lt n (suc (length xs))) (place-at test true x xs passes))
     by rest false fails = ap (λ (b : Bool). b || list_any test xs) fails ∙ rest ∙ below-next (position_or_len test xs) (length xs) (nat_lt (position_or_len test xs) (length xs)) refl
         ∙ sym (ap (λ n. nat_lt n (suc (length xs))) (place-at test false x xs fails))
+
+cond-some : (b : Bool) (n : ℕ) → is_some (cond b (Some n) None) ≡ b
+cond-some true n = refl
+cond-some false n = refl
+
+-- whether one passes the test, by the place of the first that does
+pub some-placed : (test : Entry → Bool) (xs : List Entry) → is_some (position test xs) ≡ list_any test xs
+some-placed test xs = cond-some (nat_lt (position_or_len test xs) (length xs)) (position_or_len test xs) ∙ sym (any-placed test xs)
 
 -- what stands behind the first that passes, and that changed, behind all before it
 abbrev changed_at : (Entry → Entry) → List Entry → Entry → ℕ → List Entry

@@ -28,6 +28,13 @@ impl Trace {
     {
         damage(&mut self.entries[self.over..], speaker, now, hit)
     }
+
+    /// Whether a telegram of a speaker is in the air that is hit so.
+    pub fn can_hit(&self, speaker: usize, now: Moment, hit: Hit) -> bool
+        ensures { result ≡ can_hit speaker now (hit_of hit) (recent_of self.entry.now) }
+    {
+        target(self.recent(), speaker, now, hit).is_some()
+    }
 }
 
 /// Damages the first telegram of a speaker in the air, at another tap.

@@ -33,6 +33,13 @@ impl Trace {
             None => Err(WorldFault::NothingInAir),
         }
     }
+
+    /// Whether no telegram of another speaker begins at the clock that could be lost at a tap.
+    pub fn has_nothing_to_lose(&self, tap: usize, speaker: usize, now: Moment) -> bool
+        ensures { result ≡ has_nothing_to_lose tap speaker now (recent_of self.entry.now) }
+    {
+        tap == speaker || begun_at_clock(self.recent(), speaker, now).is_none()
+    }
 }
 
 /// The telegram that a speaker has begun at the clock.

@@ -43,6 +43,13 @@ impl Trace {
         }
         Ok(())
     }
+
+    /// Whether noise is in the air.
+    pub fn has_noise(&self, now: Moment) -> bool
+        ensures { result ≡ has_noise now (recent_of self.entry.now) }
+    {
+        noise_in_air(self.recent(), now).is_some()
+    }
 }
 
 /// The noise that is in the air.

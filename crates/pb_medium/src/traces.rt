@@ -18,7 +18,8 @@ pub struct Trace {
 }
 
 impl Trace {
-    ghost use Rattle.std.specs.Prelude.{◌≡◌, [], IsTrue, ◌↔◌, IfErr, OnOk, map};
+    ghost use Rattle.std.specs.Prelude.{◌≡◌, [], nat_le, IsTrue, ◌↔◌, IfErr, OnOk, length, map};
+    ghost use Rattle.pb_model.specs.World.{trace_limit};
     ghost use Rattle.pb_model.specs.Trace.{with_entry};
     ghost use Rattle.pb_medium.specs.Entries.{entry_of};
     ghost use Rattle.pb_medium.specs.Traces.{entries_of, over_of, recent_of, HasRoom, RecentBecomes, RefusesRoom, StaysAs};
@@ -62,13 +63,20 @@ impl Trace {
         self.entries.len() < self.entries.capacity().min(TRACE_LIMIT)
     }
 
+    /// Whether it has as many entries as it may have.
+    pub fn is_full(&self) -> bool
+        ensures { result ≡ nat_le trace_limit (length (entries_of self.entry.now)) }
+    {
+        self.entries.len() >= TRACE_LIMIT
+    }
+
     /// Makes room for one entry more. Faults, the first that applies: `TraceFull`; `NoMemory`.
     pub fn make_room(&mut self) -> Result<(), WorldFault>
         ensures same { StaysAs self.old self.new }
         ensures ok { OnOk result (HasRoom self.new) }
         ensures fault { IfErr result (RefusesRoom self.old) }
     {
-        if self.entries.len() >= TRACE_LIMIT {
+        if self.is_full() {
             return Err(WorldFault::TraceFull);
         }
         self.entries.reserve(1)?;

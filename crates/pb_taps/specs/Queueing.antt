@@ -19,6 +19,10 @@ takes_requests t = t.running && t.station.master
 abbrev pub has_no_room : Tap → RequestFields → Bool
 has_no_room t r = nat_le queue_limit (length (list_for t.station.station.cycles.queue r))
 
+-- a tap takes the request, and has room for it
+abbrev pub CanQueue : List Tap → ℕ → RequestFields → Type 0
+CanQueue taps tap r = (t : Tap) × (slice_get taps tap ≡ Some t) × (takes_requests t ≡ true) × (has_no_room t r ≡ false)
+
 abbrev pub IsQueued : List Tap → ℕ → RequestFields → List Tap → Type 0
 IsQueued taps tap r next = (t : Tap) × (slice_get taps tap ≡ Some t) × (takes_requests t ≡ true) × (has_no_room t r ≡ false) × (next ≡ slice_set taps tap (queued_tap t r))
 

@@ -18,6 +18,6 @@ pub use glancing::{fits, glance};
 pub use inboxes::{Inbox, MARK_LIMIT};
 pub use making::{check_taps, new_taps};
 pub use moments::beginning;
-pub use queueing::queue;
+pub use queueing::{check_queue, queue};
 pub use taps::{Kind, Tap, TapSpec};
-pub use turning::{check_running, take_turn, would_speak};
+pub use turning::{check_running, take_decided, take_turn, would_speak};

@@ -1,10 +1,13 @@
 ghost use Rattle.std.specs.Prelude.{◌≡◌, IfErr, OnErr, OnOk};
 ghost use Rattle.pb_turn.specs.Laws.{IsRequest};
-ghost use Rattle.pb_taps.specs.Queueing.{takes_requests, IsQueued, RefusesQueue};
+ghost use Rattle.pb_taps.specs.Queueing.{has_no_room, takes_requests, CanQueue, IsQueued, RefusesQueue};
 
 use crate::faults::WorldFault;
 use crate::taps::Tap;
 use pb_cycles::Request;
+
+/// How many requests of a priority a station has waiting at most.
+const QUEUE_LIMIT: usize = 16;
 
 /// Has a request wait at the station of a tap. Faults, the first that applies: `NoSuchTap`; `NotRunning` for a tap
 /// that is stopped, or passive; `QueueFull`.
@@ -27,11 +30,41 @@ pub fn queue(taps: &mut [Tap], tap: usize, request: Request) -> Result<(), World
     }
 }
 
+/// Whether a request may wait at the station of a tap. Faults, the first that applies: as [`queue`]'s.
+pub fn check_queue(taps: &[Tap], tap: usize, request: &Request) -> Result<(), WorldFault>
+    ensures ok { OnOk result (CanQueue taps.now tap request.now) }
+    ensures fault { IfErr result (RefusesQueue taps.now tap request.now) }
+{
+    let Some(tap) = taps.get(tap) else {
+        return Err(WorldFault::NoSuchTap);
+    };
+    if !takes_requests(tap) {
+        return Err(WorldFault::NotRunning);
+    }
+    if has_no_room(tap, request) {
+        return Err(WorldFault::QueueFull);
+    }
+    Ok(())
+}
+
 /// Whether a tap takes requests: a master that runs.
 fn takes_requests(tap: &Tap) -> bool
     ensures { result ≡ takes_requests tap.now }
 {
     tap.running && tap.station.is_master()
+}
+
+/// Whether as many requests of its priority wait at a tap as may wait.
+fn has_no_room(tap: &Tap, request: &Request) -> bool
+    ensures { result ≡ has_no_room tap.now request.now }
+{
+    let queue = tap.station.queue();
+    let waiting = if request.high() {
+        queue.len_high()
+    } else {
+        queue.len_low()
+    };
+    waiting >= QUEUE_LIMIT
 }
 
 /// A request has the address and the data of one, by its type.

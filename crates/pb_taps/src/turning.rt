@@ -1,13 +1,16 @@
-ghost use Rattle.std.specs.Prelude.{◌≡◌, ◌≤◌, ◌<◌, is_some, OnOk, IfErr, Some, slice_get, length, map};
+ghost use Rattle.std.specs.Prelude.{◌≡◌, ◌≤◌, ◌<◌, [], is_some, OnOk, IfErr, Some, slice_get, length, map};
 ghost use Rattle.pb_model.specs.Laws.{AllInOrder, InOrder};
 ghost use Rattle.pb_model.specs.World.{clock_limit};
+ghost use Rattle.pb_station.specs.Decisions.{octets_of};
+ghost use Rattle.pb_taps.specs.Glancing.{FitsTap};
 ghost use Rattle.pb_taps.specs.Taps.{tap_of};
 ghost use Rattle.pb_taps.specs.Turning.{says, turned_tap, Runs, TakesTurn, RefusesStopped};
 ghost use Rattle.pb_taps.specs.declared.taps.Tap as declared;
 
 use crate::faults::WorldFault;
 use crate::taps::Tap;
-use pb_station::SendBuffer;
+use arrayvec::ArrayVec;
+use pb_station::{Decision, SendBuffer, Station};
 use pb_timers::Moment;
 
 /// Whether a tap runs. Faults, the first that applies: `NoSuchTap`; `NotRunning`.
@@ -44,6 +47,21 @@ pub fn take_turn(taps: &mut [Tap], tap: usize, now: Moment, out: &mut SendBuffer
     turn(&mut taps[tap], now, out);
 }
 
+/// The station at the tap of a decision that fits takes the turn that was decided, and sends what it says.
+pub fn take_decided(taps: &mut [Tap], decision: Decision, now: Moment, out: &mut SendBuffer)
+    requires { FitsTap taps.old now decision }
+    ensures { TakesTurn taps.old decision.tap now taps.new out.new }
+{
+    let Decision {
+        tap,
+        after,
+        speak,
+        ..
+    } = decision;
+    become_turned(&mut taps[tap], after);
+    send(out, speak);
+}
+
 fn would_say(tap: &Tap, now: Moment) -> bool
     requires clock { now ≤ clock_limit }
     requires order { InOrder 0 tap.now.marks now }
@@ -60,4 +78,22 @@ fn turn(tap: &mut Tap, now: Moment, out: &mut SendBuffer)
 {
     tap.station.take_turn(tap.marks.marks(), now, out);
     tap.marks.clear();
+}
+
+/// A tap has a station that has read all its marks.
+fn become_turned(tap: &mut Tap, after: Station)
+    ensures { tap.new ≡ record tap.old { station = after; marks = [] } }
+{
+    tap.station = after;
+    tap.marks.clear();
+}
+
+/// Sends what was said, if anything.
+fn send(out: &mut SendBuffer, said: Option<ArrayVec<u8, 255>>)
+    ensures { out.new ≡ octets_of said }
+{
+    match said {
+        Some(octets) => out.send(&octets),
+        None => out.clear(),
+    }
 }

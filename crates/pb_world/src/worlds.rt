@@ -1,5 +1,5 @@
 ghost use Rattle.std.specs.Prelude.{◌≡◌, OnOk, IfErr, map, take};
-ghost use Rattle.pb_taps.specs.Events.{event_of};
+ghost use Rattle.pb_taps.specs.Events.{event_of, reply_of};
 ghost use Rattle.pb_bus.specs.Worlds.{StopsAt};
 ghost use Rattle.pb_model.specs.Step.{RunsTo};
 ghost use Rattle.pb_token.specs.Promises.{LeavesOneToken};
@@ -34,9 +34,11 @@ impl Model for World {
 
 impl World {
     ghost use Rattle.std.specs.Prelude.{◌≡◌, ◌<◌, [], ◌∷◌, Ok, None, IsTrue, ◌↔◌, IfOk, IfErr, OnOk, MatchOption, length, map, slice_get};
-    ghost use Rattle.pb_model.specs.World.{new_world};
+    ghost use Rattle.pb_model.specs.Step.{step};
+    ghost use Rattle.pb_model.specs.World.{new_world, Turn};
     ghost use Rattle.pb_medium.specs.Entries.{entry_of};
     ghost use Rattle.pb_taps.specs.Events.{event_of};
+    ghost use Rattle.pb_bus.specs.Refusals.{fault_of, TellsSpeech};
     ghost use Rattle.pb_taps.specs.Faults.{RefusesNew};
     ghost use Rattle.pb_taps.specs.Taps.{spec_of};
     ghost use Rattle.pb_bus.specs.Worlds.{due_at, Follows, Goes, IsStationAt};
@@ -93,10 +95,7 @@ impl World {
         ensures token { OnOk result (LeavesOneToken self.old (event_of event ∷ []) self.new) }
     {
         self.bus.apply(alloc, &event)?;
-        Ok(Reply {
-            now: self.bus.now,
-            spoke: self.bus.sent.copy(),
-        })
+        Ok(reply(&self.bus))
     }
 
     /// Does an event, without a reply.
@@ -173,12 +172,45 @@ impl World {
         self.bus.fits(decision)
     }
 
+    /// Why [`apply`](World::apply) would refuse an event, memory apart: its fault of the numbers 1 to 10, or None. `speaks`
+    /// says of a turn whether the station would speak, the caller's condition; of another event it says nothing. It
+    /// changes nothing, and takes no memory.
+    pub fn refusal(&self, event: &Event, speaks: bool) -> Option<WorldFault>
+        requires { TellsSpeech self.now (event_of event.now) speaks }
+        ensures { result ≡ fault_of (step self.entry.now (event_of event.now)) }
+    {
+        self.bus.refusal(event, speaks)
+    }
+
+    /// Takes the turn of a decision that [`fits`](World::fits), the caller's condition: it answers what `Turn` of its tap
+    /// would answer, and leaves what that would leave. A refused turn changes nothing.
+    ///
+    /// Faults: those of `Turn`.
+    pub fn take(&mut self, alloc: Global, decision: Decision) -> Result<Reply, WorldFault>
+        requires { Fits self.old decision }
+        ensures follows { Follows self.old (Turn decision.tap) result self.new }
+        ensures token { OnOk result (LeavesOneToken self.old (Turn decision.tap ∷ []) self.new) }
+    {
+        self.bus.take(alloc, decision)?;
+        Ok(reply(&self.bus))
+    }
+
     /// The station at a tap, if there is such a tap.
     pub fn station(&self, tap: usize) -> Option<&Station>
         ensures { MatchOption result (slice_get self.entry.now.taps tap ≡ None)
             (λ s. IsStationAt self.entry.now tap s.now) }
     {
         self.bus.station(tap)
+    }
+}
+
+/// The reply of the last event.
+fn reply(bus: &Bus) -> Reply
+    ensures { reply_of result ≡ record { now = bus.entry.now.now; spoke = bus.entry.now.sent } }
+{
+    Reply {
+        now: bus.now,
+        spoke: bus.sent.copy(),
     }
 }
 

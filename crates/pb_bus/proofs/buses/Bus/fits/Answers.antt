@@ -1,4 +1,4 @@
-use Rattle.std.proofs.Common.{rules, subst}
+use Rattle.std.proofs.Common.{rules}
 use Rattle.pb_bus.proofs.Showing.{fits}
 use Rattle.pb_bus.proofs.buses.Bus.fits.Goals as goal
 

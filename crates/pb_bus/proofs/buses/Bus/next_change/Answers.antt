@@ -1,5 +1,5 @@
-use Rattle.std.proofs.Common.{◌≡◌, ◌∙◌, ap, sym, subst, ℕ, ◌+◌, ◌≤◌, ◌&&◌, ◌||◌, List, Bool, true, false, if◌then◌else◌, map, Option, Some}
-use Rattle.std.specs.Prelude.{IfSome, drop}
+use Rattle.std.proofs.Common.{◌∙◌, ap, sym, subst, ℕ, ◌+◌, ◌≤◌, ◌&&◌, ◌||◌, List, Bool, if◌then◌else◌, map, Some}
+use Rattle.std.specs.Prelude.{IfSome}
 use Rattle.std.specs.List.{list_any}
 use Rattle.pb_model.specs.Trace.{Entry}
 use Rattle.pb_model.specs.World.{next_end_of}

@@ -1,4 +1,4 @@
-use Rattle.std.proofs.Common.{◌≡◌, ◌∙◌, ap, sym, subst, length, map, Ok, arith}
+use Rattle.std.proofs.Common.{◌∙◌, ap, sym, subst, length, map, Ok, arith}
 use Rattle.std.specs.Prelude.{take}
 use Rattle.std.specs.Vec.{with_items}
 use Rattle.pb_model.specs.Laws.{AllBegun, IsSound}

@@ -8,25 +8,16 @@ use Rattle.pb_turn.specs.Laws.{IsRequest}
 use Rattle.pb_model.specs.Step.{step_queue}
 use Rattle.pb_model.specs.World.{Queue}
 use Rattle.pb_bus.specs.Buses.{world_of, IsKept}
-use Rattle.pb_taps.specs.Faults.{Refuses}
 use Rattle.pb_taps.specs.Queueing.{queued_tap, IsQueued, RefusesQueue}
 use Rattle.pb_taps.specs.Taps.{tap_of, seat_of, AreSeated}
 use Rattle.pb_bus.specs.declared.buses.Bus.{Bus}
-use Rattle.pb_taps.specs.declared.faults.WorldFault.{WorldFault}
-use Rattle.pb_taps.specs.declared.faults.WorldFault.TheVariants as fault
 use Rattle.pb_taps.specs.declared.taps.Tap.{Tap}
 use Rattle.pb_taps.proofs.Behind.{written-back}
 use Rattle.pb_taps.proofs.Seats.{same-seats}
 use Rattle.pb_bus.proofs.Ending.{in-time}
-use Rattle.pb_bus.proofs.Stepping.{in-err, sound-after, queue-done, queue-missing, queue-idle, queue-full}
+use Rattle.pb_bus.proofs.Judging.{queue-refused}
+use Rattle.pb_bus.proofs.Stepping.{in-err, sound-after, queue-done}
 use Rattle.pb_bus.proofs.buses.Bus.queue.Goals as goal
-
-refused : (b : Bus) (i : ℕ) (r : RequestFields) (reason : WorldFault) → RefusesQueue b.taps.items i r reason
-    → Refuses (world_of b) (Queue i r) (step_queue (world_of b) i r (slice_get (world_of b).taps i)) reason
-refused b i r fault.NoSuchTap missing = queue-missing (world_of b) i r (slice_get-map tap_of b.taps.items i ∙ ap (option_map tap_of) missing)
-refused b i r fault.NotRunning (t, at, idle) = queue-idle (world_of b) i r (tap_of t) (slice_get-map tap_of b.taps.items i ∙ ap (option_map tap_of) at) idle
-refused b i r fault.QueueFull (t, at, takes, full) = queue-full (world_of b) i r (tap_of t) (slice_get-map tap_of b.taps.items i ∙ ap (option_map tap_of) at) takes full
-refused b i r other wrong = absurd wrong
 
 done : (b : Bus) (i : ℕ) (r : RequestFields) (next : List Tap) → IsQueued b.taps.items i r next
     → step_queue (world_of b) i r (slice_get (world_of b).taps i) ≡ Ok (record (world_of b) { taps = map tap_of next }, record { now = b.now; spoke = None })
@@ -53,7 +44,7 @@ returns-in_err-queue-clause-follows c =
     let why = subst (λ r. RefusesQueue bus.taps.items c.args.tap r reason) c.copy.ensures (subst (λ ts. RefusesQueue ts c.args.tap c.copy.result reason) items c.in_err-queue.ensures.fault) in
     in-err _ _ c.from_residual.result reason c.from_residual.ensures.0 c.from_residual.ensures.1 (
       ap (λ ts. record w { taps = map tap_of ts }) (back ∙ kept ∙ items),
-      refused bus c.args.tap c.args.request.now reason why,
+      queue-refused bus c.args.tap c.args.request.now reason why,
     )
 
 pub returns-clause-follows : goal.returns-clause-follows

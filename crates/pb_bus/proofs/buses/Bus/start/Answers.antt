@@ -10,28 +10,19 @@ use Rattle.pb_model.specs.Trace as trace
 use Rattle.pb_model.specs.World.{Start}
 use Rattle.pb_bus.specs.Buses.{world_of, IsKept}
 use Rattle.pb_medium.specs.Entries.{entry_of}
-use Rattle.pb_taps.specs.Faults.{Refuses}
 use Rattle.pb_medium.specs.Senses.{at_once}
 use Rattle.pb_medium.specs.Traces.{over_of, recent_of}
 use Rattle.pb_bus.specs.Starting.{fresh_tap, IsStarted, RefusesStart}
 use Rattle.pb_taps.specs.Taps.{tap_of, seat_of, AreSeated}
 use Rattle.pb_bus.specs.declared.buses.Bus.{Bus}
-use Rattle.pb_taps.specs.declared.faults.WorldFault.{WorldFault}
-use Rattle.pb_taps.specs.declared.faults.WorldFault.TheVariants as fault
 use Rattle.pb_taps.specs.declared.taps.Tap.{Tap}
 use Rattle.pb_taps.proofs.Behind.{written-back}
 use Rattle.pb_taps.proofs.Seats.{seat-of-tap, same-seats}
 use Rattle.pb_bus.proofs.Ending.{in-time}
-use Rattle.pb_bus.proofs.Stepping.{in-err, sound-after, start-done, start-missing, start-running}
+use Rattle.pb_bus.proofs.Judging.{start-refused}
+use Rattle.pb_bus.proofs.Stepping.{in-err, sound-after, start-done}
 use Rattle.pb_medium.proofs.Widening.{started_amid}
 use Rattle.pb_bus.proofs.buses.Bus.start.Goals as goal
-
-refused : (b : Bus) (i : ℕ) (reason : WorldFault) → IsKept b → RefusesStart b.now (recent_of b.trace) b.taps.items i reason
-    → Refuses (world_of b) (Start i) (step_start (world_of b) i (slice_get (world_of b).taps i)) reason
-refused b i fault.NoSuchTap kept missing = start-missing (world_of b) i (slice_get-map tap_of b.taps.items i ∙ ap (option_map tap_of) missing)
-refused b i fault.Running kept (t, at, up) =
-    start-running (world_of b) (over_of b.trace) i (tap_of t) kept.sound.no_delay kept.cut (slice_get-map tap_of b.taps.items i ∙ ap (option_map tap_of) at) up
-refused b i other kept wrong = absurd wrong
 
 done : (b : Bus) (i : ℕ) (next : List Tap) → IsKept b → IsStarted b.now (recent_of b.trace) b.taps.items i next
     → step_start (world_of b) i (slice_get (world_of b).taps i) ≡ Ok (record (world_of b) { taps = map tap_of next }, record { now = b.now; spoke = None })
@@ -68,7 +59,7 @@ returns-in_err-start-clause-follows c =
     (subst (λ ts. RefusesStart bus.now (map entry_of c.recent.result.now) ts c.args.tap reason) items c.in_err-start.ensures.fault) in
     in-err _ _ c.from_residual.result reason c.from_residual.ensures.0 c.from_residual.ensures.1 (
       ap (λ ts. record w { taps = map tap_of ts }) (back ∙ kept ∙ items),
-      refused bus c.args.tap reason c.requires why,
+      start-refused bus c.args.tap reason c.requires why,
     )
 
 pub returns-clause-follows : goal.returns-clause-follows

@@ -9,24 +9,17 @@ use Rattle.pb_model.specs.Trace.{cut_at}
 use Rattle.pb_model.specs.World.{Stop}
 use Rattle.pb_bus.specs.Buses.{world_of, IsKept}
 use Rattle.pb_medium.specs.Traces.{entries_of, over_of, recent_of}
-use Rattle.pb_taps.specs.Faults.{Refuses}
 use Rattle.pb_taps.specs.Turning.{RefusesStopped}
 use Rattle.pb_bus.specs.Stopping.{halted_tap, IsStopped}
 use Rattle.pb_taps.specs.Taps.{tap_of, seat_of, AreSeated}
 use Rattle.pb_bus.specs.declared.buses.Bus.{Bus}
-use Rattle.pb_taps.specs.declared.faults.WorldFault.{WorldFault}
-use Rattle.pb_taps.specs.declared.faults.WorldFault.TheVariants as fault
 use Rattle.pb_taps.specs.declared.taps.Tap.{Tap}
 use Rattle.pb_taps.proofs.Behind.{written-back}
 use Rattle.pb_taps.proofs.Seats.{same-seats}
 use Rattle.pb_bus.proofs.Ending.{in-time}
-use Rattle.pb_bus.proofs.Stepping.{in-err, sound-after, stop-done, stop-missing, stop-stopped, cut-after, from-cut}
+use Rattle.pb_bus.proofs.Judging.{stop-refused}
+use Rattle.pb_bus.proofs.Stepping.{in-err, sound-after, stop-done, cut-after, from-cut}
 use Rattle.pb_bus.proofs.buses.Bus.stop.Goals as goal
-
-refused : (b : Bus) (i : ℕ) (reason : WorldFault) → RefusesStopped b.taps.items i reason → Refuses (world_of b) (Stop i) (step_stop (world_of b) i (slice_get (world_of b).taps i)) reason
-refused b i fault.NoSuchTap missing = stop-missing (world_of b) i (slice_get-map tap_of b.taps.items i ∙ ap (option_map tap_of) missing)
-refused b i fault.NotRunning (t, at, down) = stop-stopped (world_of b) i (tap_of t) (slice_get-map tap_of b.taps.items i ∙ ap (option_map tap_of) at) down
-refused b i other wrong = absurd wrong
 
 abbrev cut_trace : Bus → ℕ → List trace.Entry
 cut_trace b i = take (over_of b.trace) (entries_of b.trace) ++ map (cut_at b.now i) (recent_of b.trace)
@@ -56,7 +49,7 @@ returns-in_err-stop-clause-follows c =
     let reason = c.in_err-stop.field-0.0 in
     in-err _ _ c.from_residual.result reason c.from_residual.ensures.0 c.from_residual.ensures.1 (
       ap (λ ts. record w { taps = map tap_of ts }) (back ∙ kept ∙ items),
-      refused bus c.args.tap reason (subst (λ ts. RefusesStopped ts c.args.tap reason) items c.in_err-stop.ensures.fault),
+      stop-refused bus c.args.tap reason (subst (λ ts. RefusesStopped ts c.args.tap reason) items c.in_err-stop.ensures.fault),
     )
 
 pub returns-clause-follows : goal.returns-clause-follows

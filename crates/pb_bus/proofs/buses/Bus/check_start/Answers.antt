@@ -1,0 +1,19 @@
+use Rattle.std.proofs.Common.{map, subst, List}
+use Rattle.std.specs.Prelude.{IfErr, OnOk}
+use Rattle.pb_model.specs.Trace as trace
+use Rattle.pb_medium.specs.Entries.{entry_of}
+use Rattle.pb_bus.specs.Starting.{CanStart, RefusesStart}
+use Rattle.pb_bus.proofs.Judging.{judges-start}
+use Rattle.pb_bus.proofs.buses.Bus.check_start.Goals as goal
+
+pub returns : goal.returns
+returns c =
+    let bus = c.args.self.now in
+    let i = c.args.tap in
+    let entries = c.recent.ensures in
+    let taps = c.deref.ensures.value in
+    judges-start bus i c.check_start.result c.requires.kept
+    (subst (λ (es : List trace.Entry). OnOk c.check_start.result (CanStart bus.now es bus.taps.items i)) entries
+    (subst (λ ts. OnOk c.check_start.result (CanStart bus.now (map entry_of c.recent.result.now) ts i)) taps c.check_start.ensures.ok))
+    (subst (λ (es : List trace.Entry). IfErr c.check_start.result (RefusesStart bus.now es bus.taps.items i)) entries
+    (subst (λ ts. IfErr c.check_start.result (RefusesStart bus.now (map entry_of c.recent.result.now) ts i)) taps c.check_start.ensures.fault))
