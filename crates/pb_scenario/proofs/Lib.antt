@@ -1,0 +1,6 @@
+pub mod Counting
+pub mod Playing
+pub mod Moving
+pub mod Instants
+pub mod Looking
+pub mod Chains

@@ -1,0 +1,200 @@
+-- What the tables of a scenario file describe, key by key, or the first fault.
+use Rattle.std.specs.Prelude.{ℕ, ◌+◌, ℤ, pos, Bool, nat_lt, bytes_eq, List, [], ◌∷◌, ◌++◌, map, position, Option, Some, None, Result, Ok, Err, is_some, if◌then◌else◌}
+use Rattle.std.specs.List.{list_any}
+use Rattle.std.specs.Option.{ok_or}
+use Rattle.toml.specs.Data.{Data, Items, no_items, item, Members, get_member, as_str, as_integer, as_bool, as_array, as_table}
+use Rattle.pb_refusals.specs.FirstFault.{first_fault}
+use Rattle.pb_timers.specs.Timers.{Params}
+use Rattle.pb_timers.specs.declared.params.ParamFault.{ParamFault}
+use Rattle.pb_timers.specs.ParamRules.{param_faults}
+use Rattle.pb_messages.specs.declared.services.Service.{Service}
+use Rattle.pb_messages.specs.declared.requests.RequestFault.{RequestFault}
+use Rattle.pb_messages.specs.Requests.{request_faults}
+use Rattle.pb_messages.specs.RequestFields.{RequestFields}
+use Rattle.pb_model.specs.Medium.{TapSpec}
+use Rattle.pb_model.specs.World as model
+use Rattle.pb_taps.specs.Taps.{is_master}
+use Rattle.pb_runs.specs.Scenarios.{Deed, Happens, Withhold, Planned}
+use Rattle.pb_scenario.specs.declared.keys.Key.{Key}
+use Rattle.pb_scenario.specs.declared.keys.Key.TheVariants as key
+use Rattle.pb_scenario.specs.declared.keys.Section.{Section}
+use Rattle.pb_scenario.specs.declared.keys.Section.TheVariants.{Top, Bus, Tap, Step}
+use Rattle.pb_scenario.specs.declared.keys.Path.{Path}
+use Rattle.pb_scenario.specs.declared.keys.Path.TheVariants as path
+use Rattle.pb_scenario.specs.declared.words.Word.{Word}
+use Rattle.pb_scenario.specs.declared.words.Word.TheVariants as word
+use Rattle.pb_scenario.specs.Keys.{key_name, top_keys, bus_keys, tap_keys, step_keys}
+use Rattle.pb_scenario.specs.Words.{word_of, kind_of, service_of}
+use Rattle.pb_scenario.specs.Scenarios.{ScenarioView, until_limit}
+use Rattle.pb_scenario.specs.Fields.{Fault, BadVersion, BadKind, BadValue, Twice, NoSuchName, StepOrder, TooMany, Params as ParamsFault, and_then, path_of, typed, meant, known, in_range, octets_in, as_name}
+
+-- ---- kinds of keys
+
+abbrev pub number : ℕ → ℕ → Section → Key → Members → Result ℕ Fault
+number least most = meant (in_range least most) as_integer
+
+abbrev pub octet : Section → Key → Members → Result ℕ Fault
+octet = number 0 255
+
+abbrev pub word32 : Section → Key → Members → Result ℕ Fault
+word32 = number 0 4294967295
+
+abbrev pub octets : Section → Key → Members → Result (List ℕ) Fault
+octets = meant octets_in as_str
+
+-- a key that may be missing
+abbrev pub if_there : {X : Type 0} → X → (Section → Key → Members → Result X Fault) → Section → Key → Members → Result X Fault
+if_there without read at k table = if is_some (get_member (key_name k) table) then read at k table else Ok without
+
+-- an item of a list as a table
+abbrev pub item_in : Section → Data → Result Members Fault
+item_in at d = ok_or (as_table d) (BadKind (path.Item at))
+
+abbrev pub count : Items → ℕ
+count no_items = 0
+count (item d ds) = count ds + 1
+
+-- ---- the bus
+
+abbrev pub checked : Params → Option ParamFault → Result Params Fault
+checked p None = Ok p
+checked p (Some f) = Err (ParamsFault f)
+
+unfoldable pub params_in : Section → Members → Result Params Fault
+params_in at bus =
+    and_then (known bus_keys at bus) (λ _.
+    and_then (word32 at key.Tsl bus) (λ tsl.
+    and_then (word32 at key.Tid1 bus) (λ tid1.
+    and_then (word32 at key.Tid2 bus) (λ tid2.
+    and_then (word32 at key.Tsdr bus) (λ tsdr.
+    and_then (word32 at key.Lag bus) (λ lag.
+    and_then (word32 at key.Ttr bus) (λ ttr.
+    and_then (word32 at key.Gap bus) (λ gap.
+    and_then (word32 at key.Hsa bus) (λ hsa.
+    and_then (word32 at key.Retries bus) (λ retries.
+    let p : Params = record { tsl = tsl; tid1 = tid1; tid2 = tid2; tsdr = tsdr; lag = lag; ttr = ttr; gap = gap; hsa = hsa; retries = retries; ttd = 0 } in
+    checked p (first_fault (param_faults p))))))))))))
+
+-- ---- the taps
+
+pub record NamedTap : Type 0 where
+  pub name : List ℕ
+  pub spec : TapSpec
+
+abbrev pub unless_taken : List (List ℕ) → Path → List ℕ → Result (List ℕ) Fault
+unless_taken names at name = if list_any (bytes_eq name) names then Err (Twice at) else Ok name
+
+unfoldable pub tap_in : List (List ℕ) → Section → Members → Result NamedTap Fault
+tap_in names at table =
+    and_then (known tap_keys at table) (λ _.
+    and_then (meant as_name as_str at key.Name table) (λ text.
+    and_then (unless_taken names (path_of at key.Name) text) (λ name.
+    and_then (meant kind_of as_str at key.Kind table) (λ kind.
+    and_then (octet at key.Address table) (λ address.
+    and_then (if_there [] octets at key.Reply table) (λ reply.
+    Ok (record { name = name; spec = record { address = address; master = is_master kind; reply = reply } })))))))
+
+-- the taps of some items, the first of them at a position, behind others with names
+unfoldable pub taps_from : List (List ℕ) → ℕ → Items → Result (List NamedTap) Fault
+taps_from names tap no_items = Ok []
+taps_from names tap (item d ds) =
+    and_then (item_in (Tap tap) d) (λ table.
+    and_then (tap_in names (Tap tap) table) (λ t.
+    and_then (taps_from (names ++ t.name ∷ []) (tap + 1) ds) (λ ts.
+    Ok (t ∷ ts))))
+
+abbrev pub taps_in : Items → Result (List NamedTap) Fault
+taps_in items = if nat_lt 32 (count items) then Err TooMany else taps_from [] 0 items
+
+-- ---- the steps
+
+-- the tap whose name a key has
+unfoldable pub tap_at : List (List ℕ) → Section → Key → Members → Result ℕ Fault
+tap_at names at k table = and_then (typed as_str at k table) (λ name. ok_or (position (bytes_eq name) names) (NoSuchName (path_of at k)))
+
+-- whether there is a request is looked at with its address
+abbrev pub addressed : Service → Section → Option RequestFault → ℕ → Result ℕ Fault
+addressed service at None to = Ok to
+addressed service at (Some f) to = Err (BadValue (path_of at key.To))
+
+unfoldable pub request_in : Section → Members → Result RequestFields Fault
+request_in at table =
+    and_then (meant service_of as_str at key.Service table) (λ service.
+    and_then (octet at key.To table) (λ n.
+    and_then (addressed service at (first_fault (request_faults n service)) n) (λ to.
+    and_then (typed as_bool at key.High table) (λ high.
+    and_then (octets at key.Unit table) (λ unit.
+    Ok (record { da = to; service = service; high = high; unit = unit }))))))
+
+abbrev pub some_octet : Section → Key → Members → Result (Option ℕ) Fault
+some_octet at k table = and_then (octet at k table) (λ n. Ok (Some n))
+
+-- what a step of a word does
+unfoldable pub deed_in : List (List ℕ) → Section → Members → Word → Result Deed Fault
+deed_in names at table word.Start = and_then (tap_at names at key.Tap table) (λ tap. Ok (Happens (model.Start tap)))
+deed_in names at table word.Stop = and_then (tap_at names at key.Tap table) (λ tap. Ok (Happens (model.Stop tap)))
+deed_in names at table word.Queue =
+    and_then (tap_at names at key.Tap table) (λ tap.
+    and_then (request_in at table) (λ request.
+    Ok (Happens (model.Queue tap request))))
+deed_in names at table word.Damage =
+    and_then (tap_at names at key.Tap table) (λ tap.
+    and_then (tap_at names at key.Speaker table) (λ speaker.
+    and_then (if_there None some_octet at key.Place table) (λ place.
+    Ok (Happens (model.Damage tap speaker place)))))
+deed_in names at table word.Noise = and_then (word32 at key.Bits table) (λ bits. Ok (Happens (model.Noise bits)))
+deed_in names at table word.Unheard =
+    and_then (tap_at names at key.Tap table) (λ tap.
+    and_then (tap_at names at key.Speaker table) (λ speaker.
+    Ok (Happens (model.Unheard tap speaker))))
+deed_in names at table word.Withhold =
+    and_then (tap_at names at key.Tap table) (λ tap.
+    and_then (word32 at key.Bits table) (λ bits.
+    Ok (Withhold tap bits)))
+
+abbrev pub in_order : ℕ → Section → ℕ → Result ℕ Fault
+in_order before at n = if nat_lt n before then Err (StepOrder (path_of at key.At)) else Ok n
+
+-- a step that may not stand before a moment
+unfoldable pub step_in : List (List ℕ) → ℕ → Section → Members → Result Planned Fault
+step_in names before at table =
+    and_then (meant word_of as_str at key.Do table) (λ does.
+    and_then (known (step_keys does) at table) (λ _.
+    and_then (number 0 18446744073709551615 at key.At table) (λ n.
+    and_then (in_order before at n) (λ moment.
+    and_then (deed_in names at table does) (λ deed.
+    Ok (record { at = moment; deed = deed }))))))
+
+unfoldable pub steps_from : List (List ℕ) → ℕ → ℕ → Items → Result (List Planned) Fault
+steps_from names before place no_items = Ok []
+steps_from names before place (item d ds) =
+    and_then (item_in (Step place) d) (λ table.
+    and_then (step_in names before (Step place) table) (λ s.
+    and_then (steps_from names s.at (place + 1) ds) (λ ss.
+    Ok (s ∷ ss))))
+
+abbrev pub steps_in : List (List ℕ) → Items → Result (List Planned) Fault
+steps_in names items = if nat_lt 10000 (count items) then Err TooMany else steps_from names 0 0 items
+
+abbrev pub listed_steps : List (List ℕ) → Section → Key → Members → Result (List Planned) Fault
+listed_steps names at k table = and_then (typed as_array at k table) (steps_in names)
+
+-- ---- the file
+
+abbrev pub is_version : ℤ → Option (Unit {0})
+is_version z = if is_some (in_range 1 1 z) then Some tt else None
+
+-- what the table of a whole file describes
+unfoldable pub scenario_in : Members → Result ScenarioView Fault
+scenario_in top =
+    and_then (typed as_integer Top key.Version top) (λ version.
+    and_then (ok_or (is_version version) BadVersion) (λ _.
+    and_then (known top_keys Top top) (λ _.
+    and_then (number 1 until_limit Top key.Until top) (λ until.
+    and_then (typed as_table Top key.Bus top) (λ bus.
+    and_then (params_in Bus bus) (λ params.
+    and_then (typed as_array Top key.Tap top) (λ list.
+    and_then (taps_in list) (λ taps.
+    let names = map (λ (t : NamedTap). t.name) taps in
+    and_then (if_there [] (listed_steps names) Top key.Step top) (λ steps.
+    Ok (record { scenario = record { params = params; taps = map (λ (t : NamedTap). t.spec) taps; steps = steps; until = until }; names = names }))))))))))

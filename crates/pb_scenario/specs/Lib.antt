@@ -1,0 +1,12 @@
+pub mod Scenarios
+pub mod Kept
+pub mod Texts
+pub mod Lines
+pub mod Keys
+pub mod Words
+pub mod Said
+pub mod Faults
+pub mod Plays
+pub mod Fields
+pub mod Tables
+pub mod Files

@@ -1,0 +1,21 @@
+-- A scenario with the names of its taps.
+use Rattle.std.specs.Prelude.{ℕ, List, length, map, String}
+use Rattle.pb_plan.specs.Walks.{WalkView, new_walk}
+use Rattle.std.specs.String.{string_bytes}
+use Rattle.pb_runs.specs.Scenarios as runs
+
+pub record ScenarioView : Type 0 where
+  pub scenario : runs.Scenario
+  -- of each tap, in its bytes
+  pub names : List (List ℕ)
+
+-- a walk at 0 through its steps
+abbrev pub walk_of : ScenarioView → WalkView
+walk_of s = new_walk s.scenario.steps (length s.scenario.taps) s.scenario.until
+
+-- until when the time of a scenario passes at most
+abbrev pub until_limit : ℕ
+until_limit = 10000000
+
+abbrev pub names_of : {Z : Type 0} → List (String Z) → List (List ℕ)
+names_of names = map string_bytes names

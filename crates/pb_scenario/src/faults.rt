@@ -1,0 +1,83 @@
+use crate::keys::{Path, UnknownKey};
+use pb_taps::{NewFault, WorldFault};
+use pb_timers::{Moment, ParamFault};
+use thiserror::Error;
+
+/// Why a scenario file is refused: the first fault that applies. The version comes first, then the table of the
+/// whole file with its unknown keys, the end, the bus, the taps and the steps; in each table first its unknown
+/// keys by their bytes, and then its keys in their order.
+#[derive(Debug, PartialEq, Eq, Drop, Error)]
+pub enum ScenarioFault {
+    /// 1: the file is no TOML.
+    #[error("NotToml")]
+    NotToml,
+    /// 2: the version is not 1.
+    #[error("BadVersion")]
+    BadVersion,
+    /// 3: a key is missing.
+    #[error("Missing {0}")]
+    Missing(Path),
+    /// 4: a value has another type.
+    #[error("BadKind {0}")]
+    BadKind(Path),
+    /// 5: a value stands for nothing, or is out of its range.
+    #[error("BadValue {0}")]
+    BadValue(Path),
+    /// 6: a table may not have the key.
+    #[error("Unknown {0}")]
+    Unknown(UnknownKey),
+    /// 7: a name has been given to another tap.
+    #[error("Twice {0}")]
+    Twice(Path),
+    /// 8: no tap has the name.
+    #[error("NoSuchName {0}")]
+    NoSuchName(Path),
+    /// 9: a step stands before the one before it.
+    #[error("StepOrder {0}")]
+    StepOrder(Path),
+    /// 10: the parameters of the bus are refused.
+    #[error("Params {number}", number = .0.number())]
+    Params(ParamFault),
+    /// 11: there are more than 32 taps, or more than 10,000 steps.
+    #[error("TooMany")]
+    TooMany,
+    /// 12: memory was refused.
+    #[error("NoMemory")]
+    NoMemory,
+}
+
+impl ScenarioFault {
+    ghost use Rattle.std.specs.Prelude.{◌≡◌};
+    ghost use Rattle.pb_scenario.specs.Fields.{number_of};
+
+    /// The fault's number, 1 to 12.
+    pub fn number(&self) -> u8
+        ensures { result ≡ number_of self.now }
+    {
+        match self {
+            ScenarioFault::NotToml => 1,
+            ScenarioFault::BadVersion => 2,
+            ScenarioFault::Missing(_) => 3,
+            ScenarioFault::BadKind(_) => 4,
+            ScenarioFault::BadValue(_) => 5,
+            ScenarioFault::Unknown(_) => 6,
+            ScenarioFault::Twice(_) => 7,
+            ScenarioFault::NoSuchName(_) => 8,
+            ScenarioFault::StepOrder(_) => 9,
+            ScenarioFault::Params(_) => 10,
+            ScenarioFault::TooMany => 11,
+            ScenarioFault::NoMemory => 12,
+        }
+    }
+}
+
+/// Why the run of a scenario ends before its time.
+#[derive(Clone, Copy, Debug, PartialEq, Eq, Error)]
+pub enum RunFault {
+    /// There is no world of the scenario's taps.
+    #[error("{0}")]
+    New(NewFault),
+    /// An event is refused at a moment.
+    #[error("{1} at {clock}", clock = .0.get())]
+    At(Moment, WorldFault),
+}

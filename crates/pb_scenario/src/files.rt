@@ -1,0 +1,115 @@
+ghost use Rattle.std.specs.Prelude.{◌≡◌};
+ghost use Rattle.toml.specs.View.{view};
+ghost use Rattle.pb_scenario.specs.Fields.{Answers};
+ghost use Rattle.pb_scenario.specs.Tables.{members};
+ghost use Rattle.pb_scenario.specs.Files as files;
+
+use crate::faults::ScenarioFault;
+use crate::fields::Fields;
+use crate::keys::{Key, Path, Section};
+use crate::scenarios::Scenario;
+use crate::steps::steps_in;
+use crate::taps::taps_in;
+use pb_timers::BusParams;
+use std::alloc::Global;
+use toml::Value;
+
+/// The version of a file.
+const VERSION: i64 = 1;
+
+/// The last end that a scenario may have.
+const LAST_END: u64 = 10_000_000;
+
+const TOP_KEYS: [Key; 5] = [Key::Version, Key::Until, Key::Bus, Key::Tap, Key::Step];
+
+const BUS_KEYS: [Key; 9] = [
+    Key::Tsl,
+    Key::Tid1,
+    Key::Tid2,
+    Key::Tsdr,
+    Key::Lag,
+    Key::Ttr,
+    Key::Gap,
+    Key::Hsa,
+    Key::Retries,
+];
+
+/// The scenario that a file describes, in TOML.
+///
+/// Faults: the first that applies, in the order in which a file is looked at; `NotToml` where the file is no
+/// TOML.
+pub fn read(alloc: Global, file: &[u8]) -> Result<Scenario, ScenarioFault> {
+    match toml::table_from_slice(alloc, file) {
+        Ok(table) => read_top(
+            alloc,
+            Fields {
+                section: Section::Top,
+                table: &table,
+            },
+        ),
+        Err(fault) if fault.is_memory() => Err(ScenarioFault::NoMemory),
+        Err(_) => Err(ScenarioFault::NotToml),
+    }
+}
+
+/// The scenario that the table of a whole file describes.
+fn read_top(alloc: Global, top: Fields<'_>) -> Result<Scenario, ScenarioFault> {
+    if top.integer(Key::Version)? != VERSION {
+        return Err(ScenarioFault::BadVersion);
+    }
+    top.known(alloc, &TOP_KEYS)?;
+    let until = top.number(Key::Until, 1, LAST_END)?;
+    let params = params_in(
+        alloc,
+        Fields {
+            section: Section::Bus,
+            table: top.table(Key::Bus)?,
+        },
+    )?;
+    let taps = taps_in(alloc, top.list(Key::Tap)?)?;
+    let steps = match top.find(Key::Step) {
+        Some(_) => steps_in(alloc, top.list(Key::Step)?, &taps.names)?,
+        None => Vec::new(alloc),
+    };
+    Ok(Scenario::new(params, taps.specs, taps.names, steps, until))
+}
+
+/// The parameters of the bus.
+#[tactic(auto, unfolding(crate::specs::Files::params_in), using(crate::proofs::Chains::then_ok, crate::proofs::Chains::then_tells, crate::proofs::Chains::then_tells_next))]
+fn params_in(alloc: Global, bus: Fields<'_>) -> Result<BusParams, ScenarioFault>
+    ensures { Answers (λ p. p) result (files.params_in bus.entry.section (members bus.entry)) }
+{
+    bus.known(alloc, &BUS_KEYS)?;
+    let made = BusParams::new(
+        parameter(bus, Key::Tsl)?,
+        parameter(bus, Key::Tid1)?,
+        parameter(bus, Key::Tid2)?,
+        parameter(bus, Key::Tsdr)?,
+        parameter(bus, Key::Lag)?,
+        parameter(bus, Key::Ttr)?,
+        parameter(bus, Key::Gap)?,
+        parameter(bus, Key::Hsa)?,
+        parameter(bus, Key::Retries)?,
+    );
+    match made {
+        Ok(params) => Ok(params),
+        Err(fault) => Err(ScenarioFault::Params(fault)),
+    }
+}
+
+/// A parameter of the bus.
+fn parameter(bus: Fields<'_>, key: Key) -> Result<u32, ScenarioFault>
+    ensures { Answers (λ n. n) result (files.word32 bus.entry.section key (members bus.entry)) }
+{
+    Ok(bus.number(key, 0, u64::from(u32::MAX))? as u32)
+}
+
+/// An item of a list as a table.
+pub(crate) fn item(value: &Value, section: Section) -> Result<Fields<'_>, ScenarioFault>
+    ensures { Answers members result (files.item_in section (view value.now)) }
+{
+    match value.as_table() {
+        Some(table) => Ok(Fields { section, table }),
+        None => Err(ScenarioFault::BadKind(Path::Item(section))),
+    }
+}

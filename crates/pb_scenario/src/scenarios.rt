@@ -1,0 +1,124 @@
+ghost use Rattle.std.specs.Prelude.{◌≡◌, ◌<◌, length, slice_get, Some};
+ghost use Rattle.pb_scenario.specs.Scenarios.{names_of};
+
+use indexmap::IndexSet;
+use pb_plan::{Step, Walk};
+use pb_taps::TapSpec;
+use pb_timers::BusParams;
+use std::alloc::{AllocError, Global};
+use std::marker::Model;
+
+/// What is played on a bus: its parameters and its taps, each with a name, the steps in order of time, and
+/// until when time passes.
+#[derive(Debug, Drop)]
+pub struct Scenario {
+    params: BusParams,
+    taps: Vec<TapSpec>,
+    names: IndexSet<String>,
+    steps: Vec<Step>,
+    until: u64,
+}
+
+impl Model for Scenario {
+    ghost use Rattle.pb_scenario.specs.Scenarios.{ScenarioView};
+
+    ghost Value = { ScenarioView };
+
+    ghost use Rattle.pb_scenario.specs.Kept.{scenario_view, IsScenario};
+
+    ghost view = { scenario_view };
+
+    ghost invariant = { IsScenario };
+}
+
+impl Scenario {
+    ghost use Rattle.std.specs.Prelude.{◌≡◌, ◌≤◌, ◌<◌, IfOk, length, map, slice_get, Some};
+    ghost use Rattle.pb_taps.specs.Taps.{spec_of};
+    ghost use Rattle.pb_runs.specs.Laws.{AreFromOutside};
+    ghost use Rattle.pb_plan.specs.Steps.{steps_of};
+    ghost use Rattle.pb_plan.specs.Walks.{AreFrom};
+    ghost use Rattle.pb_scenario.specs.Scenarios.{names_of, until_limit, walk_of};
+
+    /// A scenario of taps with as many names, of steps that stand in order of time and are neither turns nor
+    /// passes of time, up to a moment in bit times.
+    pub fn new(
+        params: BusParams,
+        taps: Vec<TapSpec>,
+        names: IndexSet<String>,
+        steps: Vec<Step>,
+        until: u64,
+    ) -> Scenario
+        requires names { length names.keys ≡ length taps.items }
+        requires order { AreFrom 0 (steps_of steps.items) }
+        requires outside { AreFromOutside (steps_of steps.items) }
+        requires end { until ≤ until_limit }
+        ensures params { result.scenario.params ≡ params }
+        ensures taps { result.scenario.taps ≡ map spec_of taps.items }
+        ensures names { result.names ≡ names_of names.keys }
+        ensures steps { result.scenario.steps ≡ steps_of steps.items }
+        ensures until { result.scenario.until ≡ until }
+    {
+        Scenario {
+            params,
+            taps,
+            names,
+            steps,
+            until,
+        }
+    }
+
+    /// The parameters of the bus.
+    pub fn params(&self) -> &BusParams
+        ensures { result.now ≡ self.now.scenario.params }
+    {
+        &self.params
+    }
+
+    /// What the taps are, in their order.
+    pub fn taps(&self) -> &[TapSpec]
+        ensures { map spec_of result.now ≡ self.now.scenario.taps }
+    {
+        &self.taps
+    }
+
+    /// The name of a tap.
+    pub fn name(&self, tap: usize) -> &str
+        requires { tap < length self.now.names }
+        ensures { slice_get self.now.names tap ≡ Some result.now }
+    {
+        name_in(self.names.as_slice(), tap)
+    }
+
+    /// The steps, in order of time.
+    pub fn steps(&self) -> &[Step]
+        ensures steps { steps_of result.now ≡ self.now.scenario.steps }
+        ensures order { AreFrom 0 (steps_of result.now) }
+        ensures outside { AreFromOutside (steps_of result.now) }
+    {
+        &self.steps
+    }
+
+    /// Until when time passes, in bit times.
+    pub fn until(&self) -> u64
+        ensures until { result ≡ self.now.scenario.until }
+        ensures end { result ≤ until_limit }
+    {
+        self.until
+    }
+
+    /// A walk at 0 through the scenario's steps. Its fault: memory was refused.
+    pub fn walk(&self, alloc: Global) -> Result<Walk<'_>, AllocError>
+        ensures walk { IfOk result (λ walk. walk ≡ walk_of self.now) }
+        ensures end { IfOk result (λ walk. walk.until ≤ until_limit) }
+    {
+        Walk::new(alloc, self.steps(), self.taps().len(), self.until())
+    }
+}
+
+/// The name of a tap among names.
+fn name_in(names: &[String], tap: usize) -> &str
+    requires { tap < length names.now }
+    ensures { slice_get (names_of names.now) tap ≡ Some result.now }
+{
+    names[tap].as_str()
+}

@@ -1,0 +1,197 @@
+ghost use Rattle.std.specs.Prelude.{◌≡◌, None};
+ghost use Rattle.toml.specs.Data.{as_str};
+ghost use Rattle.pb_plan.specs.Steps.{deed_of, planned_of};
+ghost use Rattle.pb_scenario.specs.declared.keys.Key.TheVariants as keys;
+ghost use Rattle.pb_scenario.specs.Keys.{step_keys};
+ghost use Rattle.pb_scenario.specs.Words as words;
+ghost use Rattle.pb_scenario.specs.Scenarios.{names_of};
+ghost use Rattle.pb_scenario.specs.Fields.{Answers, meant};
+ghost use Rattle.pb_scenario.specs.Tables.{members};
+ghost use Rattle.pb_scenario.specs.Files as files;
+
+use crate::faults::ScenarioFault;
+use crate::fields::Fields;
+use crate::files::item;
+use crate::keys::{Key, Section};
+use crate::words::{Word, service_of, word_of};
+use indexmap::IndexSet;
+use pb_cycles::{Request, Service};
+use pb_plan::{Deed, Step};
+use pb_taps::Event;
+use std::alloc::Global;
+use toml::Value;
+
+/// How many steps a scenario may have.
+const MOST_STEPS: usize = 10_000;
+
+const POWER_KEYS: [Key; 3] = [Key::At, Key::Do, Key::Tap];
+
+const QUEUE_KEYS: [Key; 7] = [
+    Key::At,
+    Key::Do,
+    Key::Tap,
+    Key::Service,
+    Key::To,
+    Key::High,
+    Key::Unit,
+];
+
+const DAMAGE_KEYS: [Key; 5] = [Key::At, Key::Do, Key::Tap, Key::Speaker, Key::Place];
+
+const NOISE_KEYS: [Key; 3] = [Key::At, Key::Do, Key::Bits];
+
+const UNHEARD_KEYS: [Key; 4] = [Key::At, Key::Do, Key::Tap, Key::Speaker];
+
+const WITHHOLD_KEYS: [Key; 4] = [Key::At, Key::Do, Key::Tap, Key::Bits];
+
+/// The steps that a list describes, on taps with names.
+pub(crate) fn steps_in(
+    alloc: Global,
+    items: &[Value],
+    names: &IndexSet<String>,
+) -> Result<Vec<Step>, ScenarioFault> {
+    if items.len() > MOST_STEPS {
+        return Err(ScenarioFault::TooMany);
+    }
+    let mut steps = Vec::new(alloc);
+    let mut before = 0;
+    for (place, value) in items.iter().enumerate() {
+        let step = step_in(alloc, item(value, Section::Step(place))?, names, before)?;
+        before = step.at;
+        if steps.push(step).is_err() {
+            return Err(ScenarioFault::NoMemory);
+        }
+    }
+    Ok(steps)
+}
+
+/// The step that a table describes, which may not stand before a moment.
+#[tactic(auto, unfolding(crate::specs::Files::step_in), using(crate::proofs::Chains::then_ok, crate::proofs::Chains::then_tells, crate::proofs::Chains::then_tells_next))]
+fn step_in(
+    alloc: Global,
+    fields: Fields<'_>,
+    names: &IndexSet<String>,
+    before: u64,
+) -> Result<Step, ScenarioFault>
+    ensures { Answers planned_of result (files.step_in (names_of names.now.keys) before fields.entry.section (members fields.entry)) }
+{
+    let word = word(fields)?;
+    fields.known(alloc, keys_of(word))?;
+    let at = fields.number(Key::At, 0, u64::MAX)?;
+    if at < before {
+        return Err(ScenarioFault::StepOrder(fields.path(Key::At)));
+    }
+    let deed = deed_in(fields, names, word)?;
+    Ok(Step { at, deed })
+}
+
+/// What a step of a word does.
+#[tactic(auto, unfolding(crate::specs::Files::deed_in), using(crate::proofs::Chains::then_ok, crate::proofs::Chains::then_tells, crate::proofs::Chains::then_tells_next))]
+fn deed_in(fields: Fields<'_>, names: &IndexSet<String>, word: Word) -> Result<Deed, ScenarioFault>
+    ensures { Answers deed_of result (files.deed_in (names_of names.now.keys) fields.entry.section (members fields.entry) word) }
+{
+    Ok(match word {
+        Word::Start => Deed::Happens(Event::Start(tap(fields, names, Key::Tap)?)),
+        Word::Stop => Deed::Happens(Event::Stop(tap(fields, names, Key::Tap)?)),
+        Word::Queue => Deed::Happens(Event::Queue {
+            tap: tap(fields, names, Key::Tap)?,
+            request: request(fields)?,
+        }),
+        Word::Damage => Deed::Happens(Event::Damage {
+            tap: tap(fields, names, Key::Tap)?,
+            speaker: tap(fields, names, Key::Speaker)?,
+            place: place(fields)?,
+        }),
+        Word::Noise => Deed::Happens(Event::Noise(bits(fields)?)),
+        Word::Unheard => Deed::Happens(Event::Unheard {
+            tap: tap(fields, names, Key::Tap)?,
+            speaker: tap(fields, names, Key::Speaker)?,
+        }),
+        Word::Withhold => Deed::Withhold {
+            tap: tap(fields, names, Key::Tap)?,
+            bits: bits(fields)?,
+        },
+    })
+}
+
+/// The keys that a step of a word has.
+fn keys_of(word: Word) -> &'static [Key]
+    ensures { result.now ≡ step_keys word }
+{
+    match word {
+        Word::Start | Word::Stop => &POWER_KEYS,
+        Word::Queue => &QUEUE_KEYS,
+        Word::Damage => &DAMAGE_KEYS,
+        Word::Noise => &NOISE_KEYS,
+        Word::Unheard => &UNHEARD_KEYS,
+        Word::Withhold => &WITHHOLD_KEYS,
+    }
+}
+
+/// The word of a step.
+#[tactic(auto, unfolding(crate::specs::Fields::meant))]
+fn word(fields: Fields<'_>) -> Result<Word, ScenarioFault>
+    ensures { Answers (λ w. w) result (meant words.word_of as_str fields.entry.section keys.Do (members fields.entry)) }
+{
+    match word_of(fields.text(Key::Do)?) {
+        Some(word) => Ok(word),
+        None => Err(ScenarioFault::BadValue(fields.path(Key::Do))),
+    }
+}
+
+/// The tap whose name a key has.
+#[tactic(auto, unfolding(crate::specs::Files::tap_at))]
+fn tap(fields: Fields<'_>, names: &IndexSet<String>, key: Key) -> Result<usize, ScenarioFault>
+    ensures { Answers (λ t. t) result (files.tap_at (names_of names.now.keys) fields.entry.section key (members fields.entry)) }
+{
+    match names.get_index_of(fields.text(key)?) {
+        Some(tap) => Ok(tap),
+        None => Err(ScenarioFault::NoSuchName(fields.path(key))),
+    }
+}
+
+/// For how long something lasts, in bit times.
+fn bits(fields: Fields<'_>) -> Result<u32, ScenarioFault>
+    ensures { Answers (λ n. n) result (files.word32 fields.entry.section keys.Bits (members fields.entry)) }
+{
+    Ok(fields.number(Key::Bits, 0, u64::from(u32::MAX))? as u32)
+}
+
+/// The place of a damaged character; none where the key is missing.
+fn place(fields: Fields<'_>) -> Result<Option<u8>, ScenarioFault>
+    ensures { Answers (λ p. p) result (files.if_there None files.some_octet fields.entry.section keys.Place (members fields.entry)) }
+{
+    match fields.find(Key::Place) {
+        Some(_) => Ok(Some(fields.number(Key::Place, 0, 255)? as u8)),
+        None => Ok(None),
+    }
+}
+
+/// The request that a step queues. Whether there is such a request is looked at as soon as its address is.
+#[tactic(auto, unfolding(crate::specs::Files::request_in), using(crate::proofs::Chains::then_ok, crate::proofs::Chains::then_tells, crate::proofs::Chains::then_tells_next))]
+fn request(fields: Fields<'_>) -> Result<Request, ScenarioFault>
+    ensures { Answers (λ r. r) result (files.request_in fields.entry.section (members fields.entry)) }
+{
+    let service = service(fields)?;
+    let to = fields.number(Key::To, 0, 255)? as u8;
+    if to > 127 || (to == 127 && service.is_answered()) {
+        return Err(ScenarioFault::BadValue(fields.path(Key::To)));
+    }
+    let high = fields.flag(Key::High)?;
+    let unit = fields.octets(Key::Unit)?;
+    match Request::new(to, service, high, unit) {
+        Ok(request) => Ok(request),
+        Err(_) => Err(ScenarioFault::BadValue(fields.path(Key::To))),
+    }
+}
+
+/// The service of a request.
+#[tactic(auto, unfolding(crate::specs::Fields::meant))]
+fn service(fields: Fields<'_>) -> Result<Service, ScenarioFault>
+    ensures { Answers (λ x. x) result (meant words.service_of as_str fields.entry.section keys.Service (members fields.entry)) }
+{
+    match service_of(fields.text(Key::Service)?) {
+        Some(service) => Ok(service),
+        None => Err(ScenarioFault::BadValue(fields.path(Key::Service))),
+    }
+}

@@ -1,0 +1,118 @@
+ghost use Rattle.std.specs.Prelude.{◌≡◌, ◌<◌, ◌++◌, OnOk, IfOk, [], codes, length, map, slice_index_or};
+ghost use Rattle.hex.specs.Hex.{encode_lower};
+ghost use Rattle.pb_medium.specs.Entries.{entry_of, heard_of};
+ghost use Rattle.pb_scenario.specs.Lines.{line_of, record_line};
+ghost use Rattle.pb_scenario.specs.Texts.{AreOfTaps, IsOfTaps, entries_text, letter_of, span_text};
+
+use crate::scenarios::Scenario;
+use arrayvec::ArrayVec;
+use itoa::{Buffer, Integer};
+use pb_medium::{Entry, Heard, Record};
+use std::alloc::{AllocError, Global};
+
+/// The most octets that a telegram has.
+const LONGEST: usize = 255;
+
+/// The text of a trace, a line for each entry: begin and end, the name of the tap that sent it, its octets,
+/// and a letter for each tap that says how it reached that; or begin, end and `~ noise`. The entries' taps
+/// are the scenario's. The fault: memory was refused.
+pub fn trace_text(
+    alloc: Global,
+    scenario: &Scenario,
+    entries: &[Entry],
+) -> Result<Vec<u8>, AllocError>
+    requires { AreOfTaps (length scenario.now.names) (map entry_of entries.now) }
+    ensures { IfOk result (λ text. text.items ≡ entries_text scenario.now.names (map entry_of entries.now)) }
+{
+    let mut text = Vec::new(alloc);
+    for entry in entries {
+        push_entry(&mut text, scenario, entry)?;
+    }
+    Ok(text)
+}
+
+/// Appends the line of an entry.
+fn push_entry(text: &mut Vec<u8>, scenario: &Scenario, entry: &Entry) -> Result<(), AllocError>
+    requires { IsOfTaps (length scenario.now.names) (entry_of entry.now) }
+    ensures { OnOk result (text.new.items ≡ text.old.items ++ line_of scenario.now entry.now) }
+{
+    match entry {
+        Entry::Sent(record) => push_record(text, scenario, record),
+        Entry::Noise { begin, end } => {
+            push_span(text, *begin, *end)?;
+            text.extend_from_slice(b"~ noise\n")
+        }
+    }
+}
+
+/// Appends the line of a telegram.
+fn push_record(text: &mut Vec<u8>, scenario: &Scenario, record: &Record) -> Result<(), AllocError>
+    requires { record.now.tap < length scenario.now.names }
+    ensures { OnOk result (text.new.items ≡ text.old.items ++ record_line scenario.now record.now) }
+{
+    push_span(text, record.begin, record.end)?;
+    push_name(text, scenario, record.tap)?;
+    text.extend_from_slice(b" ")?;
+    push_octets(text, &record.octets)?;
+    text.extend_from_slice(b" ")?;
+    push_letters(text, &record.heard)?;
+    text.extend_from_slice(b"\n")
+}
+
+/// Appends the name of a tap.
+fn push_name(text: &mut Vec<u8>, scenario: &Scenario, tap: usize) -> Result<(), AllocError>
+    requires { tap < length scenario.now.names }
+    ensures { OnOk result (text.new.items ≡ text.old.items ++ slice_index_or scenario.now.names tap []) }
+{
+    text.extend_from_slice(scenario.name(tap).as_bytes())
+}
+
+/// Appends begin and end, each with a blank behind it.
+fn push_span(text: &mut Vec<u8>, begin: u64, end: u64) -> Result<(), AllocError>
+    ensures { OnOk result (text.new.items ≡ text.old.items ++ span_text begin end) }
+{
+    push_number(text, begin)?;
+    text.extend_from_slice(b" ")?;
+    push_number(text, end)?;
+    text.extend_from_slice(b" ")
+}
+
+/// Appends a number in decimal digits.
+fn push_number<N: Integer>(text: &mut Vec<u8>, number: N) -> Result<(), AllocError>
+    ensures { OnOk result (text.new.items ≡ text.old.items ++ N.text number) }
+{
+    text.extend_from_slice(Buffer::new().format(number).as_bytes())
+}
+
+/// Appends the octets of a telegram, each as two hex digits in lower case.
+fn push_octets(text: &mut Vec<u8>, octets: &ArrayVec<u8, 255>) -> Result<(), AllocError>
+    ensures { OnOk result (text.new.items ≡ text.old.items ++ encode_lower octets.now.items) }
+{
+    let mut room = [0; 2 * LONGEST];
+    let digits = &mut room[..2 * octets.len()];
+    hex::encode_to_slice(octets.as_slice(), digits).unwrap();
+    text.extend_from_slice(digits)
+}
+
+/// Appends a letter for each tap.
+fn push_letters(text: &mut Vec<u8>, heard: &[Heard]) -> Result<(), AllocError>
+    ensures { OnOk result (text.new.items ≡ text.old.items ++ map letter_of (map heard_of heard.now)) }
+{
+    for way in heard {
+        text.push(letter(*way))?;
+    }
+    Ok(())
+}
+
+/// The letter that says how a telegram reached a tap.
+fn letter(heard: Heard) -> u8
+    ensures { result ≡ letter_of (heard_of heard) }
+{
+    match heard {
+        Heard::Own => b'-',
+        Heard::Whole => b'w',
+        Heard::Damaged => b'd',
+        Heard::Unheard => b'u',
+        Heard::Pending => b'.',
+    }
+}
