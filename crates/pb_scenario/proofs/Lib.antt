@@ -4,3 +4,5 @@ pub mod Moving
 pub mod Instants
 pub mod Looking
 pub mod Chains
+pub mod Listing
+pub mod Ordering

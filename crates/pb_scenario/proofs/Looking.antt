@@ -1,7 +1,7 @@
 -- The keys of a table of the code, and of what it stands for.
-use Rattle.std.proofs.Common.{◌≡◌, ◌∙◌, Bool, true, false, not, cond, nat_lt, ◌+◌, List, [], ◌∷◌, map, length, ℕ, Option, Some, None, option_map, String, Global, string_bytes, refl, ap}
+use Rattle.std.proofs.Common.{◌≡◌, ◌∙◌, Bool, true, false, not, cond, nat_lt, ◌+◌, ◌||◌, List, [], ◌∷◌, map, length, ℕ, Option, Some, None, option_map, String, Global, string_bytes, refl, ap}
 use Rattle.std.specs.Prelude.{find, position, bytes_eq, if◌then◌else◌}
-use Rattle.std.specs.List.{position_or_len}
+use Rattle.std.specs.List.{list_any, position_or_len}
 use Rattle.std.proofs.lemmas.List.{length-map}
 use Rattle.std.specs.Map.{keys_of}
 use Rattle.toml.specs.View.{members_view}
@@ -30,3 +30,8 @@ pub position-names : {Z : Type 0} (name : List ℕ) (names : List (String Z)) �
 position-names name names =
     ap (λ n. cond (nat_lt n (length (map string_bytes names))) (Some n) None) (place-names (bytes_eq name) string_bytes names)
     ∙ ap (λ n. cond (nat_lt (position_or_len (λ k. bytes_eq name (string_bytes k)) names) n) (Some (position_or_len (λ k. bytes_eq name (string_bytes k)) names)) None) (length-map names string_bytes)
+
+-- whether a name is among names
+pub any-names : {Z : Type 0} (name : List ℕ) (names : List (String Z)) → list_any (bytes_eq name) (names_of names) ≡ list_any (λ k. bytes_eq name (string_bytes k)) names
+any-names name [] = refl
+any-names name (n ∷ ns) = ap (λ b. bytes_eq name (string_bytes n) || b) (any-names name ns)

@@ -1,8 +1,10 @@
 -- What the tables of a scenario file describe, key by key, or the first fault.
-use Rattle.std.specs.Prelude.{ℕ, ◌+◌, ℤ, pos, Bool, nat_lt, bytes_eq, List, [], ◌∷◌, ◌++◌, map, position, Option, Some, None, Result, Ok, Err, is_some, if◌then◌else◌}
+use Rattle.std.specs.Prelude.{◌≡◌, ℕ, ◌+◌, ℤ, pos, Bool, nat_lt, bytes_eq, List, [], ◌∷◌, ◌++◌, map, position, Option, Some, None, Result, Ok, Err, is_some, IsUtf8, if◌then◌else◌}
 use Rattle.std.specs.List.{list_any}
 use Rattle.std.specs.Option.{ok_or}
+use Rattle.std.specs.Ordering.{int_eq}
 use Rattle.toml.specs.Data.{Data, Items, no_items, item, Members, get_member, as_str, as_integer, as_bool, as_array, as_table}
+use Rattle.toml.specs.Parse.{parse_document}
 use Rattle.pb_refusals.specs.FirstFault.{first_fault}
 use Rattle.pb_timers.specs.Timers.{Params}
 use Rattle.pb_timers.specs.declared.params.ParamFault.{ParamFault}
@@ -21,12 +23,14 @@ use Rattle.pb_scenario.specs.declared.keys.Section.{Section}
 use Rattle.pb_scenario.specs.declared.keys.Section.TheVariants.{Top, Bus, Tap, Step}
 use Rattle.pb_scenario.specs.declared.keys.Path.{Path}
 use Rattle.pb_scenario.specs.declared.keys.Path.TheVariants as path
+use Rattle.pb_scenario.specs.declared.faults.ScenarioFault.{ScenarioFault}
+use Rattle.pb_scenario.specs.declared.faults.ScenarioFault.TheVariants as fault
 use Rattle.pb_scenario.specs.declared.words.Word.{Word}
 use Rattle.pb_scenario.specs.declared.words.Word.TheVariants as word
 use Rattle.pb_scenario.specs.Keys.{key_name, top_keys, bus_keys, tap_keys, step_keys}
 use Rattle.pb_scenario.specs.Words.{word_of, kind_of, service_of}
 use Rattle.pb_scenario.specs.Scenarios.{ScenarioView, until_limit}
-use Rattle.pb_scenario.specs.Fields.{Fault, BadVersion, BadKind, BadValue, Twice, NoSuchName, StepOrder, TooMany, Params as ParamsFault, and_then, path_of, typed, meant, known, in_range, octets_in, as_name}
+use Rattle.pb_scenario.specs.Fields.{Fault, BadVersion, BadKind, BadValue, Twice, NoSuchName, StepOrder, TooMany, Params as ParamsFault, Tells, and_then, path_of, typed, meant, known, in_range, octets_in, as_name}
 
 -- ---- kinds of keys
 
@@ -102,6 +106,12 @@ taps_from names tap (item d ds) =
     and_then (tap_in names (Tap tap) table) (λ t.
     and_then (taps_from (names ++ t.name ∷ []) (tap + 1) ds) (λ ts.
     Ok (t ∷ ts))))
+
+-- some names and what is known of as many taps, one by one
+abbrev pub named : List (List ℕ) → List TapSpec → List NamedTap
+named [] specs = []
+named (name ∷ names) [] = []
+named (name ∷ names) (spec ∷ specs) = record { name = name; spec = spec } ∷ named names specs
 
 abbrev pub taps_in : Items → Result (List NamedTap) Fault
 taps_in items = if nat_lt 32 (count items) then Err TooMany else taps_from [] 0 items
@@ -181,14 +191,16 @@ listed_steps names at k table = and_then (typed as_array at k table) (steps_in n
 
 -- ---- the file
 
-abbrev pub is_version : ℤ → Option (Unit {0})
-is_version z = if is_some (in_range 1 1 z) then Some tt else None
+abbrev pub checked_version : ℤ → Result (Unit {0}) Fault
+checked_version z = if int_eq z (pos 1) then Ok tt else Err BadVersion
+
+abbrev pub version_in : Section → Members → Result (Unit {0}) Fault
+version_in at top = and_then (typed as_integer at key.Version top) checked_version
 
 -- what the table of a whole file describes
 unfoldable pub scenario_in : Members → Result ScenarioView Fault
 scenario_in top =
-    and_then (typed as_integer Top key.Version top) (λ version.
-    and_then (ok_or (is_version version) BadVersion) (λ _.
+    and_then (version_in Top top) (λ _.
     and_then (known top_keys Top top) (λ _.
     and_then (number 1 until_limit Top key.Until top) (λ until.
     and_then (typed as_table Top key.Bus top) (λ bus.
@@ -197,4 +209,19 @@ scenario_in top =
     and_then (taps_in list) (λ taps.
     let names = map (λ (t : NamedTap). t.name) taps in
     and_then (if_there [] (listed_steps names) Top key.Step top) (λ steps.
-    Ok (record { scenario = record { params = params; taps = map (λ (t : NamedTap). t.spec) taps; steps = steps; until = until }; names = names }))))))))))
+    Ok (record { scenario = record { params = params; taps = map (λ (t : NamedTap). t.spec) taps; steps = steps; until = until }; names = names })))))))))
+
+-- the file is text in UTF-8, and as TOML it is this table
+pub record IsToml (file : List ℕ) (top : Members) : Type 0 where
+  pub text : IsUtf8 file
+  pub document : parse_document file ≡ Some top
+
+-- the file describes a scenario
+abbrev pub Describes : List ℕ → ScenarioView → Type 0
+Describes file s = (top : Members) × IsToml file top × (scenario_in top ≡ Ok s)
+
+-- why it describes none: it is no TOML, or its table has this fault; or memory was refused
+abbrev pub RefusesFile : List ℕ → ScenarioFault → Type 0
+RefusesFile file fault.NotToml = (top : Members) → IsToml file top → ⊥
+RefusesFile file fault.NoMemory = Unit {0}
+RefusesFile file f = (top : Members) × IsToml file top × Tells f (scenario_in top)

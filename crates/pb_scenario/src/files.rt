@@ -1,5 +1,10 @@
-ghost use Rattle.std.specs.Prelude.{◌≡◌};
-ghost use Rattle.toml.specs.View.{view};
+ghost use Rattle.std.specs.Prelude.{◌≡◌, [], IfErr, IfOk};
+ghost use Rattle.toml.specs.View.{table_view, view};
+ghost use Rattle.pb_runs.specs.Laws.{AreFromOutside};
+ghost use Rattle.pb_plan.specs.Steps.{steps_of};
+ghost use Rattle.pb_plan.specs.Walks.{AreFrom};
+ghost use Rattle.pb_scenario.specs.declared.keys.Key.TheVariants as keys;
+ghost use Rattle.pb_scenario.specs.Scenarios.{names_of};
 ghost use Rattle.pb_scenario.specs.Fields.{Answers};
 ghost use Rattle.pb_scenario.specs.Tables.{members};
 ghost use Rattle.pb_scenario.specs.Files as files;
@@ -10,9 +15,11 @@ use crate::keys::{Key, Path, Section};
 use crate::scenarios::Scenario;
 use crate::steps::steps_in;
 use crate::taps::taps_in;
+use indexmap::IndexSet;
+use pb_plan::Step;
 use pb_timers::BusParams;
 use std::alloc::Global;
-use toml::Value;
+use toml::{Table, Value};
 
 /// The version of a file.
 const VERSION: i64 = 1;
@@ -36,42 +43,67 @@ const BUS_KEYS: [Key; 9] = [
 
 /// The scenario that a file describes, in TOML.
 ///
-/// Faults: the first that applies, in the order in which a file is looked at; `NotToml` where the file is no
-/// TOML.
-pub fn read(alloc: Global, file: &[u8]) -> Result<Scenario, ScenarioFault> {
+/// Faults: the first that applies, in the order in which a file is looked at: `NotToml` where the file is no
+/// TOML in UTF-8, then that of its table; or `NoMemory`.
+pub fn read(alloc: Global, file: &[u8]) -> Result<Scenario, ScenarioFault>
+    ensures scenario { IfOk result (files.Describes file.now) }
+    ensures fault { IfErr result (files.RefusesFile file.now) }
+{
     match toml::table_from_slice(alloc, file) {
-        Ok(table) => read_top(
-            alloc,
-            Fields {
-                section: Section::Top,
-                table: &table,
-            },
-        ),
+        Ok(table) => scenario_in(alloc, &table),
         Err(fault) if fault.is_memory() => Err(ScenarioFault::NoMemory),
         Err(_) => Err(ScenarioFault::NotToml),
     }
 }
 
 /// The scenario that the table of a whole file describes.
-fn read_top(alloc: Global, top: Fields<'_>) -> Result<Scenario, ScenarioFault> {
-    if top.integer(Key::Version)? != VERSION {
-        return Err(ScenarioFault::BadVersion);
-    }
+#[tactic(auto, unfolding(crate::specs::Files::scenario_in), using(crate::proofs::Chains::then_ok, crate::proofs::Chains::then_tells, crate::proofs::Chains::then_tells_next))]
+fn scenario_in(alloc: Global, table: &Table) -> Result<Scenario, ScenarioFault>
+    ensures { Answers (λ s. s) result (files.scenario_in (table_view table.now)) }
+{
+    let top = Fields {
+        section: Section::Top,
+        table,
+    };
+    check_version(top)?;
     top.known(alloc, &TOP_KEYS)?;
     let until = top.number(Key::Until, 1, LAST_END)?;
-    let params = params_in(
-        alloc,
-        Fields {
-            section: Section::Bus,
-            table: top.table(Key::Bus)?,
-        },
-    )?;
-    let taps = taps_in(alloc, top.list(Key::Tap)?)?;
-    let steps = match top.find(Key::Step) {
-        Some(_) => steps_in(alloc, top.list(Key::Step)?, &taps.names)?,
-        None => Vec::new(alloc),
+    let bus = Fields {
+        section: Section::Bus,
+        table: top.table(Key::Bus)?,
     };
+    let params = params_in(alloc, bus)?;
+    let taps = taps_in(alloc, top.list(Key::Tap)?)?;
+    let steps = steps_at(alloc, top, &taps.names)?;
     Ok(Scenario::new(params, taps.specs, taps.names, steps, until))
+}
+
+/// Whether the file has the version that is read.
+fn check_version(top: Fields<'_>) -> Result<(), ScenarioFault>
+    ensures { Answers (λ x. x) result (files.version_in top.entry.section (members top.entry)) }
+{
+    if top.integer(Key::Version)? == VERSION {
+        Ok(())
+    } else {
+        Err(ScenarioFault::BadVersion)
+    }
+}
+
+/// The steps on taps with names; none where the key is missing.
+fn steps_at(
+    alloc: Global,
+    top: Fields<'_>,
+    names: &IndexSet<String>,
+) -> Result<Vec<Step>, ScenarioFault>
+    ensures steps { Answers (λ steps. steps_of steps.items) result
+        (files.if_there [] (files.listed_steps (names_of names.now.keys)) top.entry.section keys.Step (members top.entry)) }
+    ensures order { IfOk result (λ steps. AreFrom 0 (steps_of steps.items)) }
+    ensures outside { IfOk result (λ steps. AreFromOutside (steps_of steps.items)) }
+{
+    match top.find(Key::Step) {
+        Some(_) => steps_in(alloc, top.list(Key::Step)?, names),
+        None => Ok(Vec::new(alloc)),
+    }
 }
 
 /// The parameters of the bus.
@@ -106,7 +138,8 @@ fn parameter(bus: Fields<'_>, key: Key) -> Result<u32, ScenarioFault>
 
 /// An item of a list as a table.
 pub(crate) fn item(value: &Value, section: Section) -> Result<Fields<'_>, ScenarioFault>
-    ensures { Answers members result (files.item_in section (view value.now)) }
+    ensures members { Answers members result (files.item_in section (view value.now)) }
+    ensures section { IfOk result (λ fields. fields.section ≡ section) }
 {
     match value.as_table() {
         Some(table) => Ok(Fields { section, table }),

@@ -1,6 +1,9 @@
-ghost use Rattle.std.specs.Prelude.{◌≡◌, None};
+ghost use Rattle.std.specs.Prelude.{◌≡◌, None, IfOk};
 ghost use Rattle.toml.specs.Data.{as_str};
-ghost use Rattle.pb_plan.specs.Steps.{deed_of, planned_of};
+ghost use Rattle.toml.specs.View.{items_view};
+ghost use Rattle.pb_runs.specs.Laws.{AreFromOutside};
+ghost use Rattle.pb_plan.specs.Steps.{deed_of, planned_of, steps_of};
+ghost use Rattle.pb_plan.specs.Walks.{AreFrom};
 ghost use Rattle.pb_scenario.specs.declared.keys.Key.TheVariants as keys;
 ghost use Rattle.pb_scenario.specs.Keys.{step_keys};
 ghost use Rattle.pb_scenario.specs.Words as words;
@@ -45,11 +48,17 @@ const UNHEARD_KEYS: [Key; 4] = [Key::At, Key::Do, Key::Tap, Key::Speaker];
 const WITHHOLD_KEYS: [Key; 4] = [Key::At, Key::Do, Key::Tap, Key::Bits];
 
 /// The steps that a list describes, on taps with names.
+#[tactic(auto, unfolding(crate::specs::Files::steps_from))]
 pub(crate) fn steps_in(
     alloc: Global,
     items: &[Value],
     names: &IndexSet<String>,
-) -> Result<Vec<Step>, ScenarioFault> {
+) -> Result<Vec<Step>, ScenarioFault>
+    ensures steps { Answers (λ steps. steps_of steps.items) result
+        (files.steps_in (names_of names.now.keys) (items_view items.now)) }
+    ensures order { IfOk result (λ steps. AreFrom 0 (steps_of steps.items)) }
+    ensures outside { IfOk result (λ steps. AreFromOutside (steps_of steps.items)) }
+{
     if items.len() > MOST_STEPS {
         return Err(ScenarioFault::TooMany);
     }

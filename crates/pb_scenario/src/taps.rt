@@ -1,9 +1,13 @@
-ghost use Rattle.std.specs.Prelude.{◌≡◌, []};
+ghost use Rattle.std.specs.Prelude.{◌≡◌, [], IfOk, false, bytes_eq, length, string_bytes};
+ghost use Rattle.std.specs.List.{list_any};
 ghost use Rattle.toml.specs.Data.{as_str};
+ghost use Rattle.toml.specs.View.{items_view};
 ghost use Rattle.pb_scenario.specs.declared.keys.Key.TheVariants as keys;
 ghost use Rattle.pb_scenario.specs.Words as words;
-ghost use Rattle.pb_scenario.specs.Fields.{Answers, meant};
-ghost use Rattle.pb_scenario.specs.Tables.{members};
+ghost use Rattle.pb_scenario.specs.Scenarios.{names_of};
+ghost use Rattle.pb_scenario.specs.Fields.{Answers, and_then, as_name, meant, path_of};
+ghost use Rattle.pb_scenario.specs.Tables.{members, tap_of, taps_of};
+ghost use Rattle.pb_scenario.specs.Files as files;
 ghost use Rattle.pb_scenario.specs.Files.{if_there, octets};
 
 use crate::faults::ScenarioFault;
@@ -14,7 +18,7 @@ use crate::words::kind_of;
 use arrayvec::ArrayVec;
 use indexmap::IndexSet;
 use pb_taps::{Kind, TapSpec};
-use std::alloc::Global;
+use std::alloc::{AllocError, Global};
 use toml::Value;
 
 /// How many taps a bus may have.
@@ -22,7 +26,7 @@ const MOST_TAPS: usize = 32;
 
 const TAP_KEYS: [Key; 4] = [Key::Name, Key::Kind, Key::Address, Key::Reply];
 
-/// Taps with their names.
+/// Taps, each with its name.
 #[derive(Drop)]
 pub(crate) struct Taps {
     pub(crate) specs: Vec<TapSpec>,
@@ -30,7 +34,11 @@ pub(crate) struct Taps {
 }
 
 /// The taps that a list describes.
-pub(crate) fn taps_in(alloc: Global, items: &[Value]) -> Result<Taps, ScenarioFault> {
+#[tactic(auto, unfolding(crate::specs::Files::taps_from))]
+pub(crate) fn taps_in(alloc: Global, items: &[Value]) -> Result<Taps, ScenarioFault>
+    ensures taps { Answers taps_of result (files.taps_in (items_view items.now)) }
+    ensures named { IfOk result (λ taps. length taps.names.keys ≡ length taps.specs.items) }
+{
     if items.len() > MOST_TAPS {
         return Err(ScenarioFault::TooMany);
     }
@@ -39,29 +47,81 @@ pub(crate) fn taps_in(alloc: Global, items: &[Value]) -> Result<Taps, ScenarioFa
         names: IndexSet::new(alloc),
     };
     for (tap, value) in items.iter().enumerate() {
-        add_tap(alloc, &mut taps, item(value, Section::Tap(tap))?)?;
+        let fields = item(value, Section::Tap(tap))?;
+        let added = tap_in(alloc, fields, &taps.names)?;
+        if taps.add(added).is_err() {
+            return Err(ScenarioFault::NoMemory);
+        }
     }
     Ok(taps)
 }
 
-/// Adds the tap that a table describes.
-fn add_tap(alloc: Global, taps: &mut Taps, fields: Fields<'_>) -> Result<(), ScenarioFault> {
-    fields.known(alloc, &TAP_KEYS)?;
-    let name = fields.name()?;
-    if taps.names.contains(name) {
-        return Err(ScenarioFault::Twice(fields.path(Key::Name)));
+/// A tap with its name.
+#[derive(Drop)]
+struct NamedTap {
+    name: String,
+    spec: TapSpec,
+}
+
+impl Taps {
+    ghost use Rattle.std.specs.Prelude.{◌≡◌, ◌++◌, ◌∷◌, [], OnOk, false, bytes_eq, length, map, string_bytes};
+    ghost use Rattle.std.specs.List.{list_any};
+    ghost use Rattle.pb_taps.specs.Taps.{spec_of};
+    ghost use Rattle.pb_scenario.specs.Scenarios.{names_of};
+
+    /// Adds a tap behind the others, whose names are others. Its fault: memory was refused.
+    fn add(&mut self, tap: NamedTap) -> Result<(), AllocError>
+        requires { list_any (bytes_eq (string_bytes tap.name)) (names_of self.old.names.keys) ≡ false }
+        ensures names { OnOk result (names_of self.new.names.keys
+            ≡ names_of self.old.names.keys ++ string_bytes tap.name ∷ []) }
+        ensures specs { OnOk result (map spec_of self.new.specs.items
+            ≡ map spec_of self.old.specs.items ++ spec_of tap.spec ∷ []) }
+    {
+        self.specs.push(tap.spec)?;
+        self.names.insert(tap.name)?;
+        Ok(())
     }
-    let spec = TapSpec {
-        kind: kind(fields)?,
-        address: fields.number(Key::Address, 0, 255)? as u8,
-        reply: reply(fields)?,
-    };
-    let (Ok(name), Ok(())) = (String::from_str(alloc, name), taps.specs.push(spec)) else {
-        return Err(ScenarioFault::NoMemory);
-    };
-    match taps.names.insert(name) {
-        Ok(_) => Ok(()),
+}
+
+/// The tap that a table describes, behind others with names.
+#[tactic(auto, unfolding(crate::specs::Files::tap_in), using(crate::proofs::Chains::then_ok, crate::proofs::Chains::then_tells, crate::proofs::Chains::then_tells_next))]
+fn tap_in(
+    alloc: Global,
+    fields: Fields<'_>,
+    names: &IndexSet<String>,
+) -> Result<NamedTap, ScenarioFault>
+    ensures tap { Answers tap_of result (files.tap_in (names_of names.now.keys) fields.entry.section (members fields.entry)) }
+    ensures new { IfOk result (λ tap. list_any (bytes_eq (string_bytes tap.name)) (names_of names.now.keys) ≡ false) }
+{
+    fields.known(alloc, &TAP_KEYS)?;
+    let name = name_in(fields, names)?;
+    let kind = kind(fields)?;
+    let address = fields.number(Key::Address, 0, 255)? as u8;
+    let reply = reply(fields)?;
+    match String::from_str(alloc, name) {
+        Ok(name) => Ok(NamedTap {
+            name,
+            spec: TapSpec {
+                address,
+                kind,
+                reply,
+            },
+        }),
         Err(_) => Err(ScenarioFault::NoMemory),
+    }
+}
+
+/// The name of a tap, which no other tap has.
+fn name_in<'a>(fields: Fields<'a>, names: &IndexSet<String>) -> Result<&'a str, ScenarioFault>
+    ensures name { Answers (λ t. t.now) result (and_then (meant as_name as_str fields.entry.section keys.Name (members fields.entry))
+        (files.unless_taken (names_of names.now.keys) (path_of fields.entry.section keys.Name))) }
+    ensures new { IfOk result (λ name. list_any (bytes_eq name.now) (names_of names.now.keys) ≡ false) }
+{
+    let name = fields.name()?;
+    if names.contains(name) {
+        Err(ScenarioFault::Twice(fields.path(Key::Name)))
+    } else {
+        Ok(name)
     }
 }
 
