@@ -197,6 +197,13 @@ checked_version z = if int_eq z (pos 1) then Ok tt else Err BadVersion
 abbrev pub version_in : Section → Members → Result (Unit {0}) Fault
 version_in at top = and_then (typed as_integer at key.Version top) checked_version
 
+-- the scenario of some taps with the steps that the table of a file has
+unfoldable pub with_steps : Members → ℕ → Params → List NamedTap → Result ScenarioView Fault
+with_steps top until params taps =
+    let names = map (λ (t : NamedTap). t.name) taps in
+    and_then (if_there [] (listed_steps names) Top key.Step top) (λ steps.
+    Ok (record { scenario = record { params = params; taps = map (λ (t : NamedTap). t.spec) taps; steps = steps; until = until }; names = names }))
+
 -- what the table of a whole file describes
 unfoldable pub scenario_in : Members → Result ScenarioView Fault
 scenario_in top =
@@ -206,10 +213,7 @@ scenario_in top =
     and_then (typed as_table Top key.Bus top) (λ bus.
     and_then (params_in Bus bus) (λ params.
     and_then (typed as_array Top key.Tap top) (λ list.
-    and_then (taps_in list) (λ taps.
-    let names = map (λ (t : NamedTap). t.name) taps in
-    and_then (if_there [] (listed_steps names) Top key.Step top) (λ steps.
-    Ok (record { scenario = record { params = params; taps = map (λ (t : NamedTap). t.spec) taps; steps = steps; until = until }; names = names })))))))))
+    and_then (taps_in list) (with_steps top until params)))))))
 
 -- the file is text in UTF-8, and as TOML it is this table
 pub record IsToml (file : List ℕ) (top : Members) : Type 0 where

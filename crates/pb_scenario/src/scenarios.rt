@@ -41,7 +41,7 @@ impl Scenario {
 
     /// A scenario of taps with as many names, of steps that stand in order of time and are neither turns nor
     /// passes of time, up to a moment in bit times.
-    pub fn new(
+    pub(crate) fn new(
         params: BusParams,
         taps: Vec<TapSpec>,
         names: IndexSet<String>,
