@@ -76,7 +76,8 @@ impl Scenario {
 
     /// What the taps are, in their order.
     pub fn taps(&self) -> &[TapSpec]
-        ensures { map spec_of result.now ≡ self.now.scenario.taps }
+        ensures specs { map spec_of result.now ≡ self.now.scenario.taps }
+        ensures named { length self.now.names ≡ length result.now }
     {
         &self.taps
     }

@@ -1,100 +1,14 @@
 use crate::keys::{Key, Path, Section};
 use crate::words::{Word, is_name, kind_of, service_of, word_of};
-use crate::{RunFault, Scenario, events_of, read, trace_text};
-use arrayvec::ArrayVec;
-use indexmap::IndexSet;
+use crate::{RunFault, ScenarioFault, events_of, read, trace_text};
 use pb_cycles::Service;
 use pb_medium::Entry;
-use pb_plan::{Deed, Step};
-use pb_taps::{Event, Kind, NewFault, TapSpec, WorldFault};
-use pb_timers::{BusParams, Moment};
+use pb_plan::Deed;
+use pb_taps::{Event, Kind, NewFault, WorldFault};
+use pb_timers::Moment;
 use pb_world::{World, run};
 use std::alloc::{AllocError, AllocGlobal, Global};
 use std::process::Abort;
-
-/// A master `a`, which starts at 0, and what happens at 100, until 990.
-fn scenario(rt: &(impl AllocGlobal + Abort), event: Event) -> Result<Scenario, AllocError> {
-    let alloc = rt.alloc();
-    let master = TapSpec {
-        address: 1,
-        kind: Kind::Master,
-        reply: ArrayVec::new(),
-    };
-    let start = Step {
-        at: 0,
-        deed: Deed::Happens(Event::Start(0)),
-    };
-    let other = Step {
-        at: 100,
-        deed: Deed::Happens(event),
-    };
-    let taps = vec![in alloc; master]?;
-    let mut names = IndexSet::new(alloc);
-    names.insert(String::from_str(alloc, "a")?)?;
-    let steps = vec![in alloc; start, other]?;
-    Ok(Scenario::new(params(rt), taps, names, steps, 990))
-}
-
-fn params(rt: &impl Abort) -> BusParams {
-    BusParams::new(100, 37, 60, 11, 0, 10_000, 10, 5, 1).expect(rt, "parameters")
-}
-
-fn text(alloc: Global, scenario: &Scenario) -> Result<Vec<u8>, AllocError> {
-    let noise = Entry::Noise {
-        begin: 100,
-        end: 150,
-    };
-    trace_text(alloc, scenario, &[noise])
-}
-
-/// A scenario says what it was made of, and noise has its line.
-#[test]
-fn says_what_it_is(rt: HostRuntime) {
-    let scenario = scenario(&rt, Event::Noise(50)).expect(&rt, "memory");
-    assert_eq!(rt; scenario.until(), 990);
-    assert_eq!(rt; scenario.params().tsl(), 100);
-    assert_eq!(rt; scenario.taps().len(), 1);
-    assert_eq!(rt; scenario.steps().len(), 2);
-    let text = text(rt.alloc(), &scenario).expect(&rt, "memory");
-    assert!(rt; text.as_slice() == b"100 150 ~ noise\n".as_slice());
-    let walk = scenario.walk(rt.alloc()).expect(&rt, "memory");
-    assert_eq!(rt; walk.next(&[None], None), Some(100));
-}
-
-/// The events of a run leave its trace.
-#[test]
-fn plays_noise(rt: HostRuntime) {
-    let alloc = rt.alloc();
-    let scenario = scenario(&rt, Event::Noise(50)).expect(&rt, "memory");
-    let events = events_of(alloc, &scenario).expect(&rt, "a run");
-    let mut world = World::new(alloc, params(&rt), scenario.taps()).expect(&rt, "a world");
-    run(alloc, &mut world, &events).expect(&rt, "events");
-    let text = trace_text(alloc, &scenario, world.trace()).expect(&rt, "memory");
-    assert!(rt; text.as_slice() == b"100 150 ~ noise\n950 983 a dc0101 -\n".as_slice());
-    assert_eq!(rt; world.now().get(), 990);
-}
-
-/// A run ends where a step is refused, and where there is no new world.
-#[test]
-fn a_run_ends_by_a_fault(rt: HostRuntime) {
-    let alloc = rt.alloc();
-    let running = scenario(&rt, Event::Start(0)).expect(&rt, "memory");
-    let moment = Moment::new(100).expect(&rt, "a moment");
-    let fault = events_of(alloc, &running).expect_err(&rt, "a refusal");
-    assert_eq!(rt; fault, RunFault::At(moment, WorldFault::Running));
-    let shown = format!(in alloc; "{fault}").expect(&rt, "memory");
-    assert_eq!(rt; shown.as_str(), "Running at 100");
-    let none = Vec::new(alloc);
-    let empty = Scenario::new(
-        params(&rt),
-        none,
-        IndexSet::new(alloc),
-        Vec::new(alloc),
-        990,
-    );
-    let fault = events_of(alloc, &empty).expect_err(&rt, "no world");
-    assert_eq!(rt; fault, RunFault::New(NewFault::NoTaps));
-}
 
 /// Words stand for what they name, and for nothing in other letters.
 #[test]
@@ -139,7 +53,7 @@ fn paths_name_table_and_key(rt: HostRuntime) {
     assert!(rt; spelled(Path::Item(Section::Tap(0))).as_str() == "tap[0]");
 }
 
-/// Two masters, which both start at 0, until 1400; what stands before the bus, a tap and the steps may be others.
+/// A file of two taps; what stands before the bus, the second tap and the steps are given.
 fn file(alloc: Global, top: &str, second: &str, steps: &str) -> Result<String, AllocError> {
     format!(in alloc;
         "{top}
@@ -228,18 +142,19 @@ tap = \"a\"
     let scenario = read(alloc, text.as_bytes()).expect(&rt, "a scenario");
     assert_eq!(rt; scenario.until(), 1400);
     assert_eq!(rt; scenario.params().hsa(), 5);
+    let taps = scenario.taps();
+    assert!(rt; taps.len() == 2);
     assert_eq!(rt; scenario.name(0), "a");
     assert_eq!(rt; scenario.name(1), "b");
-    let taps = scenario.taps();
     assert!(rt; taps[0].kind == Kind::Master && taps[1].kind == Kind::Passive);
     assert!(rt; taps[1].address == 2 && taps[1].reply.as_slice() == [0x0a, 0xff].as_slice());
     let steps = scenario.steps();
-    assert_eq!(rt; steps.len(), 8);
-    assert!(rt; steps[0].deed == Deed::Happens(Event::Start(0)));
-    assert!(rt; steps[4].at == 6 && steps[4].deed == Deed::Happens(Event::Noise(7)));
-    assert!(rt; steps[5].deed == Deed::Happens(Event::Unheard { tap: 1, speaker: 0 }));
-    assert!(rt; steps[6].deed == Deed::Withhold { tap: 1, bits: 9 });
-    assert!(rt; steps[7].deed == Deed::Happens(Event::Stop(0)));
+    assert!(rt; steps.len() == 8);
+    assert!(rt; matches!(steps[0].deed, Deed::Happens(Event::Start(0))));
+    assert!(rt; steps[4].at == 6 && matches!(steps[4].deed, Deed::Happens(Event::Noise(7))));
+    assert!(rt; matches!(steps[5].deed, Deed::Happens(Event::Unheard { tap: 1, speaker: 0 })));
+    assert!(rt; matches!(steps[6].deed, Deed::Withhold { tap: 1, bits: 9 }));
+    assert!(rt; matches!(steps[7].deed, Deed::Happens(Event::Stop(0))));
 }
 
 /// Each fault of a file comes with its path, and the first one is told.
@@ -299,3 +214,109 @@ fn tells_the_first_fault(rt: HostRuntime) {
         "[[step]]\nat = 0\ndo = \"queue\"\ntap = \"a\"\nservice = \"sda\"\nto = 127\nhigh = 1";
     assert_eq!(rt; step(unit).as_str(), "5 BadValue step[0].to");
 }
+/// The events of a run lead to its trace: noise, then the claim of a master whose time-out it prolonged.
+#[test]
+fn plays_noise(rt: HostRuntime) {
+    let alloc = rt.alloc();
+    let steps = "[[step]]\nat = 0\ndo = \"start\"\ntap = \"a\"\n[[step]]\nat = 100\ndo = \"noise\"\nbits = 50";
+    let text = file(alloc, "version = 1\nuntil = 990", SECOND, steps).expect(&rt, "memory");
+    let scenario = read(alloc, text.as_bytes()).expect(&rt, "a scenario");
+    let events = events_of(alloc, &scenario).expect(&rt, "a run");
+    let mut world = World::new(alloc, *scenario.params(), scenario.taps()).expect(&rt, "a world");
+    run(alloc, &mut world, &events).expect(&rt, "events");
+    assert_eq!(rt; world.now().get(), 990);
+    assert_eq!(rt; world.trace().len(), 2);
+    let noise = Entry::Noise {
+        begin: 100,
+        end: 150,
+    };
+    let shown = trace_text(alloc, &scenario, &[noise]).expect(&rt, "memory");
+    assert!(rt; shown.as_slice() == b"100 150 ~ noise\n".as_slice());
+}
+
+/// A run ends where a step is refused, and where there is no new world.
+#[test]
+fn a_run_ends_by_a_fault(rt: HostRuntime) {
+    let alloc = rt.alloc();
+    let steps = "[[step]]\nat = 100\ndo = \"stop\"\ntap = \"a\"";
+    let text = file(alloc, TOP, SECOND, steps).expect(&rt, "memory");
+    let scenario = read(alloc, text.as_bytes()).expect(&rt, "a scenario");
+    let moment = Moment::new(100).expect(&rt, "a moment");
+    let fault = events_of(alloc, &scenario).expect_err(&rt, "a refusal");
+    assert_eq!(rt; fault, RunFault::At(moment, WorldFault::NotRunning));
+    let master = "name = \"b\"\nkind = \"master\"\naddress = 6";
+    let text = file(alloc, TOP, master, "").expect(&rt, "memory");
+    let scenario = read(alloc, text.as_bytes()).expect(&rt, "a scenario");
+    let fault = events_of(alloc, &scenario).expect_err(&rt, "no world");
+    assert_eq!(rt; fault, RunFault::New(NewFault::BadAddress(1)));
+}
+
+/// Each prefix of a file describes a scenario, or has a fault.
+#[test]
+fn reads_each_prefix(rt: HostRuntime) {
+    let alloc = rt.alloc();
+    let text = file(alloc, TOP, SECOND, "").expect(&rt, "memory");
+    let octets = text.as_bytes();
+    for end in 0..octets.len() {
+        if let Err(fault) = read(alloc, &octets[..end]) {
+            assert!(rt; 1 <= fault.number() && fault.number() <= 5);
+        }
+    }
+}
+
+/// Run with one allocation refused: a file is read, or memory was refused.
+#[test]
+fn refused_memory_in_reading(rt: HostRuntime) {
+    let Ok(text) = file(rt.alloc(), TOP, SECOND, "") else {
+        return;
+    };
+    if let Err(fault) = read(rt.alloc(), text.as_bytes()) {
+        assert_eq!(rt; fault, ScenarioFault::NoMemory);
+        let _ = println!(rt; "refused");
+    }
+}
+
+/// Run with one allocation refused: a run has its events, or memory was refused, of the new world or at a moment.
+#[test]
+fn refused_memory_in_a_run(rt: HostRuntime) {
+    let Ok(text) = file(rt.alloc(), "version = 1\nuntil = 900", SECOND, START) else {
+        return;
+    };
+    let Ok(scenario) = read(rt.alloc(), text.as_bytes()) else {
+        return;
+    };
+    match events_of(rt.alloc(), &scenario) {
+        Ok(events) => assert_eq!(rt; events.len(), 9),
+        Err(RunFault::New(fault)) => {
+            assert_eq!(rt; fault, NewFault::NoMemory);
+            let _ = println!(rt; "refused");
+        }
+        Err(RunFault::At(_, fault)) => {
+            assert_eq!(rt; fault, WorldFault::NoMemory);
+            let _ = println!(rt; "refused");
+        }
+    }
+}
+
+/// Run with one allocation refused: a trace has its text, or memory was refused.
+#[test]
+fn refused_memory_in_a_trace(rt: HostRuntime) {
+    let Ok(text) = file(rt.alloc(), TOP, SECOND, START) else {
+        return;
+    };
+    let Ok(scenario) = read(rt.alloc(), text.as_bytes()) else {
+        return;
+    };
+    let noise = Entry::Noise {
+        begin: 100,
+        end: 150,
+    };
+    match trace_text(rt.alloc(), &scenario, &[noise]) {
+        Ok(shown) => assert!(rt; shown.as_slice() == b"100 150 ~ noise\n".as_slice()),
+        Err(_) => {
+            let _ = println!(rt; "refused");
+        }
+    }
+}
+
+const START: &str = "[[step]]\nat = 0\ndo = \"start\"\ntap = \"a\"";
