@@ -41,7 +41,8 @@ impl<'a> Fields<'a> {
 
     /// The first key of the table, by its bytes, that is none of these.
     fn other(&self, keys: &[Key]) -> Option<&'a String>
-        ensures { option_copied result ≡ find (λ k. not (is_named keys.now (string_bytes k))) (tree.keys self.now.table.now) }
+        ensures { option_copied result ≡ find
+            (λ k. not (is_named keys.now (string_bytes k))) (tree.keys self.now.table.now) }
     {
         self.table.keys().find(|key| !is_named(keys, key.as_str()))
     }
@@ -107,7 +108,8 @@ impl<'a> Fields<'a> {
     /// A list.
     #[tactic(auto, unfolding(crate::specs::Fields::typed))]
     pub(crate) fn list(&self, key: Key) -> Result<&'a Vec<Value>, ScenarioFault>
-        ensures { Answers (λ v. array_view v.now) result (typed as_array self.now.section key (members self.now)) }
+        ensures { Answers (λ v. array_view v.now) result
+            (typed as_array self.now.section key (members self.now)) }
     {
         match self.value(key)?.as_array() {
             Some(list) => Ok(list),
@@ -118,7 +120,8 @@ impl<'a> Fields<'a> {
     /// A table.
     #[tactic(auto, unfolding(crate::specs::Fields::typed))]
     pub(crate) fn table(&self, key: Key) -> Result<&'a Table, ScenarioFault>
-        ensures { Answers (λ t. table_view t.now) result (typed as_table self.now.section key (members self.now)) }
+        ensures { Answers (λ t. table_view t.now) result
+            (typed as_table self.now.section key (members self.now)) }
     {
         match self.value(key)?.as_table() {
             Some(table) => Ok(table),
@@ -129,7 +132,8 @@ impl<'a> Fields<'a> {
     /// A number in a range.
     #[tactic(auto, unfolding(crate::specs::Fields::meant))]
     pub(crate) fn number(&self, key: Key, least: u64, most: u64) -> Result<u64, ScenarioFault>
-        ensures value { Answers (λ n. n) result (meant (in_range least most) as_integer self.now.section key (members self.now)) }
+        ensures value { Answers (λ n. n) result
+            (meant (in_range least most) as_integer self.now.section key (members self.now)) }
         ensures bounds { IfOk result (λ n. (least ≤ n) × (n ≤ most)) }
     {
         match in_range(self.integer(key)?, least, most) {
@@ -141,7 +145,8 @@ impl<'a> Fields<'a> {
     /// Octets in hex digits, at most as many as a unit has.
     #[tactic(auto, unfolding(crate::specs::Fields::meant))]
     pub(crate) fn octets(&self, key: Key) -> Result<ArrayVec<u8, 246>, ScenarioFault>
-        ensures { Answers (λ octets. octets.items) result (meant octets_in as_str self.now.section key (members self.now)) }
+        ensures { Answers (λ octets. octets.items) result
+            (meant octets_in as_str self.now.section key (members self.now)) }
     {
         match octets_in(self.text(key)?) {
             Some(octets) => Ok(octets),
@@ -152,7 +157,8 @@ impl<'a> Fields<'a> {
     /// The name of a tap.
     #[tactic(auto, unfolding(crate::specs::Fields::meant))]
     pub(crate) fn name(&self) -> Result<&'a str, ScenarioFault>
-        ensures { Answers (λ t. t.now) result (meant as_name as_str self.now.section Key.Name (members self.now)) }
+        ensures { Answers (λ t. t.now) result
+            (meant as_name as_str self.now.section Key.Name (members self.now)) }
     {
         let name = self.text(Key::Name)?;
         if is_name(name) {

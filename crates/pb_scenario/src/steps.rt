@@ -82,7 +82,8 @@ fn step_in(
     names: &IndexSet<String>,
     before: u64,
 ) -> Result<Step, ScenarioFault>
-    ensures { Answers planned_of result (files.step_in (names_of names.now.keys) before fields.entry.section (members fields.entry)) }
+    ensures { Answers planned_of result
+        (files.step_in (names_of names.now.keys) before fields.entry.section (members fields.entry)) }
 {
     let word = word(fields)?;
     fields.known(alloc, keys_of(word))?;
@@ -97,7 +98,8 @@ fn step_in(
 /// What a step of a word does.
 #[tactic(auto, unfolding(crate::specs::Files::deed_in), using(crate::proofs::Chains::then_ok, crate::proofs::Chains::then_tells, crate::proofs::Chains::then_tells_next))]
 fn deed_in(fields: Fields<'_>, names: &IndexSet<String>, word: Word) -> Result<Deed, ScenarioFault>
-    ensures { Answers deed_of result (files.deed_in (names_of names.now.keys) fields.entry.section (members fields.entry) word) }
+    ensures { Answers deed_of result
+        (files.deed_in (names_of names.now.keys) fields.entry.section (members fields.entry) word) }
 {
     Ok(match word {
         Word::Start => Deed::Happens(Event::Start(tap(fields, names, Key::Tap)?)),
@@ -140,7 +142,8 @@ fn keys_of(word: Word) -> &'static [Key]
 /// The word of a step.
 #[tactic(auto, unfolding(crate::specs::Fields::meant))]
 fn word(fields: Fields<'_>) -> Result<Word, ScenarioFault>
-    ensures { Answers (λ w. w) result (meant words.word_of as_str fields.entry.section keys.Do (members fields.entry)) }
+    ensures { Answers (λ w. w) result
+        (meant words.word_of as_str fields.entry.section keys.Do (members fields.entry)) }
 {
     match word_of(fields.text(Key::Do)?) {
         Some(word) => Ok(word),
@@ -151,7 +154,8 @@ fn word(fields: Fields<'_>) -> Result<Word, ScenarioFault>
 /// The tap whose name a key has.
 #[tactic(auto, unfolding(crate::specs::Files::tap_at))]
 fn tap(fields: Fields<'_>, names: &IndexSet<String>, key: Key) -> Result<usize, ScenarioFault>
-    ensures { Answers (λ t. t) result (files.tap_at (names_of names.now.keys) fields.entry.section key (members fields.entry)) }
+    ensures { Answers (λ t. t) result
+        (files.tap_at (names_of names.now.keys) fields.entry.section key (members fields.entry)) }
 {
     match names.get_index_of(fields.text(key)?) {
         Some(tap) => Ok(tap),
@@ -168,7 +172,8 @@ fn bits(fields: Fields<'_>) -> Result<u32, ScenarioFault>
 
 /// The place of a damaged character; none where the key is missing.
 fn place(fields: Fields<'_>) -> Result<Option<u8>, ScenarioFault>
-    ensures { Answers (λ p. p) result (files.if_there None files.some_octet fields.entry.section keys.Place (members fields.entry)) }
+    ensures { Answers (λ p. p) result
+        (files.if_there None files.some_octet fields.entry.section keys.Place (members fields.entry)) }
 {
     match fields.find(Key::Place) {
         Some(_) => Ok(Some(fields.number(Key::Place, 0, 255)? as u8)),
@@ -197,7 +202,8 @@ fn request(fields: Fields<'_>) -> Result<Request, ScenarioFault>
 /// The service of a request.
 #[tactic(auto, unfolding(crate::specs::Fields::meant))]
 fn service(fields: Fields<'_>) -> Result<Service, ScenarioFault>
-    ensures { Answers (λ x. x) result (meant words.service_of as_str fields.entry.section keys.Service (members fields.entry)) }
+    ensures { Answers (λ x. x) result
+        (meant words.service_of as_str fields.entry.section keys.Service (members fields.entry)) }
 {
     match service_of(fields.text(Key::Service)?) {
         Some(service) => Ok(service),

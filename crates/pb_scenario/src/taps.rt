@@ -90,8 +90,10 @@ fn tap_in(
     fields: Fields<'_>,
     names: &IndexSet<String>,
 ) -> Result<NamedTap, ScenarioFault>
-    ensures tap { Answers tap_of result (files.tap_in (names_of names.now.keys) fields.entry.section (members fields.entry)) }
-    ensures new { IfOk result (λ tap. list_any (bytes_eq (string_bytes tap.name)) (names_of names.now.keys) ≡ false) }
+    ensures tap { Answers tap_of result
+        (files.tap_in (names_of names.now.keys) fields.entry.section (members fields.entry)) }
+    ensures new { IfOk result
+        (λ tap. list_any (bytes_eq (string_bytes tap.name)) (names_of names.now.keys) ≡ false) }
 {
     fields.known(alloc, &TAP_KEYS)?;
     let name = name_in(fields, names)?;
@@ -113,7 +115,8 @@ fn tap_in(
 
 /// The name of a tap, which no other tap has.
 fn name_in<'a>(fields: Fields<'a>, names: &IndexSet<String>) -> Result<&'a str, ScenarioFault>
-    ensures name { Answers (λ t. t.now) result (and_then (meant as_name as_str fields.entry.section keys.Name (members fields.entry))
+    ensures name { Answers (λ t. t.now) result
+        (and_then (meant as_name as_str fields.entry.section keys.Name (members fields.entry))
         (files.unless_taken (names_of names.now.keys) (path_of fields.entry.section keys.Name))) }
     ensures new { IfOk result (λ name. list_any (bytes_eq name.now) (names_of names.now.keys) ≡ false) }
 {
@@ -128,7 +131,8 @@ fn name_in<'a>(fields: Fields<'a>, names: &IndexSet<String>) -> Result<&'a str, 
 /// The kind of a tap.
 #[tactic(auto, unfolding(crate::specs::Fields::meant))]
 fn kind(fields: Fields<'_>) -> Result<Kind, ScenarioFault>
-    ensures { Answers (λ k. k) result (meant words.kind_of as_str fields.entry.section keys.Kind (members fields.entry)) }
+    ensures { Answers (λ k. k) result
+        (meant words.kind_of as_str fields.entry.section keys.Kind (members fields.entry)) }
 {
     match kind_of(fields.text(Key::Kind)?) {
         Some(kind) => Ok(kind),
@@ -138,7 +142,8 @@ fn kind(fields: Fields<'_>) -> Result<Kind, ScenarioFault>
 
 /// The data of a tap's replies; none where the key is missing.
 fn reply(fields: Fields<'_>) -> Result<ArrayVec<u8, 246>, ScenarioFault>
-    ensures { Answers (λ r. r.items) result (if_there [] octets fields.entry.section keys.Reply (members fields.entry)) }
+    ensures { Answers (λ r. r.items) result
+        (if_there [] octets fields.entry.section keys.Reply (members fields.entry)) }
 {
     match fields.find(Key::Reply) {
         Some(_) => fields.octets(Key::Reply),

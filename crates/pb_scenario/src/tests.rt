@@ -152,7 +152,12 @@ tap = \"a\"
     assert!(rt; steps.len() == 8);
     assert!(rt; matches!(steps[0].deed, Deed::Happens(Event::Start(0))));
     assert!(rt; steps[4].at == 6 && matches!(steps[4].deed, Deed::Happens(Event::Noise(7))));
-    assert!(rt; matches!(steps[5].deed, Deed::Happens(Event::Unheard { tap: 1, speaker: 0 })));
+    assert!(rt;
+        matches!(
+            steps[5].deed,
+            Deed::Happens(Event::Unheard { tap: 1, speaker: 0 })
+        )
+    );
     assert!(rt; matches!(steps[6].deed, Deed::Withhold { tap: 1, bits: 9 }));
     assert!(rt; matches!(steps[7].deed, Deed::Happens(Event::Stop(0))));
 }
@@ -218,7 +223,8 @@ fn tells_the_first_fault(rt: HostRuntime) {
 #[test]
 fn plays_noise(rt: HostRuntime) {
     let alloc = rt.alloc();
-    let steps = "[[step]]\nat = 0\ndo = \"start\"\ntap = \"a\"\n[[step]]\nat = 100\ndo = \"noise\"\nbits = 50";
+    let steps =
+        "[[step]]\nat = 0\ndo = \"start\"\ntap = \"a\"\n[[step]]\nat = 100\ndo = \"noise\"\nbits = 50";
     let text = file(alloc, "version = 1\nuntil = 990", SECOND, steps).expect(&rt, "memory");
     let scenario = read(alloc, text.as_bytes()).expect(&rt, "a scenario");
     let events = events_of(alloc, &scenario).expect(&rt, "a run");

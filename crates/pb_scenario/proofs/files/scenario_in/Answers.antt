@@ -71,7 +71,7 @@ returns c =
     let found : if_there [] (listed_steps (map (λ (t : NamedTap). t.name) (taps_of taps))) Top key.Step top ≡ Ok steps =
     ap (λ ns. if_there [] (listed_steps ns) Top key.Step top) names ∙ c.in_ok-steps.ensures.steps in
     let whole = made-of c.new.result params (map (λ (t : NamedTap). t.spec) (taps_of taps)) (map (λ (t : NamedTap). t.name) (taps_of taps)) steps until
-        c.new.ensures.params (c.new.ensures.taps ∙ sym specs) (c.new.ensures.names ∙ sym names) c.new.ensures.steps c.new.ensures.until in
+    c.new.ensures.params (c.new.ensures.taps ∙ sym specs) (c.new.ensures.names ∙ sym names) c.new.ensures.steps c.new.ensures.until in
     then_ok (version_in Top top) _ _ _ c.in_ok-check_version.ensures
     (then_ok (known top_keys Top top) _ _ _ c.in_ok-known.ensures
     (then_ok (number 1 until_limit Top key.Until top) until _ _ c.in_ok-until.ensures.value

@@ -16,7 +16,7 @@ loop-play-init c =
     let s = c.args.scenario.now in
     let walk = c.in-Ok-walk.walk in
     let same : walk ≡ walk_of s = c.in-Ok-walk.ensures.walk in
-    let made : new_world s.scenario.params s.scenario.taps ≡ Ok c.in-Ok.world = subst (λ ts. new_world s.scenario.params ts ≡ Ok c.in-Ok.world) c.taps.ensures (subst (λ p. new_world p (map spec_of c.taps.result.now) ≡ Ok c.in-Ok.world) c.params.ensures c.in-Ok.ensures.ok) in
+    let made : new_world s.scenario.params s.scenario.taps ≡ Ok c.in-Ok.world = subst (λ ts. new_world s.scenario.params ts ≡ Ok c.in-Ok.world) c.taps.ensures.specs (subst (λ p. new_world p (map spec_of c.taps.result.now) ≡ Ok c.in-Ok.world) c.params.ensures c.in-Ok.ensures.ok) in
     record {
       walk = same ∙ ap (λ n. record (walk_of s) { clock = n }) (sym (ap (λ (w : WalkView). w.clock) same));
       in_time = omega (arith, ap (λ (w : WalkView). w.clock) same);
@@ -28,7 +28,7 @@ pub returns-in_err-at-clause-fault : goal.returns-in_err-at-clause-fault
 returns-in_err-at-clause-fault c =
     let s = c.args.scenario.now in
     let first = c.new-play.result.world in
-    let ok : new_world s.scenario.params s.scenario.taps ≡ Ok c.in-Ok.world = subst (λ ts. new_world s.scenario.params ts ≡ Ok c.in-Ok.world) c.taps.ensures (subst (λ p. new_world p (map spec_of c.taps.result.now) ≡ Ok c.in-Ok.world) c.params.ensures c.in-Ok.ensures.ok) in
+    let ok : new_world s.scenario.params s.scenario.taps ≡ Ok c.in-Ok.world = subst (λ ts. new_world s.scenario.params ts ≡ Ok c.in-Ok.world) c.taps.ensures.specs (subst (λ p. new_world p (map spec_of c.taps.result.now) ≡ Ok c.in-Ok.world) c.params.ensures c.in-Ok.ensures.ok) in
     let made : new_world s.scenario.params s.scenario.taps ≡ Ok first = ok ∙ ap (λ w. Ok w) (sym c.new-play.ensures.world) in
     in-err _ _ c.from_residual.result c.in_err-at.field-0.0 c.from_residual.ensures.0 c.from_residual.ensures.1
     (rest-stops s first c.loop-play.walk c.loop-play.play c.in_err-at.field-0.0 made c.loop-play.invariant.in_time c.in_err-at.ensures c.loop-play.invariant.rest)
@@ -52,6 +52,6 @@ pub returns-clause-events : goal.returns-clause-events
 returns-clause-events c =
     let s = c.args.scenario.now in
     let first = c.new-play.result.world in
-    let ok : new_world s.scenario.params s.scenario.taps ≡ Ok c.in-Ok.world = subst (λ ts. new_world s.scenario.params ts ≡ Ok c.in-Ok.world) c.taps.ensures (subst (λ p. new_world p (map spec_of c.taps.result.now) ≡ Ok c.in-Ok.world) c.params.ensures c.in-Ok.ensures.ok) in
+    let ok : new_world s.scenario.params s.scenario.taps ≡ Ok c.in-Ok.world = subst (λ ts. new_world s.scenario.params ts ≡ Ok c.in-Ok.world) c.taps.ensures.specs (subst (λ p. new_world p (map spec_of c.taps.result.now) ≡ Ok c.in-Ok.world) c.params.ensures c.in-Ok.ensures.ok) in
     let made : new_world s.scenario.params s.scenario.taps ≡ Ok first = ok ∙ ap (λ w. Ok w) (sym c.new-play.ensures.world) in
     rest-ends s first c.loop-play.walk c.loop-play.play c.instant.new.self c.in_ok-at.field-0 made c.in_default-2.is c.loop-play.invariant.in_time c.in_ok-at.ensures c.loop-play.invariant.rest

@@ -55,11 +55,11 @@ loop-tap-preserved c =
     let added : taps_of new ≡ taps_of l.taps ++ t ∷ [] = tap-added old (names_of new.names.keys) specs (map spec_of new.specs.items) t as_many names known in
     record {
       taps = l.invariant.taps
-      ∙ tap-read old i vs c.index-items-tap.result c.loop-tap-test.true c.index-items-tap.is (members fields) t (taps_of l.taps) c.in_ok-fields.ensures.members read
-      ∙ ap (λ ns. and_then (taps_from ns (i + 1) (items_view (drop (i + 1) vs))) (λ ts. Ok ((taps_of l.taps ++ t ∷ []) ++ ts))) (sym names)
-      ∙ ap (λ before. and_then (taps_from (names_of new.names.keys) (i + 1) (items_view (drop (i + 1) vs))) (λ ts. Ok (before ++ ts))) (sym added);
+          ∙ tap-read old i vs c.index-items-tap.result c.loop-tap-test.true c.index-items-tap.is (members fields) t (taps_of l.taps) c.in_ok-fields.ensures.members read
+          ∙ ap (λ ns. and_then (taps_from ns (i + 1) (items_view (drop (i + 1) vs))) (λ ts. Ok ((taps_of l.taps ++ t ∷ []) ++ ts))) (sym names)
+          ∙ ap (λ before. and_then (taps_from (names_of new.names.keys) (i + 1) (items_view (drop (i + 1) vs))) (λ ts. Ok (before ++ ts))) (sym added);
       named = sym (count-names new.names.keys) ∙ ap length names ∙ length-append old (t.name ∷ []) ∙ ap (λ n. n + 1) as_many ∙ sym (length-append specs (t.spec ∷ []))
-      ∙ ap length (sym known) ∙ length-map new.specs.items spec_of;
+          ∙ ap length (sym known) ∙ length-map new.specs.items spec_of;
     }
 
 pub returns-clause-taps : goal.returns-clause-taps
