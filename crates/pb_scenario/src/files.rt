@@ -96,7 +96,8 @@ fn steps_at(
     names: &IndexSet<String>,
 ) -> Result<Vec<Step>, ScenarioFault>
     ensures steps { Answers (λ steps. steps_of steps.items) result
-        (files.if_there [] (files.listed_steps (names_of names.now.keys)) top.entry.section keys.Step (members top.entry)) }
+        (files.if_there [] (files.listed_steps (names_of names.now.keys)) top.entry.section keys.Step
+        (members top.entry)) }
     ensures order { IfOk result (λ steps. AreFrom 0 (steps_of steps.items)) }
     ensures outside { IfOk result (λ steps. AreFromOutside (steps_of steps.items)) }
 {
