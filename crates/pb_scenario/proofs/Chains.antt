@@ -1,5 +1,5 @@
 -- What follows from a value, or its fault.
-use Rattle.std.proofs.Common.{◌≡◌, ◌∙◌, List, [], ◌∷◌, ◌++◌, append_assoc, append-nil, Result, Ok, Err, IfOk, refl, ap, sym, subst}
+use Rattle.std.proofs.Common.{◌≡◌, ◌∙◌, List, [], ◌∷◌, ◌++◌, append_assoc, Result, Ok, Err, IfOk, refl, ap, sym, subst}
 use Rattle.pb_scenario.specs.declared.faults.ScenarioFault.{ScenarioFault}
 use Rattle.pb_scenario.specs.declared.faults.ScenarioFault.TheVariants as fault
 use Rattle.pb_scenario.specs.Fields.{Fault, Tells, and_then}

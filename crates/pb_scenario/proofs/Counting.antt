@@ -10,10 +10,10 @@ use Rattle.pb_turn.specs.Stations.{list_for, pushed}
 use Rattle.pb_messages.specs.RequestFields.{RequestFields}
 use Rattle.pb_model.specs.Trace.{Entry, cut_at, begins_from, unheard_at}
 use Rattle.pb_model.specs.Medium.{Tap, TapSpec, entry_at}
-use Rattle.pb_model.specs.World.{World, Event, Turn, Pass, Damage, Start, Stop, Queue, Noise, Unheard, Reply, Fault, NewFault, NoSuchTap, NotRunning, Running, NothingInAir, ZeroTime, QueueFull, TraceFull, unless, unless_fault, trace_limit, queue_limit, is_in_air_by, new_world, new_faults, stopped_tap}
+use Rattle.pb_model.specs.World.{World, Event, Turn, Pass, Damage, Start, Stop, Queue, Noise, Unheard, Reply, Fault, NoSuchTap, NotRunning, Running, NothingInAir, ZeroTime, QueueFull, TraceFull, unless, unless_fault, trace_limit, queue_limit, is_in_air_by, new_world, new_faults, stopped_tap}
 use Rattle.pb_model.specs.Step.{step, step_turn, with_said, told, pass_faults, with_hit, change_first, has_place, step_damage, started_tap, step_start, halted, step_stop, step_queue, with_noise, is_noisy, step_unheard}
 use Rattle.pb_runs.specs.Runs.{all, and_then}
-use Rattle.pb_runs.specs.Bus.{bus, dues}
+use Rattle.pb_runs.specs.Bus.{bus}
 
 -- where no refusal applies, the outcome is the one that was made
 made : {X F : Type 0} (tests : List (Bool × F)) (x y : X) → unless tests x ≡ Ok y → x ≡ y

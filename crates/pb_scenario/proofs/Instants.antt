@@ -1,5 +1,5 @@
 -- A walk whose instants are played is the run of its scenario.
-use Rattle.std.proofs.Common.{◌≡◌, ◌∙◌, ℕ, zero, suc, ◌+◌, ◌<◌, ◌≤◌, List, [], map, length, Option, Some, None, Result, Ok, Err, refl, ap, sym, subst, arith}
+use Rattle.std.proofs.Common.{◌≡◌, ◌∙◌, ℕ, zero, suc, ◌+◌, ◌<◌, ◌≤◌, List, [], map, length, Option, Some, None, Result, Ok, Err, ap, sym, subst, arith}
 use Rattle.std.specs.Prelude.{IfSome}
 use Rattle.std.proofs.lemmas.List.{length-map}
 use Rattle.pb_model.specs.World.{World, Event, Turn, Fault, new_world}
@@ -13,7 +13,7 @@ use Rattle.pb_scenario.specs.declared.faults.RunFault.TheVariants.{New, At}
 use Rattle.pb_scenario.specs.declared.plays.Play.{Play}
 use Rattle.pb_scenario.specs.Faults.{EndsBy}
 use Rattle.pb_scenario.specs.Scenarios.{ScenarioView, walk_of}
-use Rattle.pb_scenario.specs.Plays.{Happened, Stops, GoesOn, events_in, rest_of, run_with}
+use Rattle.pb_scenario.specs.Plays.{Happened, Stops, GoesOn, events_in, rest_of}
 use Rattle.pb_scenario.proofs.Counting.{count-all}
 use Rattle.pb_scenario.proofs.Playing.{instant-is, run-stops, stops-too, no-front, from-early, to_turns, to_late, to_passing, from_turns, from_late, from_passing}
 

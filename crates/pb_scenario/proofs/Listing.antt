@@ -1,9 +1,9 @@
 -- Items of a list that are read one after another.
-use Rattle.std.proofs.Common.{◌≡◌, ◌∙◌, ◌≤◌, ◌<◌, ℕ, ◌+◌, List, [], ◌∷◌, ◌++◌, append-nil, length, map, drop, get_or, Bool, true, false, Result, Ok, Err, IfOk, refl, ap, sym, subst, zero, suc, nat_lt, String, string_bytes, length-append, arith}
+use Rattle.std.proofs.Common.{◌≡◌, ◌∙◌, ◌≤◌, ◌<◌, ℕ, ◌+◌, List, [], ◌∷◌, ◌++◌, append-nil, length, map, drop, get_or, true, false, Result, Ok, Err, refl, ap, sym, subst, zero, suc, nat_lt, String, string_bytes, arith}
 use Rattle.std.specs.Prelude.{OnOk, is_err, if◌then◌else◌}
 use Rattle.std.proofs.lemmas.Bool.Decides.{nat_tests}
 use Rattle.std.proofs.lemmas.List.{length-map}
-use Rattle.toml.specs.Data.{Items, no_items, item, Members}
+use Rattle.toml.specs.Data.{no_items, item, Members}
 use Rattle.toml.specs.View.{view, items_view}
 use Rattle.toml.specs.declared.value.Value.{Value}
 use Rattle.toml.proofs.Views.{items_view-drop}

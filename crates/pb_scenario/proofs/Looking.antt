@@ -1,5 +1,5 @@
 -- The keys of a table of the code, and of what it stands for.
-use Rattle.std.proofs.Common.{◌≡◌, ◌∙◌, Bool, true, false, not, cond, nat_lt, ◌+◌, ◌||◌, List, [], ◌∷◌, map, length, ℕ, Option, Some, None, option_map, String, Global, string_bytes, refl, ap}
+use Rattle.std.proofs.Common.{◌≡◌, ◌∙◌, Bool, true, false, not, cond, nat_lt, ◌+◌, ◌||◌, List, [], ◌∷◌, map, length, ℕ, Some, None, option_map, String, Global, string_bytes, refl, ap}
 use Rattle.std.specs.Prelude.{find, position, bytes_eq, if◌then◌else◌}
 use Rattle.std.specs.List.{list_any, position_or_len}
 use Rattle.std.proofs.lemmas.List.{length-map}

@@ -4,7 +4,7 @@ use Rattle.std.specs.Result.{IsErrAnd}
 use Rattle.std.specs.List.{cons_option}
 use Rattle.std.specs.Option.{option_to_list, option_and_then}
 use Rattle.pb_model.specs.Medium.{Tap}
-use Rattle.pb_model.specs.World.{World, Event, Turn, Fault}
+use Rattle.pb_model.specs.World.{World, Event, Turn}
 use Rattle.pb_bus.specs.Worlds.{due_at}
 use Rattle.pb_runs.specs.Runs.{all}
 use Rattle.pb_runs.specs.Bus.{bus, due_in, dues}

@@ -1,5 +1,5 @@
 -- Steps that are read stand in order of time, and come from outside.
-use Rattle.std.proofs.Common.{◌≡◌, ◌∙◌, ◌≤◌, ℕ, ◌+◌, List, Bool, true, false, Result, Ok, Err, IfOk, refl, ap, sym, nat_lt, ◌∷◌, None, arith}
+use Rattle.std.proofs.Common.{◌≡◌, ◌≤◌, ℕ, ◌+◌, List, Bool, true, false, Result, Ok, Err, IfOk, refl, nat_lt, ◌∷◌, None, arith}
 use Rattle.std.specs.Prelude.{if◌then◌else◌}
 use Rattle.std.proofs.lemmas.Bool.Decides.{nat_tests}
 use Rattle.toml.specs.Data.{Items, no_items, item, Members, as_str}

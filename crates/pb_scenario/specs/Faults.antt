@@ -1,5 +1,5 @@
 -- Why the run of a scenario ends before its time.
-use Rattle.std.specs.Prelude.{◌≡◌, ℕ, Option, Some, None, Result, Err, IfSome}
+use Rattle.std.specs.Prelude.{◌≡◌, Option, Some, None, Err, IfSome}
 use Rattle.pb_model.specs.World as model
 use Rattle.pb_model.specs.World.{new_world}
 use Rattle.pb_taps.specs.declared.faults.WorldFault.{WorldFault}

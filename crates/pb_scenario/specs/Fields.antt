@@ -1,13 +1,12 @@
 -- What the keys of a table say, and their faults.
-use Rattle.std.specs.Prelude.{◌≡◌, ℕ, ◌*◌, ℤ, pos, negsuc, Bool, nat_le, ◌&&◌, List, length, Option, Some, None, Result, Ok, Err, MatchResult, if◌then◌else◌}
+use Rattle.std.specs.Prelude.{◌≡◌, ℕ, ◌*◌, ℤ, pos, negsuc, nat_le, ◌&&◌, List, length, Option, Some, None, Result, Ok, Err, MatchResult, if◌then◌else◌}
 use Rattle.std.specs.Option.{ok_or}
 use Rattle.std.specs.Result.{result_ok}
 use Rattle.std.specs.String.{string_bytes}
 use Rattle.hex.specs.Hex.{decode_of}
-use Rattle.toml.specs.Data.{Data, Members, no_members, member, get_member, as_str}
+use Rattle.toml.specs.Data.{Data, Members, no_members, member, get_member}
 use Rattle.pb_timers.specs.declared.params.ParamFault.{ParamFault}
 use Rattle.pb_scenario.specs.declared.keys.Key.{Key}
-use Rattle.pb_scenario.specs.declared.keys.Key.TheVariants.{Name}
 use Rattle.pb_scenario.specs.declared.keys.Section.{Section}
 use Rattle.pb_scenario.specs.declared.keys.Path.{Path}
 use Rattle.pb_scenario.specs.declared.keys.Path.TheVariants as path

@@ -1,5 +1,5 @@
 -- What the tables of a scenario file describe, key by key, or the first fault.
-use Rattle.std.specs.Prelude.{◌≡◌, ℕ, ◌+◌, ℤ, pos, Bool, nat_lt, bytes_eq, List, [], ◌∷◌, ◌++◌, map, position, Option, Some, None, Result, Ok, Err, is_some, IsUtf8, if◌then◌else◌}
+use Rattle.std.specs.Prelude.{◌≡◌, ℕ, ◌+◌, ℤ, pos, nat_lt, bytes_eq, List, [], ◌∷◌, ◌++◌, map, position, Option, Some, None, Result, Ok, Err, is_some, IsUtf8, if◌then◌else◌}
 use Rattle.std.specs.List.{list_any}
 use Rattle.std.specs.Option.{ok_or}
 use Rattle.std.specs.Ordering.{int_eq}

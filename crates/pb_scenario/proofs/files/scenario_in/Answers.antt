@@ -1,5 +1,5 @@
 -- What was read is put together, or the first fault of the steps ends the reading.
-use Rattle.std.proofs.Common.{◌≡◌, ◌∙◌, ℕ, List, [], Result, Ok, map, length, ap, sym, subst}
+use Rattle.std.proofs.Common.{◌≡◌, ◌∙◌, ℕ, List, [], Ok, map, length, ap, sym, subst}
 use Rattle.std.proofs.lemmas.List.{length-map}
 use Rattle.toml.specs.Data.{as_table, as_array}
 use Rattle.toml.specs.View.{array_view, items_view, table_view}
@@ -12,7 +12,7 @@ use Rattle.pb_scenario.specs.declared.keys.Key.TheVariants as key
 use Rattle.pb_scenario.specs.declared.keys.Section.TheVariants.{Top, Bus}
 use Rattle.pb_scenario.specs.Keys.{top_keys}
 use Rattle.pb_scenario.specs.Scenarios.{ScenarioView, names_of, until_limit}
-use Rattle.pb_scenario.specs.Fields.{Fault, Tells, and_then, known, typed}
+use Rattle.pb_scenario.specs.Fields.{Tells, known, typed}
 use Rattle.pb_scenario.specs.Tables.{taps_of}
 use Rattle.pb_scenario.specs.Files.{NamedTap, number, if_there, version_in, params_in, taps_in, listed_steps, with_steps, scenario_in}
 use Rattle.pb_scenario.proofs.Chains.{then_ok, then_tells, then_tells_next}

@@ -1,5 +1,5 @@
 -- One due more.
-use Rattle.std.proofs.Common.{◌≡◌, ◌<◌, ◌+◌, ◌++◌, map, drop, length, ap, sym, ◌∙◌, arith}
+use Rattle.std.proofs.Common.{◌<◌, ◌+◌, ◌++◌, map, drop, length, ap, ◌∙◌, arith}
 use Rattle.pb_runs.specs.Bus.{due_in}
 use Rattle.pb_scenario.proofs.Moving.{due-more}
 use Rattle.pb_scenario.proofs.plays.dues.Goals as goal

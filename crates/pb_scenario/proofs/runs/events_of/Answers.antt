@@ -1,5 +1,5 @@
 -- What is played is the scenario's run.
-use Rattle.std.proofs.Common.{◌≡◌, ◌∙◌, ◌≤◌, Ok, Some, None, map, length, ap, sym, subst, arith}
+use Rattle.std.proofs.Common.{◌≡◌, ◌∙◌, Ok, Some, map, length, ap, sym, subst, arith}
 use Rattle.pb_model.specs.World.{World, new_world}
 use Rattle.pb_taps.specs.Events.{event_of}
 use Rattle.pb_taps.specs.Taps.{spec_of}

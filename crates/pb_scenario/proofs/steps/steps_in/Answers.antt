@@ -1,14 +1,12 @@
 -- One step more is read, or the first fault ends the reading.
-use Rattle.std.proofs.Common.{◌≡◌, ◌∙◌, ◌≤◌, ◌++◌, Ok, IfOk, drop, length, ap, sym, subst, arith}
+use Rattle.std.proofs.Common.{◌∙◌, IfOk, sym, subst}
 use Rattle.toml.specs.View.{items_view}
-use Rattle.pb_plan.specs.Steps.{planned_of, steps_of}
-use Rattle.pb_scenario.specs.declared.keys.Section.TheVariants.{Step}
+use Rattle.pb_plan.specs.Steps.{steps_of}
 use Rattle.pb_scenario.specs.Scenarios.{names_of}
-use Rattle.pb_scenario.specs.Fields.{Tells, and_then}
+use Rattle.pb_scenario.specs.Fields.{Tells}
 use Rattle.pb_scenario.specs.Tables.{members}
-use Rattle.pb_scenario.specs.Files as files
 use Rattle.pb_scenario.specs.Files.{step_in, steps_from}
-use Rattle.pb_scenario.proofs.Listing.{few-items, many-items, no-step, bad-step, step-read, steps-read}
+use Rattle.pb_scenario.proofs.Listing.{few-items, many-items, no-step, bad-step, steps-read}
 use Rattle.pb_scenario.proofs.Moving.{in-err}
 use Rattle.pb_scenario.proofs.Ordering.{AreLater, steps-later}
 use Rattle.pb_scenario.proofs.steps.steps_in.Goals as goal

@@ -1,11 +1,10 @@
 -- A name among the names.
-use Rattle.std.proofs.Common.{◌≡◌, ◌∙◌, Bool, true, false, Err, Ok, ap, sym, if◌then◌else◌}
+use Rattle.std.proofs.Common.{◌≡◌, ◌∙◌, true, false, Err, Ok, ap, sym, if◌then◌else◌}
 use Rattle.std.specs.Prelude.{bytes_eq}
 use Rattle.std.specs.List.{list_any}
 use Rattle.pb_scenario.specs.Scenarios.{names_of}
-use Rattle.pb_scenario.specs.Fields.{Twice, and_then, path_of}
+use Rattle.pb_scenario.specs.Fields.{Twice, path_of}
 use Rattle.pb_scenario.specs.declared.keys.Key.TheVariants.{Name}
-use Rattle.pb_scenario.specs.Files.{unless_taken}
 use Rattle.pb_scenario.proofs.Chains.{then_ok}
 use Rattle.pb_scenario.proofs.Looking.{any-names}
 use Rattle.pb_scenario.proofs.taps.name_in.Goals as goal

@@ -1,13 +1,12 @@
 -- One tap more is read, or the first fault ends the reading.
-use Rattle.std.proofs.Common.{◌≡◌, ◌∙◌, ◌≤◌, ◌+◌, ◌++◌, ◌∷◌, [], Ok, drop, length, map, string_bytes, ap, sym, subst, arith, length-append}
+use Rattle.std.proofs.Common.{◌≡◌, ◌∙◌, ◌+◌, ◌++◌, ◌∷◌, [], Ok, drop, length, map, ap, sym, subst, length-append}
 use Rattle.std.proofs.lemmas.List.{length-map}
 use Rattle.toml.specs.View.{items_view}
 use Rattle.pb_taps.specs.Taps.{spec_of}
-use Rattle.pb_scenario.specs.declared.keys.Section.TheVariants.{Tap}
 use Rattle.pb_scenario.specs.Scenarios.{names_of}
 use Rattle.pb_scenario.specs.Fields.{Tells, and_then}
 use Rattle.pb_scenario.specs.Tables.{members, tap_of, taps_of}
-use Rattle.pb_scenario.specs.Files.{NamedTap, tap_in, taps_from}
+use Rattle.pb_scenario.specs.Files.{tap_in, taps_from}
 use Rattle.pb_scenario.proofs.Listing.{few-items, many-items, no-tap, bad-tap, tap-read, taps-read, tap-added, count-names, on-ok}
 use Rattle.pb_scenario.proofs.Moving.{in-err}
 use Rattle.pb_scenario.proofs.taps.taps_in.Goals as goal

@@ -1,5 +1,5 @@
 -- One turn more has happened, or stops all.
-use Rattle.std.proofs.Common.{slice_get, get_or, ◌≡◌, Some, refl}
+use Rattle.std.proofs.Common.{get_or}
 use Rattle.std.proofs.lemmas.Option.{slice_get-get_or}
 use Rattle.pb_scenario.proofs.Moving.{in-err, turn-happened, turn-stops}
 use Rattle.pb_scenario.proofs.plays.Play.turns.Goals as goal
