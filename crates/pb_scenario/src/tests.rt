@@ -274,6 +274,7 @@ fn reads_each_prefix(rt: HostRuntime) {
 #[test]
 fn refused_memory_in_reading(rt: HostRuntime) {
     let Ok(text) = file(rt.alloc(), TOP, SECOND, "") else {
+        let _ = println!(rt; "refused");
         return;
     };
     if let Err(fault) = read(rt.alloc(), text.as_bytes()) {
@@ -286,9 +287,11 @@ fn refused_memory_in_reading(rt: HostRuntime) {
 #[test]
 fn refused_memory_in_a_run(rt: HostRuntime) {
     let Ok(text) = file(rt.alloc(), "version = 1\nuntil = 900", SECOND, START) else {
+        let _ = println!(rt; "refused");
         return;
     };
     let Ok(scenario) = read(rt.alloc(), text.as_bytes()) else {
+        let _ = println!(rt; "refused");
         return;
     };
     match events_of(rt.alloc(), &scenario) {
@@ -308,9 +311,11 @@ fn refused_memory_in_a_run(rt: HostRuntime) {
 #[test]
 fn refused_memory_in_a_trace(rt: HostRuntime) {
     let Ok(text) = file(rt.alloc(), TOP, SECOND, START) else {
+        let _ = println!(rt; "refused");
         return;
     };
     let Ok(scenario) = read(rt.alloc(), text.as_bytes()) else {
+        let _ = println!(rt; "refused");
         return;
     };
     let noise = Entry::Noise {

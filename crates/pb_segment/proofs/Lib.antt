@@ -1,0 +1,5 @@
+pub mod NewWorlds
+pub mod Showing
+pub mod Standing
+pub mod Replaying
+pub mod Agreeing

@@ -1,0 +1,18 @@
+use Rattle.std.proofs.Common.{IsTrue, subst, refl}
+use Rattle.pb_segment.specs.Closing.{AgreesWith}
+use Rattle.pb_segment.specs.Locked.{LockedView, view_of}
+use Rattle.pb_segment.specs.Seats.{ConductorView}
+use Rattle.pb_segment.proofs.Agreeing.{agreeing}
+use Rattle.pb_segment.proofs.locked.Locked.agrees_with.Goals as goal
+
+pub returns : goal.returns
+returns g c =
+    let i = c.self.inside in
+    let l = view_of i.world i.origin i.history.items i.turns.items i.drives i.outlooks.items i.limit in
+    let o = c.args.origin.now in
+    let seats = c.args.seats.now.items in
+    let r = c.all_agree.result in
+    let shown : ConductorView = record { receipts = c.conductor.inside.receipts.items; outlooks = c.conductor.inside.outlooks.items } in
+    let all = agreeing l o shown seats r (c.if-not-is_same.ensures.0 refl) (c.if-not-agree.ensures.0 refl) (c.if-not-are_same.ensures.0 refl) c.all_agree.ensures in
+    subst (λ (x : LockedView). (IsTrue r → AgreesWith x o c.args.conductor.now seats) × (AgreesWith x o c.args.conductor.now seats → IsTrue r)) c.self.view_is
+    (subst (λ (x : ConductorView). (IsTrue r → AgreesWith l o x seats) × (AgreesWith l o x seats → IsTrue r)) c.conductor.view_is all)

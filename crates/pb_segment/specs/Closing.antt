@@ -1,0 +1,29 @@
+-- What has to agree where a segment is closed.
+use Rattle.std.specs.Prelude.{◌≡◌, ◌≢◌, List, All, length}
+use Rattle.pb_segment.specs.declared.faults.CloseFault.{CloseFault}
+use Rattle.pb_segment.specs.declared.faults.CloseFault.TheVariants as close
+use Rattle.pb_segment.specs.Histories.{told, is_driven}
+use Rattle.pb_segment.specs.Locked.{LockedView}
+use Rattle.pb_segment.specs.Origins.{Origin}
+use Rattle.pb_segment.specs.Seats.{SeatView, ConductorView, Agrees}
+
+-- the first world is the one that the segment was made with, and what the seats were told and shown stands there
+pub record AgreesWith (l : LockedView) (o : Origin) (c : ConductorView) (of_taps : List SeatView) : Type 0 where
+  pub origin : l.origin ≡ o
+  pub conductor : told is_driven l.history ≡ c.receipts
+  pub outlooks : l.outlooks ≡ c.outlooks
+  pub seats : All (Agrees l.history) of_taps
+
+-- there are as many seats of taps as taps, and all agrees
+abbrev pub CanClose : LockedView → Origin → ConductorView → List SeatView → Type 0
+CanClose l origin conductor seats = (length seats ≡ length l.turns) × AgreesWith l origin conductor seats
+
+-- why a segment is not closed
+abbrev pub RefusesToClose : LockedView → Origin → ConductorView → List SeatView → CloseFault → Type 0
+RefusesToClose l origin conductor seats close.MissingSeat = length seats ≢ length l.turns
+RefusesToClose l origin conductor seats close.Disagree = (length seats ≡ length l.turns) × (AgreesWith l origin conductor seats → ⊥)
+
+-- a fault says that seats are missing just where the number of seats isn't right
+abbrev pub IsMissing : CloseFault → Type 0 → Type 0
+IsMissing close.MissingSeat IsRight = IsRight → ⊥
+IsMissing close.Disagree IsRight = IsRight

@@ -1,0 +1,22 @@
+-- Of what a new world is made.
+use Rattle.std.specs.Prelude.{◌≡◌, List, Ok}
+use Rattle.pb_timers.specs.Timers.{Params}
+use Rattle.pb_model.specs.Medium.{TapSpec}
+use Rattle.pb_model.specs.World.{World, new_world}
+use Rattle.pb_theorem.specs.Headline.{specs_of}
+
+-- the parameters of its bus, and what each tap is
+pub record Origin : Type 0 where
+  pub params : Params
+  pub specs : List TapSpec
+
+-- the new world of a bus and taps
+abbrev pub IsMadeOf : Origin → World → Type 0
+IsMadeOf o first = new_world o.params o.specs ≡ Ok first
+
+abbrev pub origin_of : World → Origin
+origin_of w = record { params = w.params; specs = specs_of w }
+
+-- nothing has happened in a world yet: it is the new world of its bus and taps
+abbrev pub IsNew : World → Type 0
+IsNew w = IsMadeOf (origin_of w) w

@@ -1,0 +1,167 @@
+ghost use Rattle.std.specs.Prelude.{◌≡◌, ◌+◌, ◌<◌, ◌↔◌, ℕ, All, IsTrue, length, map, slice_index, sum};
+ghost use Rattle.pb_segment.specs.Histories.{StandsFrom, is_of, is_turn_of, told};
+ghost use Rattle.pb_segment.specs.Seats.{Agrees, accepted};
+
+use crate::faults::CloseFault;
+use crate::histories::Happened;
+use crate::locked::Locked;
+use crate::origins::Origin;
+use crate::outlooks::Outlook;
+use crate::receipts::{Owner, Receipt, is_of, is_same_reply};
+use crate::seats::{ConductorSeat, TapSeat};
+use std::sync::ledger::{Book, Ledger};
+
+impl<L: Ledger> Locked<L> {
+    ghost use Rattle.std.specs.Prelude.{◌↔◌, IsTrue, MatchOption};
+    ghost use Rattle.pb_segment.specs.Closing.{AgreesWith, CanClose, RefusesToClose};
+
+    /// Why it can't be closed with these seats, and the origin that was kept beside the lock. It goes once over
+    /// the receipts and outlooks, and takes no memory.
+    pub(crate) fn closing_fault(
+        &self,
+        origin: &Origin,
+        conductor: &ConductorSeat<L>,
+        seats: &Vec<TapSeat<L>>,
+    ) -> Option<CloseFault>
+        ensures { MatchOption result (CanClose self.now origin.now conductor.now seats.now.items)
+            (RefusesToClose self.now origin.now conductor.now seats.now.items) }
+    {
+        if seats.len() != self.turns.len() {
+            return Some(CloseFault::MissingSeat);
+        }
+        if !self.agrees_with(origin, conductor, seats) {
+            return Some(CloseFault::Disagree);
+        }
+        None
+    }
+
+    /// Whether it began with the new world of an origin, and has just what the seats were told and shown.
+    fn agrees_with(
+        &self,
+        origin: &Origin,
+        conductor: &ConductorSeat<L>,
+        seats: &Vec<TapSeat<L>>,
+    ) -> bool
+        ensures { IsTrue result ↔ AgreesWith self.now origin.now conductor.now seats.now.items }
+    {
+        if !self.origin.is_same(origin) {
+            return false;
+        }
+        if !agree(
+            &self.history,
+            Owner::Conductor,
+            self.drives,
+            &conductor.receipts,
+        ) {
+            return false;
+        }
+        if !are_same(&self.outlooks, &conductor.outlooks) {
+            return false;
+        }
+        all_agree(&self.history, &self.turns, seats)
+    }
+}
+
+/// Whether receipts are those of an owner's events in a history, of which there are so many.
+fn agree(history: &Vec<Happened>, owner: Owner, count: usize, receipts: &Vec<Receipt>) -> bool
+    requires { count ≡ length (told (is_of owner) history.now.items) }
+    ensures { IsTrue result ↔ (told (is_of owner) history.now.items ≡ receipts.now.items) }
+{
+    if receipts.len() != count {
+        return false;
+    }
+    let events = history.len();
+    let mut from: usize = 0;
+    for next in 0..receipts.len() {
+        let receipt = &receipts[next];
+        if receipt.place >= events || !stands(history, owner, from, receipt) {
+            return false;
+        }
+        from = receipt.place + 1;
+    }
+    true
+}
+
+/// Whether a receipt is of an event of an owner, at a place or a later one.
+fn stands(history: &Vec<Happened>, owner: Owner, from: usize, receipt: &Receipt) -> bool
+    ensures { IsTrue result ↔ StandsFrom (is_of owner) history.now.items from receipt.now }
+{
+    let Some(happened) = history.get(receipt.place) else {
+        return false;
+    };
+    from <= receipt.place
+        && is_of(owner, &happened.event)
+        && is_same_reply(&happened.reply, &receipt.reply)
+}
+
+/// Whether the receipts of each seat of a tap are those of the tap's turns, of which the counts are given.
+fn all_agree<L: Ledger>(
+    history: &Vec<Happened>,
+    turns: &Vec<usize>,
+    seats: &Vec<TapSeat<L>>,
+) -> bool
+    requires parts { L.parts ≡ length turns.now.items + 1 }
+    requires counts { (tap : ℕ) → tap < length turns.now.items
+        → slice_index turns.now.items tap ≡ length (told (is_turn_of tap) history.now.items) }
+    ensures { IsTrue result ↔ All (Agrees history.now.items) seats.now.items }
+{
+    for place in 0..seats.len() {
+        if !seat_agrees(history, turns, &seats[place]) {
+            return false;
+        }
+    }
+    true
+}
+
+fn seat_agrees<L: Ledger>(history: &Vec<Happened>, turns: &Vec<usize>, seat: &TapSeat<L>) -> bool
+    requires parts { L.parts ≡ length turns.now.items + 1 }
+    requires counts { (tap : ℕ) → tap < length turns.now.items
+        → slice_index turns.now.items tap ≡ length (told (is_turn_of tap) history.now.items) }
+    ensures { IsTrue result ↔ Agrees history.now.items seat.now }
+{
+    agree(
+        history,
+        Owner::Tap(seat.tap),
+        turns[seat.tap],
+        &seat.receipts,
+    )
+}
+
+fn are_same(one: &Vec<Outlook>, other: &Vec<Outlook>) -> bool
+    ensures { IsTrue result ↔ (one.now.items ≡ other.now.items) }
+{
+    if one.len() != other.len() {
+        return false;
+    }
+    for place in 0..one.len() {
+        if !one[place].is_same(&other[place]) {
+            return false;
+        }
+    }
+    true
+}
+
+/// All seats together had all events accepted.
+pub(crate) fn audit<L: Ledger>(
+    book: &mut Book<L>,
+    conductor: ConductorSeat<L>,
+    seats: Vec<TapSeat<L>>,
+)
+    requires { length seats.items + 1 ≡ L.parts }
+    ensures { book.old.total ≡ length conductor.receipts + sum (map accepted seats.items) }
+{
+    let ConductorSeat {
+        receipts: _,
+        outlooks: _,
+        share: mut all,
+    } = conductor;
+    for seat in seats {
+        let TapSeat {
+            tap: _,
+            receipts: _,
+            share,
+        } = seat;
+        all.merge(share);
+    }
+    book.audit(&mut all);
+}

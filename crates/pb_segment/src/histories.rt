@@ -1,0 +1,64 @@
+ghost use Rattle.std.specs.Prelude.{◌≡◌};
+
+use pb_world::{Event, Reply};
+use std::marker::Model;
+
+/// An event that was accepted, and its reply.
+#[derive(Debug, Drop)]
+pub(crate) struct Happened {
+    pub(crate) event: Event,
+    pub(crate) reply: Reply,
+}
+
+impl Model for Happened {
+    ghost use Rattle.pb_taps.specs.Events.{event_of, reply_of};
+    ghost use Rattle.pb_segment.specs.Histories as specs;
+
+    ghost Value = { specs.Happened };
+
+    ghost view = { λ h. record { event = event_of h.event; reply = reply_of h.reply } };
+}
+
+/// The events that a segment has accepted, each with its reply, in order.
+#[derive(Debug, Drop)]
+pub struct History {
+    happened: Vec<Happened>,
+}
+
+impl Model for History {
+    ghost use Rattle.std.specs.Prelude.{List};
+    ghost use Rattle.pb_segment.specs.Histories as specs;
+
+    ghost Value = { List specs.Happened };
+
+    ghost view = { λ h. h.happened.items };
+}
+
+impl History {
+    ghost use Rattle.std.specs.Prelude.{◌≡◌, None, Some, MatchOption, length, slice_get};
+    ghost use Rattle.pb_taps.specs.Events.{event_of, reply_of};
+
+    /// The history of some events.
+    pub(crate) fn of(happened: Vec<Happened>) -> History
+        ensures { result ≡ happened.items }
+    {
+        History { happened }
+    }
+
+    /// How many events it has.
+    pub fn len(&self) -> usize
+        ensures { result ≡ length self.now }
+    {
+        self.happened.len()
+    }
+
+    /// The event at a place, counted from 0, and its reply. None where the history has no more events.
+    pub fn at(&self, place: usize) -> Option<(&Event, &Reply)>
+        ensures { MatchOption result (slice_get self.entry.now place ≡ None)
+            (λ h. slice_get self.entry.now place
+            ≡ Some (record { event = event_of h.0.now; reply = reply_of h.1.now })) }
+    {
+        let happened = self.happened.get(place)?;
+        Some((&happened.event, &happened.reply))
+    }
+}

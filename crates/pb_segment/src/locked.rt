@@ -1,0 +1,223 @@
+ghost use Rattle.std.specs.Prelude.{◌≡◌, ◌+◌, ◌<◌, ℕ, length, slice_index};
+ghost use Rattle.pb_taps.specs.Events.{event_of};
+ghost use Rattle.pb_segment.specs.Counts.{counted, counted_drives};
+
+use crate::deeds::{Deed, carry_out, event_in, speaks};
+use crate::faults::{CommitFault, GlanceFault};
+use crate::histories::Happened;
+use crate::origins::Origin;
+use crate::outlooks::Outlook;
+use crate::receipts::{Receipt, is_turn};
+use crate::seats::{ConductorSeat, TapSeat};
+use pb_station::{Decision, Glance};
+use pb_world::{Event, World};
+use std::alloc::Global;
+use std::marker::Model;
+use std::sync::ledger::{Book, Ledger, Share};
+
+/// A world, and the events that have led to it from the new one.
+#[derive(Drop)]
+pub(crate) struct Locked<L: Ledger> {
+    pub(crate) world: World,
+    /// Of what the new one was made.
+    pub(crate) origin: Origin,
+    /// The events that were accepted, in order.
+    pub(crate) history: Vec<Happened>,
+    /// How many turns of each tap were accepted.
+    pub(crate) turns: Vec<usize>,
+    /// How many other events were.
+    pub(crate) drives: usize,
+    pub(crate) outlooks: Vec<Outlook>,
+    /// How many events the history may have.
+    pub(crate) limit: usize,
+    pub(crate) book: Book<L>,
+}
+
+impl<L: Ledger> Model for Locked<L> {
+    ghost use Rattle.std.specs.Prelude.{◌≡◌, ◌+◌, length};
+    ghost use Rattle.pb_segment.specs.Locked.{LockedView, IsKept, view_of};
+
+    ghost Value = { LockedView };
+
+    ghost view = { λ l. view_of l.world l.origin l.history.items l.turns.items l.drives l.outlooks.items l.limit };
+
+    ghost invariant = { λ l. IsKept (view_of l.world l.origin l.history.items l.turns.items l.drives l.outlooks.items l.limit)
+        × (l.book.total ≡ length l.history.items) × (L.parts ≡ length l.turns.items + 1) };
+}
+
+impl<L: Ledger> Locked<L> {
+    ghost use Rattle.std.specs.Prelude.{◌≡◌, ◌++◌, ◌∷◌, [], IfOk, IfErr, OnOk, OnErr, length};
+    ghost use Rattle.pb_model.specs.World.{Turn};
+    ghost use Rattle.pb_taps.specs.Events.{event_of};
+    ghost use Rattle.pb_bus.specs.Glances.{CanBeDecided, IsGlance};
+    ghost use Rattle.pb_token.specs.Promises.{LeavesOneToken};
+    ghost use Rattle.pb_segment.specs.Locked.{Appends, IsAllowed, IsPresent, IsTimely, KnowsDrives, KnowsTurns};
+    ghost use Rattle.pb_segment.specs.Locked.{RefusesDecision, RefusesEvent, RefusesToKeep, RefusesToShow};
+    ghost use Rattle.pb_segment.specs.Locked.{event_in};
+    ghost use Rattle.pb_segment.specs.Outlooks.{ShowsWorld};
+
+    /// What the tap of a seat shows.
+    pub(crate) fn glance(&self, alloc: Global, seat: &TapSeat<L>) -> Result<Glance, GlanceFault>
+        ensures shows { IfOk result (IsGlance self.now.world seat.now.tap) }
+        ensures turn { IfOk result CanBeDecided }
+        ensures known { OnOk result (KnowsTurns self.now seat.now) }
+        ensures err { IfErr result (RefusesToShow (KnowsTurns self.now seat.now)) }
+    {
+        if self.turns[seat.tap] != seat.receipts.len() {
+            return Err(GlanceFault::Disagree);
+        }
+        let glance = self.world.glance_of(alloc, seat.tap)?;
+        Ok(glance)
+    }
+
+    /// Takes the turn of a decision that was made on the present state.
+    pub(crate) fn commit(
+        &mut self,
+        alloc: Global,
+        seat: &mut TapSeat<L>,
+        decision: Decision,
+    ) -> Result<Receipt, CommitFault>
+        ensures ok { IfOk result (Appends self.old self.new (Turn seat.old.tap)) }
+        ensures present { OnOk result (IsPresent self.old seat.old decision) }
+        ensures told { IfOk result
+            (λ r. seat.new ≡ record seat.old { receipts = seat.old.receipts ++ r ∷ [] }) }
+        ensures token { OnOk result (LeavesOneToken self.old.world (Turn seat.old.tap ∷ []) self.new.world) }
+        ensures err { IfErr result (RefusesDecision self.old seat.old decision) }
+        ensures same { OnErr result ((self.new ≡ self.old) × (seat.new ≡ seat.old)) }
+    {
+        if decision.tap != seat.tap {
+            return Err(CommitFault::WrongTap);
+        }
+        let turns = self.turns[seat.tap];
+        if turns != seat.receipts.len() {
+            return Err(CommitFault::Disagree);
+        }
+        if !self.world.fits(&decision) {
+            let now = self.world.now().get();
+            return Err(CommitFault::Stale { turns, now });
+        }
+        self.keep(
+            alloc,
+            Deed::Decided(decision),
+            &mut seat.receipts,
+            &mut seat.share,
+        )
+    }
+
+    /// Lets an event happen that is no turn.
+    pub(crate) fn drive(
+        &mut self,
+        alloc: Global,
+        seat: &mut ConductorSeat<L>,
+        event: Event,
+    ) -> Result<Receipt, CommitFault>
+        ensures ok { IfOk result (Appends self.old self.new (event_of event)) }
+        ensures allowed { OnOk result (IsAllowed self.old seat.old (event_of event)) }
+        ensures told { IfOk result
+            (λ r. seat.new ≡ record seat.old { receipts = seat.old.receipts ++ r ∷ [] }) }
+        ensures token { OnOk result (LeavesOneToken self.old.world (event_of event ∷ []) self.new.world) }
+        ensures err { IfErr result (RefusesEvent self.old seat.old (event_of event)) }
+        ensures same { OnErr result ((self.new ≡ self.old) × (seat.new ≡ seat.old)) }
+    {
+        if is_turn(&event) {
+            return Err(CommitFault::WrongTap);
+        }
+        if self.drives != seat.receipts.len() {
+            return Err(CommitFault::Disagree);
+        }
+        self.keep(
+            alloc,
+            Deed::Driven(event),
+            &mut seat.receipts,
+            &mut seat.share,
+        )
+    }
+
+    /// What the conductor sees, which both keep.
+    pub(crate) fn outlook(
+        &mut self,
+        alloc: Global,
+        seat: &mut ConductorSeat<L>,
+    ) -> Result<Outlook, GlanceFault>
+        ensures shows { IfOk result (ShowsWorld self.old.world) }
+        ensures place { IfOk result (λ o. o.place ≡ length self.old.history) }
+        ensures known { OnOk result (KnowsDrives self.old seat.old) }
+        ensures kept { IfOk result
+            (λ o. self.new ≡ record self.old { outlooks = self.old.outlooks ++ o ∷ [] }) }
+        ensures seen { IfOk result
+            (λ o. seat.new ≡ record seat.old { outlooks = seat.old.outlooks ++ o ∷ [] }) }
+        ensures err { IfErr result (RefusesToShow (KnowsDrives self.old seat.old)) }
+        ensures same { OnErr result ((self.new ≡ self.old) × (seat.new ≡ seat.old)) }
+    {
+        if self.drives != seat.receipts.len() {
+            return Err(GlanceFault::Disagree);
+        }
+        self.outlooks.reserve(1)?;
+        seat.outlooks.reserve(1)?;
+        let place = self.history.len();
+        let shown = Outlook::of(alloc, &self.world, self.turns.len(), place)?;
+        let kept = shown.copy(alloc)?;
+        let seen = shown.copy(alloc)?;
+        self.outlooks.push_reserved(kept);
+        seat.outlooks.push_reserved(seen);
+        Ok(shown)
+    }
+
+    /// The world does what a seat wants, and the event is kept, with a receipt. All room that it takes is made
+    /// before anything changes.
+    fn keep(
+        &mut self,
+        alloc: Global,
+        deed: Deed,
+        receipts: &mut Vec<Receipt>,
+        share: &mut Share<L>,
+    ) -> Result<Receipt, CommitFault>
+        requires timely { IsTimely self.old.world deed }
+        requires part { share.old.parts ≡ 1 }
+        ensures ok { IfOk result (Appends self.old self.new (event_in deed)) }
+        ensures told { IfOk result (λ r. receipts.new.items ≡ receipts.old.items ++ r ∷ []) }
+        ensures counted { OnOk result (share.new.amount ≡ share.old.amount + 1) }
+        ensures token { OnOk result (LeavesOneToken self.old.world (event_in deed ∷ []) self.new.world) }
+        ensures part { share.new.parts ≡ 1 }
+        ensures err { IfErr result (RefusesToKeep self.old (event_in deed)) }
+        ensures same { OnErr result ((self.new ≡ self.old)
+            × (receipts.new.items ≡ receipts.old.items) × (share.new.amount ≡ share.old.amount)) }
+    {
+        let event = event_in(&deed);
+        if let Some(fault) = self.world.refusal(&event, speaks(&self.world, &deed)) {
+            return Err(CommitFault::World(fault));
+        }
+        if self.history.len() >= self.limit {
+            return Err(CommitFault::HistoryFull);
+        }
+        self.history.reserve(1)?;
+        receipts.reserve(1)?;
+        let reply = carry_out(&mut self.world, alloc, deed)?;
+        let receipt = Receipt {
+            place: self.history.len(),
+            reply: reply.copy(),
+        };
+        count(&mut self.turns, &mut self.drives, &event);
+        self.history.push_reserved(Happened { event, reply });
+        self.book.add(share, 1);
+        receipts.push_reserved(receipt.copy());
+        Ok(receipt)
+    }
+}
+
+/// Counts an event that was accepted.
+fn count(turns: &mut Vec<usize>, drives: &mut usize, event: &Event)
+    requires turns { (tap : ℕ) → tap < length turns.old.items → slice_index turns.old.items tap < 1000000 }
+    requires drives { drives.old < 1000000 }
+    ensures turns { turns.new.items ≡ counted turns.old.items (event_of event.now) }
+    ensures drives { drives.new ≡ counted_drives drives.old (event_of event.now) }
+{
+    match event {
+        Event::Turn(tap) => {
+            if *tap < turns.len() {
+                turns[*tap] += 1;
+            }
+        }
+        _ => *drives += 1,
+    }
+}

@@ -1,0 +1,124 @@
+ghost use Rattle.std.specs.Prelude.{◌≡◌, ◌<◌, ◌↔◌, IsTrue, IfOk, Some, length, slice_get};
+ghost use Rattle.pb_theorem.specs.Headline.{specs_of};
+ghost use Rattle.pb_segment.specs.Origins.{IsNew};
+
+use pb_timers::BusParams;
+use pb_world::World;
+use std::alloc::{AllocError, Global};
+use std::marker::Model;
+
+/// Of what a new world is made: the parameters of its bus, and what each tap is.
+#[derive(Drop)]
+pub(crate) struct Origin {
+    params: BusParams,
+    members: Vec<Member>,
+}
+
+impl Model for Origin {
+    ghost use Rattle.pb_segment.specs.Origins as specs;
+
+    ghost Value = { specs.Origin };
+
+    ghost view = { λ o. record { params = o.params; specs = o.members.items } };
+}
+
+/// What a tap is.
+#[derive(Drop)]
+struct Member {
+    address: u8,
+    master: bool,
+    /// The data of its replies.
+    reply: Vec<u8>,
+}
+
+impl Model for Member {
+    ghost use Rattle.pb_model.specs.Medium.{TapSpec};
+
+    ghost Value = { TapSpec };
+
+    ghost view = { λ m. record { address = m.address; master = m.master; reply = m.reply.items } };
+}
+
+impl Origin {
+    ghost use Rattle.std.specs.Prelude.{◌≡◌, ◌↔◌, IsTrue, IfOk};
+    ghost use Rattle.pb_segment.specs.Origins.{IsNew, origin_of};
+
+    /// Of what a new world is made. Its fault: memory was refused.
+    pub(crate) fn of(alloc: Global, world: &World) -> Result<Origin, AllocError>
+        requires { IsNew world.now }
+        ensures { IfOk result (λ o. o ≡ origin_of world.entry.now) }
+    {
+        let params = params_of(world);
+        let members = members_of(alloc, world)?;
+        Ok(Origin { params, members })
+    }
+
+    /// Whether another is equal to it.
+    pub(crate) fn is_same(&self, other: &Origin) -> bool
+        ensures { IsTrue result ↔ (self.now ≡ other.now) }
+    {
+        other.params.is_same(&self.params) && are_same_members(&self.members, &other.members)
+    }
+}
+
+/// The parameters of the bus of a new world, as its first station knows them.
+fn params_of(world: &World) -> BusParams
+    requires { IsNew world.now }
+    ensures { result ≡ world.entry.now.params }
+{
+    let Some(first) = world.station(0) else {
+        unreachable!()
+    };
+    *first.params()
+}
+
+/// What the taps of a new world are.
+#[tactic(auto, using(crate::proofs::NewWorlds::next_spec))]
+fn members_of(alloc: Global, world: &World) -> Result<Vec<Member>, AllocError>
+    requires { IsNew world.now }
+    ensures { IfOk result (λ members. members.items ≡ specs_of world.entry.now) }
+{
+    let mut members = Vec::new(alloc);
+    for tap in 0..world.taps() {
+        members.push(member_at(alloc, world, tap)?)?;
+    }
+    Ok(members)
+}
+
+/// What the tap of a new world at a position is.
+fn member_at(alloc: Global, world: &World, tap: usize) -> Result<Member, AllocError>
+    requires new { IsNew world.now }
+    requires inside { tap < length world.now.taps }
+    ensures { IfOk result (λ member. slice_get (specs_of world.entry.now) tap ≡ Some member) }
+{
+    let Some(station) = world.station(tap) else {
+        unreachable!()
+    };
+    let mut reply = Vec::new(alloc);
+    reply.extend_from_slice(station.reply_data())?;
+    Ok(Member {
+        address: station.address(),
+        master: station.is_master(),
+        reply,
+    })
+}
+
+fn are_same_members(one: &Vec<Member>, other: &Vec<Member>) -> bool
+    ensures { IsTrue result ↔ (one.now.items ≡ other.now.items) }
+{
+    if one.len() != other.len() {
+        return false;
+    }
+    for place in 0..one.len() {
+        if !is_same_member(&one[place], &other[place]) {
+            return false;
+        }
+    }
+    true
+}
+
+fn is_same_member(one: &Member, other: &Member) -> bool
+    ensures { IsTrue result ↔ (one.now ≡ other.now) }
+{
+    one.address == other.address && one.master == other.master && one.reply == other.reply
+}

@@ -1,0 +1,130 @@
+ghost use Rattle.std.specs.Prelude.{◌≡◌, ◌↔◌, IsTrue, IfOk, length};
+ghost use Rattle.pb_runs.specs.Bus.{dues};
+ghost use Rattle.pb_segment.specs.Outlooks.{ShowsWorld};
+
+use pb_timers::Moment;
+use pb_world::World;
+use std::alloc::{AllocError, Global};
+use std::marker::Model;
+
+/// What the conductor is shown of the world after the first `place` events of the history.
+#[derive(Debug, Drop)]
+pub struct Outlook {
+    /// How many events stand before it.
+    pub place: usize,
+    /// The clock, in bit times.
+    pub now: Moment,
+    /// When each tap is due.
+    pub due: Dues,
+    /// The next moment at which something else changes, if there is one.
+    pub next_change: Option<Moment>,
+}
+
+impl Outlook {
+    /// What a world with so many taps shows after so many events. Its fault: memory was refused.
+    pub(crate) fn of(
+        alloc: Global,
+        world: &World,
+        taps: usize,
+        place: usize,
+    ) -> Result<Outlook, AllocError>
+        requires { taps ≡ length world.now.taps }
+        ensures shows { IfOk result (ShowsWorld world.entry.now) }
+        ensures place { IfOk result (λ o. o.place ≡ place) }
+    {
+        Ok(Outlook {
+            place,
+            now: world.now(),
+            due: due_moments(alloc, world, taps)?,
+            next_change: world.next_change(),
+        })
+    }
+
+    /// An equal outlook. Its fault: memory was refused.
+    pub(crate) fn copy(&self, alloc: Global) -> Result<Outlook, AllocError>
+        ensures { IfOk result (λ o. o ≡ self.entry.now) }
+    {
+        Ok(Outlook {
+            place: self.place,
+            now: self.now,
+            due: self.due.copy(alloc)?,
+            next_change: self.next_change,
+        })
+    }
+
+    /// Whether it shows the same as another, after as many events.
+    pub(crate) fn is_same(&self, other: &Outlook) -> bool
+        ensures { IsTrue result ↔ (self.entry.now ≡ other.entry.now) }
+    {
+        self.place == other.place
+            && self.now == other.now
+            && self.next_change == other.next_change
+            && self.due.is_same(&other.due)
+    }
+}
+
+/// When each tap is due, in the order of the taps: None for one that doesn't run, or waits for nothing.
+#[derive(Debug, Drop)]
+pub struct Dues {
+    moments: Vec<Option<Moment>>,
+}
+
+impl Model for Dues {
+    ghost use Rattle.std.specs.Prelude.{List, Option, ℕ};
+
+    ghost Value = { List (Option ℕ) };
+
+    ghost view = { λ d. d.moments.items };
+}
+
+impl Dues {
+    ghost use Rattle.std.specs.Prelude.{◌≡◌, ◌↔◌, IsTrue, IfOk};
+
+    /// When each tap is due, in bit times: as many as there are taps.
+    pub fn moments(&self) -> &[Option<Moment>]
+        ensures { result.now ≡ self.now }
+    {
+        &self.moments
+    }
+
+    fn copy(&self, alloc: Global) -> Result<Dues, AllocError>
+        ensures { IfOk result (λ d. d ≡ self.now) }
+    {
+        Ok(Dues {
+            moments: self.moments.to_vec(alloc)?,
+        })
+    }
+
+    fn is_same(&self, other: &Dues) -> bool
+        ensures { IsTrue result ↔ (self.now ≡ other.now) }
+    {
+        are_same(&self.moments, &other.moments)
+    }
+}
+
+fn are_same(one: &Vec<Option<Moment>>, other: &Vec<Option<Moment>>) -> bool
+    ensures { IsTrue result ↔ (one.now.items ≡ other.now.items) }
+{
+    if one.len() != other.len() {
+        return false;
+    }
+    for place in 0..one.len() {
+        if one[place] != other[place] {
+            return false;
+        }
+    }
+    true
+}
+
+/// When each tap of a world is due. Its fault: memory was refused.
+#[tactic(auto, using(crate::proofs::Showing::next_due))]
+fn due_moments(alloc: Global, world: &World, taps: usize) -> Result<Dues, AllocError>
+    requires { taps ≡ length world.now.taps }
+    ensures { IfOk result (λ d. d ≡ dues world.entry.now) }
+{
+    let mut moments = Vec::with_capacity(alloc, taps)?;
+    for tap in 0..taps {
+        moments.push(world.due(tap))?;
+    }
+    Ok(Dues { moments })
+}

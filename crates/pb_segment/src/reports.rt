@@ -1,0 +1,92 @@
+use crate::closing::audit;
+use crate::histories::History;
+use crate::locked::Locked;
+use crate::origins::Origin;
+use crate::seats::{ConductorSeat, TapSeat};
+use pb_world::Entry;
+use std::marker::Model;
+use std::sync::ledger::Ledger;
+
+/// What has happened on a segment that is closed: its history, the trace of the history's replay, and how many
+/// turns each tap took. [`close`](crate::SharedSegment::close) alone makes one.
+#[derive(Drop)]
+pub struct Report {
+    origin: Origin,
+    trace: Vec<Entry>,
+    history: History,
+    turns: Vec<usize>,
+}
+
+impl Model for Report {
+    ghost use Rattle.std.specs.Prelude.{map};
+    ghost use Rattle.pb_medium.specs.Entries.{entry_of};
+    ghost use Rattle.pb_segment.specs.Reports.{ReportView, IsReport, report_of};
+
+    ghost Value = { ReportView };
+
+    ghost view = { λ r. report_of r.origin (map entry_of r.trace.items) r.history r.turns.items };
+
+    ghost invariant = { λ r. IsReport (report_of r.origin (map entry_of r.trace.items) r.history r.turns.items) };
+}
+
+impl Report {
+    ghost use Rattle.std.specs.Prelude.{◌≡◌, map};
+    ghost use Rattle.pb_medium.specs.Entries.{entry_of};
+
+    /// The trace of the bus, as the world shows it after all events.
+    pub fn trace(&self) -> &[Entry]
+        ensures { map entry_of result.now ≡ self.now.trace }
+    {
+        &self.trace
+    }
+
+    /// All events that were accepted, each with its reply, in order.
+    pub fn history(&self) -> &History
+        ensures { result.now ≡ self.now.history }
+    {
+        &self.history
+    }
+
+    /// How many turns of each tap are among them.
+    pub fn turns(&self) -> &[usize]
+        ensures { result.now ≡ self.now.turns }
+    {
+        &self.turns
+    }
+}
+
+impl<L: Ledger> Locked<L> {
+    ghost use Rattle.std.specs.Prelude.{◌≡◌, ◌+◌, length, map, sum};
+    ghost use Rattle.pb_segment.specs.Reports.{AreOutlooksIn, IsReport};
+    ghost use Rattle.pb_segment.specs.Seats.{accepted};
+
+    /// What has happened, for one who has all seats. Together they had all events accepted.
+    pub(crate) fn into_report(self, conductor: ConductorSeat<L>, seats: Vec<TapSeat<L>>) -> Report
+        requires { length seats.items ≡ length self.turns }
+        ensures report { IsReport result }
+        ensures origin { result.origin ≡ self.origin }
+        ensures history { result.history ≡ self.history }
+        ensures turns { result.turns ≡ self.turns }
+        ensures trace { result.trace ≡ self.world.trace }
+        ensures outlooks { AreOutlooksIn result self.outlooks }
+        ensures all { length result.history ≡ length conductor.receipts + sum (map accepted seats.items) }
+    {
+        let Locked {
+            world,
+            origin,
+            history,
+            turns,
+            drives: _,
+            outlooks: _,
+            limit: _,
+            mut book,
+        } = self;
+        audit(&mut book, conductor, seats);
+        Report {
+            origin,
+            trace: world.into_trace(),
+            history: History::of(history),
+            turns,
+        }
+    }
+}

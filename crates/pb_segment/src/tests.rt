@@ -1,0 +1,166 @@
+ghost use Rattle.std.specs.Prelude.{◌≡◌, ◌+◌, ◌<◌, ◌≤◌, length};
+ghost use Rattle.pb_segment.specs.Origins.{IsNew};
+
+use crate::{CloseFault, CommitFault, ConductorSeat, Outlook, SharedSegment, TapSeat};
+use arrayvec::ArrayVec;
+use pb_station::decide;
+use pb_timers::BusParams;
+use pb_world::{Event, Kind, TapSpec, World, WorldFault};
+use std::marker::Brand;
+use std::process::Abort;
+use std::sync::Wait;
+use std::sync::ledger::{Blank, Ledger};
+
+/// A slot of 100, idle times 37 and 60, reply delay 11, no lag, rotation 10,000, GAP factor 10, highest
+/// address 5, one retry.
+fn usual(rt: &impl Abort) -> BusParams {
+    BusParams::new(100, 37, 60, 11, 0, 10_000, 10, 5, 1).expect(rt, "the usual parameters")
+}
+
+fn master(address: u8) -> TapSpec {
+    TapSpec {
+        address,
+        kind: Kind::Master,
+        reply: ArrayVec::new(),
+    }
+}
+
+fn due(outlook: &Outlook, tap: usize) -> Option<u64> {
+    let moment = (*outlook.due.moments().get(tap)?)?;
+    Some(moment.get())
+}
+
+/// A world with two masters, which don't run yet.
+fn two_masters(rt: &(impl AllocGlobal + Abort)) -> World
+    ensures new { IsNew result }
+    ensures taps { length result.taps ≡ 2 }
+{
+    let specs = [master(1), master(2)];
+    World::new(rt.alloc(), usual(rt), &specs).expect(rt, "a world")
+}
+
+/// Of two decisions on one tap the second is stale; seats are asked for at the end.
+fn two_decisions<L: Ledger, R: AllocGlobal + Abort + Wait>(rt: &R, blank: Blank, world: World)
+    requires name { blank.name ≡ L.name }
+    requires parts { blank.parts ≡ L.parts }
+    requires one_each { blank.parts ≡ length world.taps + 1 }
+    requires new { IsNew world }
+{
+    let alloc = rt.alloc();
+    let (segment, mut conductor, mut seats) = SharedSegment::<L>::new(alloc, blank, world).expect(
+        rt,
+        "a segment",
+    );
+    let mut second = seats.pop().expect(rt, "the second seat");
+    let mut first = seats.pop().expect(rt, "the first seat");
+    let before = segment
+        .outlook(rt, alloc, &mut conductor)
+        .expect(rt, "an outlook");
+    assert_eq!(rt; (before.place, before.now.get()), (0, 0));
+    assert_eq!(rt; (due(&before, 0), due(&before, 1)), (None, None));
+    assert!(rt; before.next_change.is_none());
+    for (place, event) in [Event::Start(0), Event::Start(1), Event::Pass(800)]
+        .into_iter()
+        .enumerate()
+    {
+        let receipt = segment
+            .drive(rt, alloc, &mut conductor, event)
+            .expect(rt, "an event");
+        assert_eq!(rt; receipt.place, place);
+    }
+    let glance = segment.glance(rt, alloc, &first).expect(rt, "a glance");
+    let again = segment.glance(rt, alloc, &first).expect(rt, "a glance");
+    let other = segment.glance(rt, alloc, &first).expect(rt, "a glance");
+    let decision = decide(alloc, glance).expect(rt, "a decision");
+    let stale = decide(alloc, again).expect(rt, "a decision");
+    let foreign = decide(alloc, other).expect(rt, "a decision");
+    let receipt = segment
+        .commit(rt, alloc, &mut first, decision)
+        .expect(rt, "a turn");
+    assert_eq!(rt; receipt.place, 3);
+    assert!(rt; receipt.reply.spoke.is_some());
+    let fault = segment.commit(rt, alloc, &mut first, stale).err();
+    let expected = CommitFault::Stale { turns: 1, now: 800 };
+    assert_eq!(rt; fault, Some(expected));
+    let fault = segment.commit(rt, alloc, &mut second, foreign).err();
+    assert_eq!(rt; fault, Some(CommitFault::WrongTap));
+    let fault = segment
+        .drive(rt, alloc, &mut conductor, Event::Turn(0))
+        .err();
+    assert_eq!(rt; fault, Some(CommitFault::WrongTap));
+    let glance = segment.glance(rt, alloc, &first).expect(rt, "a glance");
+    assert_eq!(rt; glance.station.phase().name(), "Claim");
+    let after = segment
+        .outlook(rt, alloc, &mut conductor)
+        .expect(rt, "an outlook");
+    assert_eq!(rt; (after.place, after.now.get()), (4, 800));
+    assert_eq!(rt; (due(&after, 0), due(&after, 1)), (Some(870), Some(1000)));
+    assert_eq!(rt; after.next_change.map(|m| m.get()), Some(801));
+    seats.push(first).expect(rt, "room");
+    closes(rt, segment, conductor, seats, second);
+}
+
+/// A seat is missing; then all are there.
+fn closes<L: Ledger, R: Abort>(
+    rt: &R,
+    segment: SharedSegment<L>,
+    conductor: ConductorSeat<L>,
+    seats: Vec<TapSeat<L>>,
+    last: TapSeat<L>,
+) {
+    let Some(mut back) = segment.close(conductor, seats).err() else {
+        panic!(rt; "closed without a seat");
+    };
+    assert_eq!(rt; back.fault, CloseFault::MissingSeat);
+    back.seats.push(last).expect(rt, "room");
+    let Ok(report) = back.segment.close(back.conductor, back.seats) else {
+        panic!(rt; "not closed");
+    };
+    assert_eq!(rt; report.history().len(), 4);
+    assert_eq!(rt; report.turns(), [1, 0].as_slice());
+    assert_eq!(rt; report.trace().len(), 1);
+    let (event, reply) = report.history().at(3).expect(rt, "an event");
+    assert!(rt; *event == Event::Turn(0));
+    assert_eq!(rt; reply.now.get(), 800);
+    assert!(rt; report.history().at(4).is_none());
+}
+
+#[test]
+fn of_two_decisions_one_is_stale(rt: HostRuntime) {
+    let world = two_masters(&rt);
+    let blank = Blank::new(world.taps() as u64 + 1);
+    two_decisions::<Brand, HostRuntime>(&rt, blank, world);
+}
+
+/// A history of two events; the world's own fault comes first.
+fn full_history<L: Ledger, R: AllocGlobal + Abort + Wait>(rt: &R, blank: Blank, world: World)
+    requires name { blank.name ≡ L.name }
+    requires parts { blank.parts ≡ L.parts }
+    requires one_each { blank.parts ≡ length world.taps + 1 }
+    requires new { IsNew world }
+{
+    let alloc = rt.alloc();
+    let (segment, mut conductor, _seats) = SharedSegment::<L>::with_history(
+        alloc, blank, world, 2,
+    ).expect(rt, "a segment");
+    for event in [Event::Start(0), Event::Start(1)] {
+        segment
+            .drive(rt, alloc, &mut conductor, event)
+            .expect(rt, "a start");
+    }
+    let fault = segment
+        .drive(rt, alloc, &mut conductor, Event::Pass(0))
+        .err();
+    assert_eq!(rt; fault, Some(CommitFault::World(WorldFault::ZeroTime)));
+    let fault = segment
+        .drive(rt, alloc, &mut conductor, Event::Pass(1))
+        .err();
+    assert_eq!(rt; fault, Some(CommitFault::HistoryFull));
+}
+
+#[test]
+fn a_full_history_takes_no_more(rt: HostRuntime) {
+    let world = two_masters(&rt);
+    let blank = Blank::new(world.taps() as u64 + 1);
+    full_history::<Brand, HostRuntime>(&rt, blank, world);
+}
