@@ -1,5 +1,3 @@
 mod Streamed
-mod HexPairs
 mod Pairs
-mod OneMoreLine
 mod SpelledText

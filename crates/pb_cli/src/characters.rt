@@ -3,7 +3,6 @@ ghost use Rattle.hex.specs.Hex.{hex_digit_value};
 ghost use Rattle.pb_telegram.specs.Receiving.{StandsFor};
 ghost use Rattle.pb_cli.specs.Characters.{is_blank, octet_of_digits, character_of, characters_of, IsNextDigit};
 
-use hex::FromHex;
 use pb_telegram::{Receiver, RxChar};
 
 /// Feeds the characters that a line of hex stands for to a receiver to which none has come, and
@@ -67,8 +66,18 @@ fn character(first: u8, second: u8) -> Option<RxChar>
 fn octet(high: u8, low: u8) -> Option<u8>
     ensures { result ≡ octet_of_digits (hex_digit_value high) (hex_digit_value low) }
 {
-    match <[u8; 1]>::from_hex([high, low].as_slice()) {
-        Ok(octets) => Some(octets[0]),
-        Err(_) => None,
+    Some(digit(high)? * 16 + digit(low)?)
+}
+
+/// The value of a hex digit of either case.
+fn digit(byte: u8) -> Option<u8>
+    ensures value { result ≡ hex_digit_value byte }
+    ensures bound { IfSome result (λ value. value < 16) }
+{
+    match byte {
+        0..=b'9' => byte.checked_sub(b'0'),
+        b'a'..=b'f' => Some(byte - b'a' + 10),
+        b'A'..=b'F' => Some(byte - b'A' + 10),
+        _ => None,
     }
 }

@@ -28,7 +28,9 @@ pub fn decode(alloc: Global, input: &[u8]) -> Result<Decoded, AllocError>
     let mut receiver = Receiver::new();
     let mut is_refused = false;
     for line in input.lines() {
-        is_refused |= push_line(&mut text, &mut receiver, line)?;
+        if push_line(&mut text, &mut receiver, line)? {
+            is_refused = true;
+        }
     }
     Ok(Decoded { text, is_refused })
 }
@@ -40,7 +42,7 @@ fn push_line(text: &mut Vec<u8>, receiver: &mut Receiver, line: &[u8]) -> Result
     ensures refused { IfOk result (λ refused. refused ≡ is_refused (characters_of line.now)) }
 {
     let refused = push_hex(text, receiver, line)?;
-    text.extend_from_slice(b"\n")?;
+    text.push(b'\n')?;
     Ok(refused)
 }
 
