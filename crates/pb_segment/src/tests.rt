@@ -1,7 +1,9 @@
 ghost use Rattle.std.specs.Prelude.{◌≡◌, ◌+◌, ◌<◌, ◌≤◌, length};
 ghost use Rattle.pb_segment.specs.Origins.{IsNew};
 
-use crate::{CloseFault, CommitFault, ConductorSeat, Outlook, SharedSegment, TapSeat};
+use crate::{
+    CloseFault, CommitFault, ConductorSeat, GlanceFault, Outlook, Receipt, SharedSegment, TapSeat,
+};
 use arrayvec::ArrayVec;
 use pb_station::decide;
 use pb_timers::BusParams;
@@ -10,6 +12,8 @@ use std::marker::Brand;
 use std::process::Abort;
 use std::sync::Wait;
 use std::sync::ledger::{Blank, Ledger};
+use std::thread;
+use std::thread::Threads;
 
 /// A slot of 100, idle times 37 and 60, reply delay 11, no lag, rotation 10,000, GAP factor 10, highest
 /// address 5, one retry.
@@ -163,4 +167,212 @@ fn a_full_history_takes_no_more(rt: HostRuntime) {
     let world = two_masters(&rt);
     let blank = Blank::new(world.taps() as u64 + 1);
     full_history::<Brand, HostRuntime>(&rt, blank, world);
+}
+
+/// How many events of each seat are to be accepted, and how often it is tried.
+const ACCEPTED: usize = 100;
+
+const TRIES: u32 = 1_000_000;
+
+/// Two threads take the turns of a tap each, while time passes in a third.
+fn three_threads<L: Ledger + Send + Sync, R: AllocGlobal + Abort + Threads + Wait + Sync>(
+    rt: &R,
+    blank: Blank,
+    world: World,
+)
+    requires name { blank.name ≡ L.name }
+    requires parts { blank.parts ≡ L.parts }
+    requires one_each { blank.parts ≡ length world.taps + 1 }
+    requires new { IsNew world }
+{
+    let alloc = rt.alloc();
+    let (segment, mut conductor, seats) = SharedSegment::<L>::new(alloc, blank, world).expect(
+        rt,
+        "a segment",
+    );
+    for event in [Event::Start(0), Event::Start(1)] {
+        segment
+            .drive(rt, alloc, &mut conductor, event)
+            .expect(rt, "a start");
+    }
+    let seats = race(rt, &segment, &mut conductor, seats);
+    let Ok(report) = segment.close(conductor, seats) else {
+        panic!(rt; "not closed");
+    };
+    assert_eq!(rt; report.turns(), [ACCEPTED, ACCEPTED].as_slice());
+    assert_eq!(rt; report.history().len(), 2 + 3 * ACCEPTED);
+}
+
+/// A thread for each seat takes turns, while time passes in this one; the seats come back in their order.
+fn race<L: Ledger + Send + Sync, R: AllocGlobal + Abort + Threads + Wait + Sync>(
+    rt: &R,
+    segment: &SharedSegment<L>,
+    conductor: &mut ConductorSeat<L>,
+    seats: Vec<TapSeat<L>>,
+) -> Vec<TapSeat<L>> {
+    thread::scope(thread::scope_env(), rt, |scope| -> Vec<TapSeat<L>> {
+        let mut running = Vec::new(rt.alloc());
+        for seat in seats {
+            let thread = scope
+                .spawn(move || takes_turns(rt, segment, seat))
+                .expect(rt, "a thread");
+            running.push(thread).expect(rt, "room");
+        }
+        passes_time(rt, segment, conductor);
+        let mut back = Vec::new(rt.alloc());
+        for thread in running {
+            back.push(thread.join(rt)).expect(rt, "room");
+        }
+        back
+    })
+}
+
+/// Takes turns until enough were accepted.
+fn takes_turns<L: Ledger, R: AllocGlobal + Abort + Wait>(
+    rt: &R,
+    segment: &SharedSegment<L>,
+    mut seat: TapSeat<L>,
+) -> TapSeat<L> {
+    let mut accepted: usize = 0;
+    for _ in 0..TRIES {
+        if accepted >= ACCEPTED {
+            break;
+        }
+        let glance = segment.glance(rt, rt.alloc(), &seat).expect(rt, "a glance");
+        let decision = decide(rt.alloc(), glance).expect(rt, "a decision");
+        match segment.commit(rt, rt.alloc(), &mut seat, decision) {
+            Ok(_) => accepted += 1,
+            Err(CommitFault::Stale { .. }) => {}
+            Err(fault) => panic!(rt; "{fault}"),
+        }
+    }
+    seat
+}
+
+fn passes_time<L: Ledger, R: AllocGlobal + Abort + Wait>(
+    rt: &R,
+    segment: &SharedSegment<L>,
+    conductor: &mut ConductorSeat<L>,
+) {
+    for _ in 0..ACCEPTED {
+        segment
+            .drive(rt, rt.alloc(), conductor, Event::Pass(1))
+            .expect(rt, "a bit time");
+    }
+}
+
+#[test]
+fn three_threads_have_their_events_accepted(rt: HostRuntime) {
+    let world = two_masters(&rt);
+    let blank = Blank::new(world.taps() as u64 + 1);
+    three_threads::<Brand, HostRuntime>(&rt, blank, world);
+}
+
+/// Run with one allocation refused: the call that it refuses changes nothing, and answers as ever the next time.
+fn refused_once<L: Ledger, R: AllocGlobal + Abort + Print + Wait>(
+    rt: &R,
+    blank: Blank,
+    world: World,
+)
+    requires name { blank.name ≡ L.name }
+    requires parts { blank.parts ≡ L.parts }
+    requires one_each { blank.parts ≡ length world.taps + 1 }
+    requires new { IsNew world }
+{
+    let Ok((segment, mut conductor, mut seats)) = SharedSegment::<L>::new(rt.alloc(), blank, world)
+    else {
+        refused(rt);
+        return;
+    };
+    let last = seats.pop().expect(rt, "the second seat");
+    let mut first = seats.pop().expect(rt, "the first seat");
+    for (place, event) in [Event::Start(0), Event::Start(1), Event::Pass(800)]
+        .into_iter()
+        .enumerate()
+    {
+        assert_eq!(rt; driven(rt, &segment, &mut conductor, event).place, place);
+    }
+    let receipt = match turn(rt, &segment, &mut first) {
+        Some(receipt) => receipt,
+        None => {
+            refused(rt);
+            turn(rt, &segment, &mut first).expect(rt, "a turn")
+        }
+    };
+    assert_eq!(rt; receipt.place, 3);
+    let after = shown(rt, &segment, &mut conductor);
+    assert_eq!(rt; (after.place, after.now.get()), (4, 800));
+    assert_eq!(rt; (due(&after, 0), due(&after, 1)), (Some(870), Some(1000)));
+    if seats.push(first).is_err() {
+        refused(rt);
+        return;
+    }
+    closes(rt, segment, conductor, seats, last);
+}
+
+fn refused(rt: &impl Print) {
+    let _ = println!(rt; "refused");
+}
+
+fn driven<L: Ledger, R: AllocGlobal + Abort + Print + Wait>(
+    rt: &R,
+    segment: &SharedSegment<L>,
+    conductor: &mut ConductorSeat<L>,
+    event: Event,
+) -> Receipt {
+    match segment.drive(rt, rt.alloc(), conductor, event.copy()) {
+        Ok(receipt) => receipt,
+        Err(fault) => {
+            assert_eq!(rt; fault, CommitFault::World(WorldFault::NoMemory));
+            refused(rt);
+            segment
+                .drive(rt, rt.alloc(), conductor, event)
+                .expect(rt, "an event")
+        }
+    }
+}
+
+fn shown<L: Ledger, R: AllocGlobal + Abort + Print + Wait>(
+    rt: &R,
+    segment: &SharedSegment<L>,
+    conductor: &mut ConductorSeat<L>,
+) -> Outlook {
+    match segment.outlook(rt, rt.alloc(), conductor) {
+        Ok(outlook) => outlook,
+        Err(fault) => {
+            assert_eq!(rt; fault, GlanceFault::NoMemory);
+            refused(rt);
+            segment
+                .outlook(rt, rt.alloc(), conductor)
+                .expect(rt, "an outlook")
+        }
+    }
+}
+
+/// The receipt of a turn. None where memory was refused.
+fn turn<L: Ledger, R: AllocGlobal + Abort + Wait>(
+    rt: &R,
+    segment: &SharedSegment<L>,
+    seat: &mut TapSeat<L>,
+) -> Option<Receipt> {
+    let glance = segment.glance(rt, rt.alloc(), seat).ok()?;
+    let decision = decide(rt.alloc(), glance).ok()?;
+    match segment.commit(rt, rt.alloc(), seat, decision) {
+        Ok(receipt) => Some(receipt),
+        Err(fault) => {
+            assert_eq!(rt; fault, CommitFault::World(WorldFault::NoMemory));
+            None
+        }
+    }
+}
+
+#[test]
+fn refused_memory_in_a_segment(rt: HostRuntime) {
+    let specs = [master(1), master(2)];
+    let Ok(world) = World::new(rt.alloc(), usual(&rt), &specs) else {
+        refused(&rt);
+        return;
+    };
+    let blank = Blank::new(world.taps() as u64 + 1);
+    refused_once::<Brand, HostRuntime>(&rt, blank, world);
 }
