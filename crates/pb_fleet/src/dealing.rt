@@ -1,3 +1,5 @@
+ghost use Rattle.std.specs.Prelude.{◌<◌};
+
 use pb_segment::TapSeat;
 use std::alloc::{AllocError, Global};
 use std::sync::ledger::Ledger;
