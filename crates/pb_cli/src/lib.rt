@@ -1,14 +1,15 @@
 //! What the program `ringplay` does, over any reader and writer.
 //!
-//! [`ask`] reads the program's words, and [`decode_lines`] turns lines of hex into lines of text.
-//! The contracts name the bytes: what is written is a stated function of what is read, and `Read`,
-//! `TooLong` and `Write` come only where their cause is. [`Source`] and [`Sink`] are what is read
+//! [`ask`] reads the program's words, [`decode_lines`] turns lines of hex into lines of text, and
+//! [`audit_file`] judges the run of a scenario file. The contracts name the bytes: what is written is
+//! a stated function of what is read, and `Read`, `TooLong` and `Write` come only where their cause is. [`Source`] and [`Sink`] are what is read
 //! from and written to; [`CountedReader`] and [`CountedWriter`] make them of any reader and writer
 //! of std.
 #![tactic(auto)]
 
 mod answers;
 mod asking;
+mod auditing;
 mod characters;
 mod counted_reader;
 mod counted_writer;
@@ -23,6 +24,7 @@ mod words;
 mod writing;
 
 pub use asking::ask;
+pub use auditing::audit_file;
 pub use counted_reader::CountedReader;
 pub use counted_writer::CountedWriter;
 pub use decoding::decode_lines;

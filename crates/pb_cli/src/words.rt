@@ -5,10 +5,15 @@ use std::alloc::AllocError;
 use thiserror::Error;
 
 /// What the program is asked to do.
-#[derive(Clone, Copy, Debug, PartialEq, Eq)]
+#[derive(Debug, PartialEq, Eq, Drop)]
 pub enum Ask {
     /// Turn lines of hex on standard input into lines of text.
     Decode,
+    /// Judge the run of a scenario file.
+    Audit {
+        /// The file's path.
+        file: String,
+    },
 }
 
 /// Why the program's words ask for nothing that it can do.

@@ -7,12 +7,13 @@
 ghost use Rattle.std.specs.Prelude.{◌≡◌};
 ghost use Rattle.ringplay.specs.ExitStatus.{exit_status_of, words_status_of};
 
-use pb_cli::{Ask, AskFault, CliFault, CountedReader, CountedWriter, Status, ask, decode_lines};
+use pb_cli::{Ask, AskFault, CliFault, CountedReader, CountedWriter, Status, ask, audit_file, decode_lines};
 use std::fmt::Display;
+use std::fs::Files;
 use std::io::ErrorKind;
 use std::process::ExitCode;
 use std::rt::Env;
-use std::{env, io};
+use std::{env, fs, io};
 
 const DONE: u8 = 0;
 
@@ -27,6 +28,7 @@ const MEMORY: u8 = 4;
 fn main(rt: HostRuntime) -> ExitCode {
     let status = match asked(&rt) {
         Ok(Ask::Decode) => exit_status(&rt, decode(&rt)),
+        Ok(Ask::Audit { file }) => exit_status(&rt, audit(&rt, file.as_str())),
         Err(fault) => words_status(&rt, fault),
     };
     ExitCode::from(status)
@@ -52,6 +54,22 @@ fn decode(rt: &(impl AllocGlobal + Input + Print)) -> Result<Status, CliFault> {
     let mut reader = CountedReader::new(rt.reader());
     let mut writer = CountedWriter::new(io::writer(rt));
     decode_lines(rt.alloc(), &mut reader, &mut writer)
+}
+
+/// `ringplay audit FILE`, to standard output.
+fn audit(rt: &(impl AllocGlobal + Files + Print), path: &str) -> Result<Status, CliFault> {
+    let mut reader = CountedReader::new(opened(rt, path)?);
+    let mut writer = CountedWriter::new(io::writer(rt));
+    audit_file(rt.alloc(), &mut reader, &mut writer)
+}
+
+/// The file at a path; one that can't be opened can't be read.
+fn opened<R: Files>(rt: &R, path: &str) -> Result<R::File, CliFault> {
+    match fs::open(rt, path) {
+        Ok(file) => Ok(file),
+        Err(error) if error.kind() == ErrorKind::OutOfMemory => Err(CliFault::NoMemory),
+        Err(_) => Err(CliFault::Read),
+    }
 }
 
 /// The exit status of words that ask for nothing that the program can do; what to write goes to standard error.

@@ -17,14 +17,20 @@ fn decode_is_understood(rt: HostRuntime) -> Result<(), Fail> {
 }
 
 #[test]
+fn audit_takes_a_file(rt: HostRuntime) -> Result<(), Fail> {
+    let words = words(rt.alloc(), "ringplay audit rings/two.toml")?;
+    let file = String::from_str(rt.alloc(), "rings/two.toml")?;
+    assert_eq!(rt; ask(rt.alloc(), &words)?, Ask::Audit { file });
+    Ok(())
+}
+
+#[test]
 fn other_words_get_a_usage_text(rt: HostRuntime) -> Result<(), Fail> {
     for (line, shown) in [
         ("ringplay", "Usage: ringplay <COMMAND>"),
         ("ringplay run ring.toml", "unrecognized subcommand 'run'"),
-        (
-            "ringplay audit ring.toml",
-            "unrecognized subcommand 'audit'",
-        ),
+        ("ringplay audit", "<FILE>"),
+        ("ringplay audit ring.toml 3", "unexpected argument '3'"),
         ("ringplay decode dc0302", "unexpected argument 'dc0302'"),
         ("ringplay decode decode", "unexpected argument 'decode'"),
         (

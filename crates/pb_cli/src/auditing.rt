@@ -1,0 +1,67 @@
+ghost use Rattle.std.specs.Prelude.{◌≡◌, ◌≢◌, ◌≤◌, ◌<◌, ◌+◌, length, Err, IfOk, IfErr, OnOk, IfSome, IsErrOf};
+ghost use Rattle.std.specs.Io.KnownBytes.{Appends, Keeps};
+ghost use Rattle.pb_show.specs.Files.{audit_of};
+ghost use Rattle.pb_cli.specs.Decoding.{status_of};
+ghost use Rattle.pb_cli.specs.Reading.{byte_limit, call_limit, IsReadCause};
+ghost use Rattle.pb_cli.specs.Writing.{AppendsFront, IsWriteCause};
+
+use crate::faults::{CliFault, Status};
+use crate::reading::read_input;
+use crate::streams::{Sink, Source};
+use crate::writing::write_out;
+use pb_show::audited;
+use std::alloc::Global;
+
+/// Reads a scenario file to the end of the reader, and writes the audit of its run on one thread: a line for the first
+/// premise that broke, with the clock in bit times, and a line for the first illegal initiator record, by its position in
+/// the trace from 0. Where the file or its run is refused, it writes the line of that fault. The whole text is made before
+/// the first write.
+///
+/// At `Ok` the writer holds that text, and the status is `Refused` exactly where the file or the run is refused or a record
+/// is illegal. Faults: `Read` where the reader failed, or all 2,097,152 read calls were made and at least half of them were
+/// interrupted; `TooLong` for a file of more than 1,048,576 bytes; `Write` where the writer failed, or was interrupted
+/// 1,001 times in a row; `NoMemory`. After `Write` a front of the text went out, after the other faults nothing.
+pub fn audit_file<R: Source, W: Sink>(
+    alloc: Global,
+    reader: &mut R,
+    writer: &mut W,
+) -> Result<Status, CliFault>
+    ensures text { OnOk result (IfSome (R.remaining reader.old) (λ file.
+        Appends (W.contents writer.old) (W.contents writer.new) (audit_of file).text)) }
+    ensures status { IfOk result (λ status. IfSome (R.remaining reader.old) (λ file.
+        status ≡ status_of (audit_of file).is_refused)) }
+    ensures fits { OnOk result (IfSome (R.remaining reader.old) (λ file. length file ≤ byte_limit)) }
+
+    ensures write_fits { IsErrOf result CliFault.Write
+        → IfSome (R.remaining reader.old) (λ file. length file ≤ byte_limit) }
+    ensures calls { R.calls reader.new ≤ R.calls reader.old + call_limit }
+
+    // A fault comes only where its cause is.
+    ensures read { IsErrOf result CliFault.Read
+        → IsReadCause (R.failures reader.old) (R.failures reader.new)
+        (R.calls reader.old) (R.calls reader.new) (R.interruptions reader.old) (R.interruptions reader.new) }
+    ensures too_long { IsErrOf result CliFault.TooLong
+        → IfSome (R.remaining reader.old) (λ file. byte_limit < length file) }
+    ensures write { IsErrOf result CliFault.Write
+        → IsWriteCause (W.failures writer.old) (W.failures writer.new)
+        (W.interruptions writer.old) (W.interruptions writer.new) (W.in_a_row writer.new) }
+
+    // A failure of the reader or of the writer is told.
+    ensures reader_failed { result ≢ Err CliFault.Read → R.failures reader.new ≡ R.failures reader.old }
+    ensures writer_failed { result ≢ Err CliFault.Write → W.failures writer.new ≡ W.failures writer.old }
+
+    // After a failed write a front of the text went out, after another fault nothing.
+    ensures front { IsErrOf result CliFault.Write → IfSome (R.remaining reader.old) (λ file.
+        AppendsFront (W.contents writer.old) (W.contents writer.new) (audit_of file).text) }
+    ensures nothing { IfErr result (λ fault. fault ≢ CliFault.Write
+        → Keeps (W.contents writer.old) (W.contents writer.new)) }
+{
+    let file = read_input(alloc, reader)?;
+    let shown = audited(alloc, &file)?;
+    write_out(writer, &shown.text)?;
+    Ok(if shown.is_refused {
+        Status::Refused
+    } else {
+        Status::Done
+    })
+}

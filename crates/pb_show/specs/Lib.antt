@@ -1,0 +1,5 @@
+pub mod Names
+pub mod Shown
+pub mod Faults
+pub mod Audits
+pub mod Files

@@ -1,0 +1,54 @@
+ghost use Rattle.std.specs.Prelude.{◌≡◌, ◌++◌, IfOk, OnOk};
+ghost use Rattle.std.specs.Option.{option_map};
+ghost use Rattle.pb_audit.specs.Auditing.{broken_at};
+ghost use Rattle.pb_show.specs.Audits.{broken_of, found, legality_line, premise_line};
+ghost use Rattle.pb_show.specs.Shown.{shown_of};
+
+use crate::numbers::push_number;
+use crate::shown::Shown;
+use pb_timers::Moment;
+use pb_world::Audit;
+use std::alloc::{AllocError, Global};
+
+/// What is written for what an audit finds.
+pub fn findings(alloc: Global, audit: &Audit) -> Result<Shown, AllocError>
+    ensures { IfOk result (λ shown. shown_of shown ≡ found (broken_of audit.now) audit.now.illegal) }
+{
+    let mut text = Vec::new(alloc);
+    push_premise(&mut text, audit.premise)?;
+    push_legality(&mut text, audit.illegal)?;
+    Ok(Shown {
+        text,
+        is_refused: audit.illegal.is_some(),
+    })
+}
+
+/// Appends the line of the first premise that broke, by its number, and the clock.
+fn push_premise(text: &mut Vec<u8>, premise: Option<(u8, Moment)>) -> Result<(), AllocError>
+    ensures { OnOk result (text.new.items ≡ text.old.items ++ premise_line (option_map broken_at premise)) }
+{
+    match premise {
+        None => text.extend_from_slice(b"premises kept\n"),
+        Some((number, clock)) => {
+            text.extend_from_slice(b"premise P")?;
+            push_number(text, number)?;
+            text.extend_from_slice(b" broken at ")?;
+            push_number(text, clock.get())?;
+            text.extend_from_slice(b"\n")
+        }
+    }
+}
+
+/// Appends the line of the first illegal initiator record, by its position in the trace.
+fn push_legality(text: &mut Vec<u8>, illegal: Option<usize>) -> Result<(), AllocError>
+    ensures { OnOk result (text.new.items ≡ text.old.items ++ legality_line illegal) }
+{
+    match illegal {
+        None => text.extend_from_slice(b"trace legal\n"),
+        Some(place) => {
+            text.extend_from_slice(b"record ")?;
+            push_number(text, place)?;
+            text.extend_from_slice(b" illegal\n")
+        }
+    }
+}

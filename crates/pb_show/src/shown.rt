@@ -1,0 +1,23 @@
+/// What is written for a file.
+#[derive(Debug, PartialEq, Eq, Drop)]
+pub struct Shown {
+    /// The text.
+    pub text: Vec<u8>,
+    /// Whether it tells of a refusal, or of an illegal trace.
+    pub is_refused: bool,
+}
+
+impl Shown {
+    ghost use Rattle.std.specs.Prelude.{◌≡◌};
+    ghost use Rattle.pb_show.specs.Shown.{refusal, shown_of};
+
+    /// The text of a refusal.
+    pub(crate) fn refusal(text: Vec<u8>) -> Shown
+        ensures { shown_of result ≡ refusal text.items }
+    {
+        Shown {
+            text,
+            is_refused: true,
+        }
+    }
+}

@@ -1,0 +1,39 @@
+use crate::audited;
+
+/// Two masters that start in the instants that make up the difference of their time-outs.
+const FILE: &[u8] = b"version = 1
+until = 1100
+[bus]
+tsl = 100
+tid1 = 37
+tid2 = 60
+tsdr = 11
+lag = 0
+ttr = 10000
+gap = 10
+hsa = 5
+retries = 1
+[[tap]]
+name = \"a\"
+kind = \"master\"
+address = 1
+[[tap]]
+name = \"b\"
+kind = \"master\"
+address = 2
+[[step]]
+at = 0
+do = \"start\"
+tap = \"b\"
+[[step]]
+at = 200
+do = \"start\"
+tap = \"a\"
+";
+
+#[test]
+fn an_audit_names_premise_and_record(rt: HostRuntime) {
+    let shown = audited(rt.alloc(), FILE).expect(&rt, "memory");
+    assert!(rt; shown.text.as_slice() == b"premise P4 broken at 1000\nrecord 1 illegal\n".as_slice());
+    assert!(rt; shown.is_refused);
+}
