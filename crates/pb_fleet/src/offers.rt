@@ -2,10 +2,14 @@
 
 use crate::dealing::seat_of;
 use std::alloc::{AllocError, Global};
+use std::hint::spin_loop;
 use std::mem;
 use std::sync::atomic::{AtomicBool, AtomicUsize, Ordering};
 use std::sync::{Mutex, Wait};
 use std::thread::Parker;
+
+/// How often one looks whether it may go on before it sleeps: a few microseconds, less than a wake-up takes.
+const LOOKS: u32 = 100;
 
 /// The turns that are offered in an instant.
 #[derive(Drop)]
@@ -23,7 +27,41 @@ pub(crate) struct Offers {
 #[derive(Drop)]
 struct Desk {
     offer: Mutex<Offer>,
+    /// Whether there is something to take, for one who only looks.
+    is_called: AtomicBool,
     worker: Parker,
+}
+
+impl Desk {
+    fn new(alloc: Global) -> Desk {
+        Desk {
+            offer: Mutex::new(Offer::none(alloc)),
+            is_called: AtomicBool::new(false),
+            worker: Parker::new(),
+        }
+    }
+
+    /// Calls the worker to what was put there.
+    fn call(&self) {
+        self.is_called.store(true, Ordering::SeqCst);
+        self.worker.unpark();
+    }
+
+    /// Exchanges what is there.
+    fn exchange<R: Wait>(&self, rt: &R, mine: &mut Offer) {
+        self.is_called.store(false, Ordering::SeqCst);
+        mem::swap(&mut *self.offer.lock(rt), mine);
+    }
+
+    /// Looks for a while whether the worker is called.
+    fn look(&self) {
+        for _ in 0..LOOKS {
+            if self.is_called.load(Ordering::SeqCst) {
+                break;
+            }
+            spin_loop();
+        }
+    }
 }
 
 /// What a worker is offered: turns at a moment.
@@ -52,10 +90,7 @@ impl Offers {
     pub(crate) fn new(alloc: Global, workers: usize) -> Result<Offers, AllocError> {
         let mut desks = Vec::with_capacity(alloc, workers)?;
         for _ in 0..workers {
-            desks.push(Desk {
-                offer: Mutex::new(Offer::none(alloc)),
-                worker: Parker::new(),
-            })?;
+            desks.push(Desk::new(alloc))?;
         }
         Ok(Offers {
             desks,
@@ -75,13 +110,28 @@ impl Offers {
     ) -> Result<bool, AllocError> {
         self.open.store(taps.len(), Ordering::SeqCst);
         self.post(rt, now, taps)?;
+        self.look();
         for _ in rt.forever() {
-            if self.open.load(Ordering::SeqCst) == 0 {
+            if self.are_served() {
                 break;
             }
             self.conductor.park(rt);
         }
         Ok(!self.failed.load(Ordering::SeqCst))
+    }
+
+    /// Looks for a while whether all offers are served.
+    fn look(&self) {
+        for _ in 0..LOOKS {
+            if self.are_served() {
+                break;
+            }
+            spin_loop();
+        }
+    }
+
+    fn are_served(&self) -> bool {
+        self.open.load(Ordering::SeqCst) == 0
     }
 
     /// All are offered before anyone is woken.
@@ -97,7 +147,7 @@ impl Offers {
             offer.positions.push(to.position)?;
         }
         for tap in taps {
-            self.desks[seat_of(*tap, workers).worker].worker.unpark();
+            self.desks[seat_of(*tap, workers).worker].call();
         }
         Ok(())
     }
@@ -109,8 +159,9 @@ impl Offers {
             return false;
         };
         mine.positions.clear();
+        desk.look();
         for _ in rt.forever() {
-            mem::swap(&mut *desk.offer.lock(rt), mine);
+            desk.exchange(rt, mine);
             if mine.ended {
                 return false;
             }
@@ -136,7 +187,7 @@ impl Offers {
     pub(crate) fn end<R: Wait>(&self, rt: &R) {
         for desk in &self.desks {
             desk.offer.lock(rt).ended = true;
-            desk.worker.unpark();
+            desk.call();
         }
     }
 }
