@@ -1,21 +1,30 @@
-//! `scenario_player`: plays a scenario file on one thread, and prints its trace, or its fault. For tests.
+//! `scenario_player`: plays a scenario file, and prints its trace, or its fault. For tests.
 //!
-//! Reads the file from standard input. Exit statuses: 0 played, 1 the file or its run is refused, 3 a read or
-//! write fault, 4 no memory.
+//! Reads the file from standard input, and plays it on one thread. The words `fleet WORKERS TIMES` play it with
+//! some workers, some times, and print the last trace; `count TIMES` plays it on one thread, and prints how many
+//! events and passes of time there are; `bench/fleet` measures them. Exit statuses: 0 played, 1 the file or its run
+//! is refused, 2 other words, 3 a read or write fault, 4 no memory.
 #![tactic(auto)]
 
 mod played;
+mod words;
 
 use played::{Played, play};
 use std::alloc::AllocError;
 use std::io;
 use std::io::{ErrorKind, Read, Write};
 use std::process::ExitCode;
+use std::rt::Env;
+use std::sync::Wait;
+use std::thread::Threads;
 use thiserror::Error;
+use words::{WordsFault, read_words};
 
 const PLAYED: u8 = 0;
 
 const REFUSED: u8 = 1;
+
+const USAGE: u8 = 2;
 
 const STREAM: u8 = 3;
 
@@ -24,6 +33,9 @@ const MEMORY: u8 = 4;
 /// Why the text wasn't printed.
 #[derive(Clone, Copy, Debug, Error)]
 enum PlayFault {
+    /// The words ask for nothing.
+    #[error("usage: scenario_player [fleet WORKERS TIMES | count TIMES] < SCENARIO")]
+    Usage,
     /// The input couldn't be read.
     #[error("read fault")]
     Read,
@@ -41,10 +53,20 @@ impl From<AllocError> for PlayFault {
     }
 }
 
+impl From<WordsFault> for PlayFault {
+    fn from(fault: WordsFault) -> PlayFault {
+        match fault {
+            WordsFault::Usage => PlayFault::Usage,
+            WordsFault::NoMemory => PlayFault::NoMemory,
+        }
+    }
+}
+
 impl PlayFault {
     /// The exit status that says it.
     fn status(self) -> u8 {
         match self {
+            PlayFault::Usage => USAGE,
             PlayFault::Read | PlayFault::Write => STREAM,
             PlayFault::NoMemory => MEMORY,
         }
@@ -63,10 +85,13 @@ fn main(rt: HostRuntime) -> ExitCode {
 }
 
 /// Plays the file on standard input, and answers the exit status of what was printed.
-fn play_input(rt: &(impl AllocGlobal + Input + Print)) -> Result<u8, PlayFault> {
+fn play_input<R: AllocGlobal + Env + Input + Print + Threads + Wait + Sync>(
+    rt: &R,
+) -> Result<u8, PlayFault> {
+    let task = read_words(rt)?;
     let input = read_input(rt)?;
-    let (text, status) = match play(rt.alloc(), &input)? {
-        Played::Trace(text) => (text, PLAYED),
+    let (text, status) = match play(rt, rt.alloc(), &input, task)? {
+        Played::Text(text) => (text, PLAYED),
         Played::Refused(text) => (text, REFUSED),
     };
     match io::writer(rt).write_all(&text) {

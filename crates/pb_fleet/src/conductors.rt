@@ -1,0 +1,156 @@
+ghost use Rattle.std.specs.Prelude.{◌≡◌, ◌<◌, ◌≤◌, [], IfOk, IfSome, length};
+
+use crate::faults::PlayFault;
+use crate::offers::Offers;
+use pb_plan::{Deed, Step, Walk};
+use pb_scenario::Scenario;
+use pb_segment::{CommitFault, ConductorSeat, GlanceFault, Outlook, SharedSegment};
+use pb_world::Event;
+use std::alloc::Global;
+use std::sync::Wait;
+use std::sync::ledger::Ledger;
+
+/// The conductor's seat, and what was seen from it.
+#[derive(Drop)]
+pub(crate) struct Conductor<L: Ledger> {
+    pub(crate) seat: ConductorSeat<L>,
+    pub(crate) seen: Vec<Outlook>,
+    ghost same: { seat.outlooks ≡ seen.items },
+}
+
+impl<L: Ledger> Conductor<L> {
+    /// Nothing was seen from the seat yet.
+    pub(crate) fn new(alloc: Global, seat: ConductorSeat<L>) -> Conductor<L>
+        requires { seat.outlooks ≡ [] }
+    {
+        Conductor {
+            seat,
+            seen: Vec::new(alloc),
+        }
+    }
+
+    /// Drives a scenario from instant to instant, and has the workers take the turns. It stops where a worker
+    /// has met a fault.
+    pub(crate) fn conduct<R: Wait>(
+        &mut self,
+        rt: &R,
+        alloc: Global,
+        segment: &SharedSegment<L>,
+        offers: &Offers,
+        scenario: &Scenario,
+    ) -> Result<(), PlayFault> {
+        let mut walk = scenario.walk(alloc)?;
+        for _ in 0..walk.until() + 1 {
+            match self.instant(rt, alloc, segment, offers, &walk)? {
+                Some(at) => walk.go_to(at),
+                None => break,
+            }
+        }
+        Ok(())
+    }
+
+    /// Plays the instant at which a walk through the scenario is, and answers the next one, if there is one.
+    fn instant<R: Wait>(
+        &mut self,
+        rt: &R,
+        alloc: Global,
+        segment: &SharedSegment<L>,
+        offers: &Offers,
+        walk: &Walk<'_>,
+    ) -> Result<Option<u64>, PlayFault>
+        ensures { IfOk result (λ o. IfSome o (λ at. (walk.now.clock < at) × (at ≤ walk.now.until))) }
+    {
+        let now = walk.now();
+        self.steps(rt, alloc, segment, now, walk.today(), false)?;
+        self.look(rt, alloc, segment, now)?;
+        let turns = walk.turns(alloc, self.shown(walk)?.due.moments())?;
+        if !turns.is_empty() && !offers.serve(rt, now, &turns)? {
+            return Ok(None);
+        }
+        self.steps(rt, alloc, segment, now, walk.today(), true)?;
+        self.look(rt, alloc, segment, now)?;
+        let after = self.shown(walk)?;
+        let next = walk.next(after.due.moments(), after.next_change);
+        if let Some(bits) = walk.pass_to(next) {
+            self.drive(rt, alloc, segment, now, Event::Pass(bits))?;
+        }
+        Ok(next)
+    }
+
+    /// What some steps of a moment say before the turns or after them happens.
+    fn steps<R: Wait>(
+        &mut self,
+        rt: &R,
+        alloc: Global,
+        segment: &SharedSegment<L>,
+        now: u64,
+        steps: &[Step],
+        late: bool,
+    ) -> Result<(), PlayFault> {
+        for step in steps {
+            if let Some(event) = said(&step.deed, late) {
+                self.drive(rt, alloc, segment, now, event.copy())?;
+            }
+        }
+        Ok(())
+    }
+
+    /// An event happens at a moment.
+    fn drive<R: Wait>(
+        &mut self,
+        rt: &R,
+        alloc: Global,
+        segment: &SharedSegment<L>,
+        now: u64,
+        event: Event,
+    ) -> Result<(), PlayFault> {
+        match segment.drive(rt, alloc, &mut self.seat, event) {
+            Ok(_) => Ok(()),
+            Err(fault) => Err(PlayFault::Drive { now, fault }),
+        }
+    }
+
+    /// Looks at the bus, and keeps what is seen.
+    fn look<R: Wait>(
+        &mut self,
+        rt: &R,
+        alloc: Global,
+        segment: &SharedSegment<L>,
+        now: u64,
+    ) -> Result<(), PlayFault> {
+        self.seen.reserve(1)?;
+        match segment.outlook(rt, alloc, &mut self.seat) {
+            Ok(outlook) => {
+                self.seen.push_reserved(outlook);
+                Ok(())
+            }
+            Err(GlanceFault::Disagree) => Err(PlayFault::Drive {
+                now,
+                fault: CommitFault::Disagree,
+            }),
+            Err(GlanceFault::NoMemory) => Err(PlayFault::NoMemory),
+        }
+    }
+
+    /// What was seen last, where it is of all taps.
+    fn shown(&self, walk: &Walk<'_>) -> Result<&Outlook, PlayFault>
+        ensures { IfOk result (λ o. length o.now.due ≡ walk.now.taps) }
+    {
+        match self.seen.last() {
+            Some(outlook) if outlook.due.moments().len() == walk.taps() => Ok(outlook),
+            _ => Err(PlayFault::Drive {
+                now: walk.now(),
+                fault: CommitFault::Disagree,
+            }),
+        }
+    }
+}
+
+/// What a deed says before the turns or after them.
+fn said(deed: &Deed, late: bool) -> Option<&Event> {
+    if late {
+        deed.after_turns()
+    } else {
+        deed.before_turns()
+    }
+}

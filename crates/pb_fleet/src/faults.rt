@@ -1,0 +1,123 @@
+ghost use Rattle.std.specs.Prelude.{◌≡◌};
+ghost use Rattle.pb_fleet.specs.Faults.{IsOfPlay};
+
+use pb_segment::{CloseFault, CommitFault};
+use pb_station::NoMemory;
+use pb_world::NewFault;
+use std::alloc::AllocError;
+use thiserror::Error;
+
+/// Why a fleet gives no report. Of several faults the one that stands first here is given, and of several of
+/// one kind that of the least tap; `New` comes right after `BadWorkers`, before any worker starts.
+#[derive(Clone, Copy, Debug, PartialEq, Eq, Error)]
+pub enum FleetFault {
+    /// 1: the number of workers is not 1 to 64.
+    #[error("BadWorkers")]
+    BadWorkers,
+    /// 2: a tap could not take its turn.
+    #[error("Commit {tap} {now} {fault}")]
+    Commit {
+        /// The tap, counted from 0.
+        tap: usize,
+        /// The clock, in bit times.
+        now: u64,
+        /// Why; `Disagree` also where the tap could not be seen.
+        fault: CommitFault,
+    },
+    /// 3: what is no turn could not happen, or the bus could not be seen.
+    #[error("Drive {now} {fault}")]
+    Drive {
+        /// The clock, in bit times.
+        now: u64,
+        /// Why; `Disagree` also where the bus could not be seen.
+        fault: CommitFault,
+    },
+    /// 4: the gate answered false for a tap.
+    #[error("GateClosed {0}")]
+    GateClosed(usize),
+    /// 5: a thread could not be made, also for want of memory.
+    #[error("NoThread")]
+    NoThread,
+    /// 6: the segment could not be closed, or what has happened on it is not the scenario's run (`Disagree`).
+    #[error("Closing {0}")]
+    Closing(CloseFault),
+    /// 7: memory was refused, but in a commit or a drive, or for a thread.
+    #[error("NoMemory")]
+    NoMemory,
+    /// 8: there is no new world of the scenario's taps.
+    #[error("New {0}")]
+    New(NewFault),
+}
+
+/// Why a fleet stops that has a world to play on.
+#[derive(Clone, Copy, Debug)]
+pub(crate) enum PlayFault {
+    Commit {
+        tap: usize,
+        now: u64,
+        fault: CommitFault,
+    },
+    Drive {
+        now: u64,
+        fault: CommitFault,
+    },
+    GateClosed(usize),
+    NoThread,
+    Closing(CloseFault),
+    NoMemory,
+}
+
+impl From<PlayFault> for FleetFault {
+    ghost from_gives = { λ _ fault. IsOfPlay fault };
+
+    fn from(fault: PlayFault) -> FleetFault {
+        match fault {
+            PlayFault::Commit { tap, now, fault } => FleetFault::Commit { tap, now, fault },
+            PlayFault::Drive { now, fault } => FleetFault::Drive { now, fault },
+            PlayFault::GateClosed(tap) => FleetFault::GateClosed(tap),
+            PlayFault::NoThread => FleetFault::NoThread,
+            PlayFault::Closing(fault) => FleetFault::Closing(fault),
+            PlayFault::NoMemory => FleetFault::NoMemory,
+        }
+    }
+}
+
+impl From<AllocError> for PlayFault {
+    fn from(_refused: AllocError) -> PlayFault {
+        PlayFault::NoMemory
+    }
+}
+
+impl From<NoMemory> for PlayFault {
+    fn from(_refused: NoMemory) -> PlayFault {
+        PlayFault::NoMemory
+    }
+}
+
+impl PlayFault {
+    /// By what faults are compared: the place of the kind, and the tap.
+    fn rank(self) -> (u8, usize) {
+        match self {
+            PlayFault::Commit { tap, .. } => (2, tap),
+            PlayFault::Drive { .. } => (3, 0),
+            PlayFault::GateClosed(tap) => (4, tap),
+            PlayFault::NoThread => (5, 0),
+            PlayFault::Closing(_) => (6, 0),
+            PlayFault::NoMemory => (7, 0),
+        }
+    }
+}
+
+/// The fault that is given of two, of which either may be missing.
+pub(crate) fn least(one: Option<PlayFault>, other: Option<PlayFault>) -> Option<PlayFault> {
+    match (one, other) {
+        (None, fault) | (fault, None) => fault,
+        (Some(one), Some(other)) => {
+            if other.rank() < one.rank() {
+                Some(other)
+            } else {
+                Some(one)
+            }
+        }
+    }
+}

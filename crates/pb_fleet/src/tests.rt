@@ -1,0 +1,186 @@
+use crate::{FleetFault, Gate, run_fleet};
+use pb_scenario::{Scenario, read};
+use pb_segment::CommitFault;
+use pb_world::{Entry, NewFault, WorldFault};
+use std::alloc::{AllocError, Global};
+use std::process::Abort;
+use std::sync::Wait;
+use std::sync::atomic::{AtomicBool, Ordering};
+use std::thread::Threads;
+
+/// Two masters that start at 0, up to 1,400.
+const TWO_MASTERS: &str = "version = 1
+until = 1400
+bus = { tsl = 100, tid1 = 37, tid2 = 60, tsdr = 11, lag = 0, ttr = 10000, gap = 10, hsa = 5, retries = 1 }
+tap = [{ name = 'a', kind = 'master', address = 1 }, { name = 'b', kind = 'master', address = 2 }]
+step = [{ at = 0, do = 'start', tap = 'a' }, { at = 0, do = 'start', tap = 'b' }]
+";
+
+/// The same, and at 950 `b` is to hear what it sends itself damaged.
+const OWN_DAMAGE: &str = "version = 1
+until = 1400
+bus = { tsl = 100, tid1 = 37, tid2 = 60, tsdr = 11, lag = 0, ttr = 10000, gap = 10, hsa = 5, retries = 1 }
+tap = [{ name = 'a', kind = 'master', address = 1 }, { name = 'b', kind = 'master', address = 2 }]
+step = [{ at = 0, do = 'start', tap = 'a' }, { at = 0, do = 'start', tap = 'b' },
+        { at = 950, do = 'damage', tap = 'b', speaker = 'b', place = 0 }]
+";
+
+/// Three masters that start at 0; at 801 the second and the third are due.
+const THREE_MASTERS: &str = "version = 1
+until = 840
+bus = { tsl = 100, tid1 = 37, tid2 = 60, tsdr = 11, lag = 0, ttr = 10000, gap = 10, hsa = 5, retries = 1 }
+tap = [{ name = 'a', kind = 'master', address = 1 }, { name = 'b', kind = 'master', address = 2 },
+       { name = 'c', kind = 'master', address = 3 }]
+step = [{ at = 0, do = 'start', tap = 'a' }, { at = 0, do = 'start', tap = 'b' },
+        { at = 0, do = 'start', tap = 'c' }]
+";
+
+/// No taps.
+const NO_TAPS: &str = "version = 1
+until = 10
+bus = { tsl = 100, tid1 = 37, tid2 = 60, tsdr = 11, lag = 0, ttr = 10000, gap = 10, hsa = 5, retries = 1 }
+tap = []
+";
+
+/// Lets each tap through.
+#[derive(Drop)]
+struct Open;
+
+impl Gate for Open {
+    fn between(&self, _tap: usize) -> bool {
+        true
+    }
+}
+
+/// Lets one tap not through.
+#[derive(Drop)]
+struct Shut(usize);
+
+impl Gate for Shut {
+    fn between(&self, tap: usize) -> bool {
+        tap != self.0
+    }
+}
+
+/// Holds tap 1 until tap 2 has come, for a while.
+#[derive(Drop)]
+struct Meeting {
+    has_come: AtomicBool,
+}
+
+impl Gate for Meeting {
+    fn between(&self, tap: usize) -> bool {
+        if tap == 2 {
+            self.has_come.store(true, Ordering::SeqCst);
+        }
+        tap != 1 || self.comes()
+    }
+}
+
+impl Meeting {
+    fn comes(&self) -> bool {
+        for _ in 0..1_000_000_000u64 {
+            if self.has_come.load(Ordering::SeqCst) {
+                return true;
+            }
+        }
+        false
+    }
+}
+
+fn scenario(rt: &impl Abort, alloc: Global, text: &str) -> Scenario {
+    read(alloc, text.as_bytes()).expect(rt, "a scenario")
+}
+
+fn begin_of(entry: &Entry) -> u64 {
+    match entry {
+        Entry::Sent(record) => record.begin,
+        Entry::Noise { begin, .. } => *begin,
+    }
+}
+
+/// The trace is that of one thread, for each number of workers; others than 1 to 64 are refused.
+#[test]
+fn plays_with_any_number_of_workers(rt: HostRuntime) {
+    let alloc = rt.alloc();
+    let scenario = scenario(&rt, alloc, TWO_MASTERS);
+    for workers in [1, 2, 8] {
+        let report = run_fleet(&rt, alloc, &scenario, workers, &Open).expect(&rt, "a report");
+        let begins = [800u64, 870, 940, 1017, 1120, 1190, 1356];
+        assert!(rt; report.trace().iter().map(begin_of).eq(begins), "{workers}");
+    }
+    for workers in [0, 65] {
+        let fault = run_fleet(&rt, alloc, &scenario, workers, &Open).err();
+        assert_eq!(rt; fault, Some(FleetFault::BadWorkers));
+    }
+}
+
+/// Faults of a gate, of a step and of a new world.
+#[test]
+fn names_what_stops_it(rt: HostRuntime) {
+    let alloc = rt.alloc();
+    let fault_of = |text: &str, gate: &Shut| {
+        run_fleet(&rt, alloc, &scenario(&rt, alloc, text), 2, gate).err()
+    };
+    let closed = Some(FleetFault::GateClosed(1));
+    assert_eq!(rt; fault_of(TWO_MASTERS, &Shut(1)), closed);
+    let damage = Some(FleetFault::Drive {
+        now: 950,
+        fault: CommitFault::World(WorldFault::NothingInAir),
+    });
+    assert_eq!(rt; fault_of(OWN_DAMAGE, &Shut(9)), damage);
+    let no_taps = Some(FleetFault::New(NewFault::NoTaps));
+    assert_eq!(rt; fault_of(NO_TAPS, &Shut(9)), no_taps);
+}
+
+/// Two taps that are due in one instant are decided side by side.
+#[test]
+fn workers_run_side_by_side(rt: HostRuntime) {
+    let alloc = rt.alloc();
+    let scenario = scenario(&rt, alloc, THREE_MASTERS);
+    for workers in [3, 2] {
+        let gate = Meeting {
+            has_come: AtomicBool::new(false),
+        };
+        let report = run_fleet(&rt, alloc, &scenario, workers, &gate);
+        assert!(rt; report.is_ok(), "{workers}");
+    }
+}
+
+/// Run with one allocation refused: a fleet plays, or memory was refused.
+#[test]
+fn refused_memory_in_a_fleet_of_one(rt: HostRuntime) {
+    is_refused_or_plays(&rt, 1);
+}
+
+#[test]
+fn refused_memory_in_a_fleet_of_two(rt: HostRuntime) {
+    is_refused_or_plays(&rt, 2);
+}
+
+fn is_refused_or_plays<R: AllocGlobal + Abort + Print + Threads + Wait + Sync>(
+    rt: &R,
+    workers: usize,
+) {
+    let alloc = rt.alloc();
+    let Ok(scenario) = read(alloc, TWO_MASTERS.as_bytes()) else {
+        let _ = println!(rt; "refused");
+        return;
+    };
+    match run_fleet(rt, alloc, &scenario, workers, &Open) {
+        Ok(report) => assert_eq!(rt; report.trace().len(), 7),
+        Err(fault) => {
+            assert!(rt; is_want_of_memory(fault), "{fault}");
+            let _ = println!(rt; "refused");
+        }
+    }
+}
+
+fn is_want_of_memory(fault: FleetFault) -> bool {
+    const REFUSED: CommitFault = CommitFault::World(WorldFault::NoMemory);
+    match fault {
+        FleetFault::Commit { fault, .. } | FleetFault::Drive { fault, .. } => fault == REFUSED,
+        FleetFault::NoThread | FleetFault::NoMemory => true,
+        _ => false,
+    }
+}
