@@ -1,8 +1,8 @@
-ghost use Rattle.std.specs.Prelude.{◌≡◌, ◌<◌, ◌++◌, OnOk, IfOk, [], codes, length, map, slice_index_or};
+ghost use Rattle.std.specs.Prelude.{◌≡◌, ◌++◌, OnOk, IfOk, [], codes, map, slice_index_or};
 ghost use Rattle.hex.specs.Hex.{encode_lower};
 ghost use Rattle.pb_medium.specs.Entries.{entry_of, heard_of};
 ghost use Rattle.pb_scenario.specs.Lines.{line_of, record_line};
-ghost use Rattle.pb_scenario.specs.Texts.{AreOfTaps, IsOfTaps, entries_text, letter_of, span_text};
+ghost use Rattle.pb_scenario.specs.Texts.{entries_text, letter_of, span_text};
 
 use crate::scenarios::Scenario;
 use arrayvec::ArrayVec;
@@ -15,13 +15,12 @@ const LONGEST: usize = 255;
 
 /// The text of a trace, a line for each entry: begin and end, the name of the tap that sent it, its octets,
 /// and a letter for each tap that says how it reached that; or begin, end and `~ noise`. The entries' taps
-/// are the scenario's. The fault: memory was refused.
+/// are the scenario's; another tap has no name. The fault: memory was refused.
 pub fn trace_text(
     alloc: Global,
     scenario: &Scenario,
     entries: &[Entry],
 ) -> Result<Vec<u8>, AllocError>
-    requires { AreOfTaps (length scenario.now.names) (map entry_of entries.now) }
     ensures { IfOk result (λ text. text.items ≡ entries_text scenario.now.names (map entry_of entries.now)) }
 {
     let mut text = Vec::new(alloc);
@@ -33,7 +32,6 @@ pub fn trace_text(
 
 /// Appends the line of an entry.
 fn push_entry(text: &mut Vec<u8>, scenario: &Scenario, entry: &Entry) -> Result<(), AllocError>
-    requires { IsOfTaps (length scenario.now.names) (entry_of entry.now) }
     ensures { OnOk result (text.new.items ≡ text.old.items ++ line_of scenario.now entry.now) }
 {
     match entry {
@@ -47,7 +45,6 @@ fn push_entry(text: &mut Vec<u8>, scenario: &Scenario, entry: &Entry) -> Result<
 
 /// Appends the line of a telegram.
 fn push_record(text: &mut Vec<u8>, scenario: &Scenario, record: &Record) -> Result<(), AllocError>
-    requires { record.now.tap < length scenario.now.names }
     ensures { OnOk result (text.new.items ≡ text.old.items ++ record_line scenario.now record.now) }
 {
     push_span(text, record.begin, record.end)?;
@@ -59,12 +56,15 @@ fn push_record(text: &mut Vec<u8>, scenario: &Scenario, record: &Record) -> Resu
     text.extend_from_slice(b"\n")
 }
 
-/// Appends the name of a tap.
+/// Appends the name of a tap; nothing where the scenario has no such tap.
 fn push_name(text: &mut Vec<u8>, scenario: &Scenario, tap: usize) -> Result<(), AllocError>
-    requires { tap < length scenario.now.names }
     ensures { OnOk result (text.new.items ≡ text.old.items ++ slice_index_or scenario.now.names tap []) }
 {
-    text.extend_from_slice(scenario.name(tap).as_bytes())
+    if tap < scenario.taps().len() {
+        text.extend_from_slice(scenario.name(tap).as_bytes())
+    } else {
+        Ok(())
+    }
 }
 
 /// Appends begin and end, each with a blank behind it.

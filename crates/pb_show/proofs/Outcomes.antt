@@ -8,8 +8,8 @@ use Rattle.pb_theorem.specs.Premises.{Broken, first_broken}
 use Rattle.pb_runs.specs.Histories.{Leads}
 use Rattle.pb_runs.specs.Bus.{bus}
 use Rattle.pb_runs.specs.Laws.{EventsLead}
-use Rattle.pb_runs.specs.Scenarios.{Scenario, RunFault, New, At, run_of, run_from, with_end, events_of}
-use Rattle.pb_taps.specs.Faults.{RefusesNew, new_fault, world_fault}
+use Rattle.pb_runs.specs.Scenarios.{Scenario, RunFault, At, run_of, run_from, with_end, events_of}
+use Rattle.pb_taps.specs.Faults.{RefusesNew, world_fault}
 use Rattle.pb_taps.specs.declared.faults.NewFault as taps
 use Rattle.pb_taps.specs.declared.faults.NewFault.TheVariants as new
 use Rattle.pb_taps.specs.declared.faults.WorldFault.{WorldFault}
@@ -19,7 +19,7 @@ use Rattle.pb_audit.specs.declared.findings.Audit.{Audit}
 use Rattle.pb_scenario.specs.Faults.{EndsBy, model_fault}
 use Rattle.pb_scenario.specs.declared.faults.RunFault as code
 use Rattle.pb_scenario.specs.declared.faults.RunFault.TheVariants as run
-use Rattle.pb_show.specs.Shown.{Shown, refusal}
+use Rattle.pb_show.specs.Shown.{refusal}
 use Rattle.pb_show.specs.Faults.{IsTold, line_of_run, new_line, refused_line}
 use Rattle.pb_show.specs.Audits.{audit_of_run, audit_of_scenario, broken_from, broken_of, found, illegal_in}
 

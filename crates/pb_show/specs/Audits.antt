@@ -1,5 +1,5 @@
 -- The text of an audit, and what is written for one.
-use Rattle.std.specs.Prelude.{ℕ, Bool, true, false, List, [], ◌++◌, codes, decimal, Option, Some, None, Result, Ok, Err, is_some}
+use Rattle.std.specs.Prelude.{ℕ, List, [], ◌++◌, codes, decimal, Option, Some, None, Result, Ok, Err, is_some}
 use Rattle.std.specs.Option.{option_map}
 use Rattle.pb_model.specs.World.{World, Event, NewFault, new_world}
 use Rattle.pb_theorem.specs.Headline.{specs_of}

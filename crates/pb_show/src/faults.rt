@@ -85,11 +85,7 @@ pub fn new_line(alloc: Global, fault: NewFault) -> Result<Vec<u8>, AllocError>
 }
 
 /// The line of an event that was refused at a clock.
-pub fn refused_line(
-    alloc: Global,
-    fault: WorldFault,
-    clock: Moment,
-) -> Result<Vec<u8>, AllocError>
+pub fn refused_line(alloc: Global, fault: WorldFault, clock: Moment) -> Result<Vec<u8>, AllocError>
     ensures line { IfOk result (λ line. line.items ≡ refused_line fault clock) }
     ensures told { OnOk result (fault ≢ WorldFault.NoMemory) }
 {

@@ -34,6 +34,8 @@ tap = \"a\"
 #[test]
 fn an_audit_names_premise_and_record(rt: HostRuntime) {
     let shown = audited(rt.alloc(), FILE).expect(&rt, "memory");
-    assert!(rt; shown.text.as_slice() == b"premise P4 broken at 1000\nrecord 1 illegal\n".as_slice());
+    assert!(rt;
+        shown.text.as_slice() == b"premise P4 broken at 1000\nrecord 1 illegal\n".as_slice()
+    );
     assert!(rt; shown.is_refused);
 }

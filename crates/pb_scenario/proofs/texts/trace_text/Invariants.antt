@@ -1,11 +1,8 @@
 -- The lines so far, and those that follow.
-use Rattle.std.proofs.Common.{◌≡◌, ◌++◌, map, drop, length}
+use Rattle.std.proofs.Common.{◌≡◌, ◌++◌, map, drop}
 use Rattle.pb_medium.specs.Entries.{entry_of}
-use Rattle.pb_scenario.specs.Texts.{AreOfTaps, entries_text}
+use Rattle.pb_scenario.specs.Texts.{entries_text}
 use Rattle.pb_scenario.proofs.texts.trace_text.Given as goal
 
 abbrev pub invariant-loop-entry : goal.invariant-loop-entry
-invariant-loop-entry l = record {
-  text : l.text.items ++ entries_text l.scenario.names (map entry_of (drop l.entry-index l.entries)) ≡ entries_text l.scenario.names (map entry_of l.entries);
-  of_taps : AreOfTaps (length l.scenario.names) (map entry_of (drop l.entry-index l.entries));
-}
+invariant-loop-entry l = l.text.items ++ entries_text l.scenario.names (map entry_of (drop l.entry-index l.entries)) ≡ entries_text l.scenario.names (map entry_of l.entries)

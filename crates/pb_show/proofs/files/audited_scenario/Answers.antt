@@ -1,6 +1,5 @@
-use Rattle.std.proofs.Common.{◌≡◌, List, map, sym, subst}
+use Rattle.std.proofs.Common.{◌≡◌, map, sym, subst}
 use Rattle.std.specs.Prelude.{IfOk}
-use Rattle.pb_model.specs.World.{Event}
 use Rattle.pb_taps.specs.Events.{event_of}
 use Rattle.pb_audit.specs.Auditing.{Finds}
 use Rattle.pb_show.specs.Audits.{audit_of_scenario, broken_of, found}
