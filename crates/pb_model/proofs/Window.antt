@@ -1,14 +1,11 @@
 -- What a pass tells a tap, for every cable delay: the bursts that begin and end while time passes from one clock to the next.
 use Rattle.std.proofs.Common.{◌≡◌, ℕ, ◌<◌, ◌≤◌, ◌⊎◌, inl, inr, ⊎_elim, Bool, true, false, not, ◌&&◌, ◌||◌, List, [], ◌∷◌, refl, sym, ap, ◌∙◌, subst, arith, Option, Some, None}
 use Rattle.std.specs.Prelude.{nat_lt, nat_le, find}
-use Rattle.std.specs.List.{list_any, cons_option}
+use Rattle.std.specs.List.{list_any}
 use Rattle.std.proofs.lemmas.Bool.{and_parts, ltb-true, leb-true, lt-ltb, le-leb, eq-eqb, eqb-true, cases_lt}
 use Rattle.pb_turn.specs.Spans.{Span}
-use Rattle.pb_model.specs.Trace.{Entry}
-use Rattle.pb_model.specs.Medium.{begins_at, ends_at, lasts_through, burst_begins, burst_ends, begins_in, ends_in, sensed}
+use Rattle.pb_model.specs.Medium.{begins_at, ends_at, lasts_through, burst_begins, burst_ends, begins_in, ends_in}
 use Rattle.pb_model.proofs.Cases.{by_test}
-use Rattle.pb_token.specs.Lists.{Each}
-use Rattle.pb_token.specs.Places.{heard_span}
 
 abbrev pub EachSpan : (Span → Type 0) → List Span → Type 0
 EachSpan P [] = Unit {0}
@@ -22,27 +19,9 @@ pub spans_both : (P Q R : Span → Type 0) (xs : List Span) → ((x : Span) → 
 spans_both P Q R [] f a b = tt
 spans_both P Q R (x ∷ xs) f a b = (f x a.0 b.0, spans_both P Q R xs f a.1 b.1)
 
-onto : (F : Option Span → Type 0) (o : Option Span) (xs : List Span) → F o → EachSpan (λ x. F (Some x)) xs → EachSpan (λ x. F (Some x)) (cons_option o xs)
-onto F None xs h all = all
-onto F (Some x) xs h all = (h, all)
-
-from_head : (F : Option Span → Type 0) (o : Option Span) (xs : List Span) → F None → EachSpan (λ x. F (Some x)) (cons_option o xs) → F o × EachSpan (λ x. F (Some x)) xs
-from_head F None xs none all = (none, all)
-from_head F (Some x) xs none all = (all.0, all.1)
-
--- of entries and of what a tap senses of them
-pub to_spans : (F : Option Span → Type 0) (delay tap since : ℕ) (es : List Entry) → Each (λ e. F (heard_span delay tap since e)) es → EachSpan (λ x. F (Some x)) (sensed delay tap since es)
-to_spans F delay tap since [] all = tt
-to_spans F delay tap since (e ∷ es) all = onto F (heard_span delay tap since e) (sensed delay tap since es) all.0 (to_spans F delay tap since es all.1)
-
-pub from_spans : (F : Option Span → Type 0) (delay tap since : ℕ) (es : List Entry) → F None → EachSpan (λ x. F (Some x)) (sensed delay tap since es) → Each (λ e. F (heard_span delay tap since e)) es
-from_spans F delay tap since [] none all = tt
-from_spans F delay tap since (e ∷ es) none all =
-    let h = from_head F (heard_span delay tap since e) (sensed delay tap since es) none all in (h.0, from_spans F delay tap since es none h.1)
-
 -- ---- searches
 
-any_false : (test : Span → Bool) (xs : List Span) → list_any test xs ≡ false → EachSpan (λ x. test x ≡ false) xs
+pub any_false : (test : Span → Bool) (xs : List Span) → list_any test xs ≡ false → EachSpan (λ x. test x ≡ false) xs
 any_false test [] h = tt
 any_false test (x ∷ xs) h = let b = split (test x) (list_any test xs) h in (b.0, any_false test xs b.1)
   where
@@ -50,17 +29,17 @@ any_false test (x ∷ xs) h = let b = split (test x) (list_any test xs) h in (b.
     split true b h = absurd cc
     split false b h = (refl, h)
 
-all_false : (test : Span → Bool) (xs : List Span) → EachSpan (λ x. test x ≡ false) xs → list_any test xs ≡ false
+pub all_false : (test : Span → Bool) (xs : List Span) → EachSpan (λ x. test x ≡ false) xs → list_any test xs ≡ false
 all_false test [] h = refl
 all_false test (x ∷ xs) h = ap (λ b. b || list_any test xs) h.0 ∙ all_false test xs h.1
 
-found : (P : Span → Type 0) (test : Span → Bool) (xs : List Span) (x : Span) → EachSpan P xs → find test xs ≡ Some x → (test x ≡ true) × P x
+pub found : (P : Span → Type 0) (test : Span → Bool) (xs : List Span) (x : Span) → EachSpan P xs → find test xs ≡ Some x → (test x ≡ true) × P x
 found P test [] x all e = absurd cc
 found P test (y ∷ ys) x all e =
     by_test (λ (o : Option Span). o ≡ Some x → (test x ≡ true) × P x) (test y) (Some y) (find test ys)
     (λ passes same. subst (λ z. (test z ≡ true) × P z) (let s : y ≡ x = cc in s) (passes, all.0)) (λ _ e. found P test ys x all.1 e) e
 
-not_found : (test : Span → Bool) (xs : List Span) → find test xs ≡ None → EachSpan (λ x. test x ≡ false) xs
+pub not_found : (test : Span → Bool) (xs : List Span) → find test xs ≡ None → EachSpan (λ x. test x ≡ false) xs
 not_found test [] e = tt
 not_found test (y ∷ ys) e =
     by_test (λ (o : Option Span). o ≡ None → EachSpan (λ x. test x ≡ false) (y ∷ ys)) (test y) (Some y) (find test ys)
@@ -142,14 +121,14 @@ one_true : (a b : Bool) → (a ≡ true → ⊥) → (b ≡ true → ⊥) → (a
 one_true true b f g e = f refl
 one_true false b f g e = g e
 
-any_true : (test : Span → Bool) (xs : List Span) → list_any test xs ≡ true → EachSpan (λ x. test x ≡ true → ⊥) xs → ⊥
+pub any_true : (test : Span → Bool) (xs : List Span) → list_any test xs ≡ true → EachSpan (λ x. test x ≡ true → ⊥) xs → ⊥
 any_true test [] e all = cc
 any_true test (x ∷ xs) e all = one_true (test x) (list_any test xs) all.0 (λ h. any_true test xs h all.1) e
 
-through_false : (m : ℕ) (y : Span) → (m ≤ y.begin) ⊎ (y.end ≤ m) → lasts_through m y ≡ false
+pub through_false : (m : ℕ) (y : Span) → (m ≤ y.begin) ⊎ (y.end ≤ m) → lasts_through m y ≡ false
 through_false m y h = grind (arith, h)
 
-not_through : (m : ℕ) (y : Span) → lasts_through m y ≡ false → (m ≤ y.begin) ⊎ (y.end ≤ m)
+pub not_through : (m : ℕ) (y : Span) → lasts_through m y ≡ false → (m ≤ y.begin) ⊎ (y.end ≤ m)
 not_through m y h = ⊎_elim (λ (a : y.begin < m). ⊎_elim (λ (b : m < y.end). absurd (grind (arith, h, a, b))) (λ (b : y.end ≤ m). inr b) (cases_lt m y.end)) (λ (a : m ≤ y.begin). inl a) (cases_lt y.begin m)
 
 pub both_true : (a b : Bool) → a ≡ true → b ≡ true → (a && b) ≡ true
