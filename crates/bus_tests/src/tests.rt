@@ -10,7 +10,7 @@ use std::process::Abort;
 /// A slot of 100, idle times 37 and 60, reply delay 11, no lag, rotation 10,000, GAP factor 10, highest
 /// address 5, one retry.
 fn usual(rt: &impl Abort) -> BusParams {
-    BusParams::new(100, 37, 60, 11, 0, 10_000, 10, 5, 1).expect(rt, "the usual parameters")
+    BusParams::new(100, 37, 60, 11, 0, 10_000, 10, 5, 1, 0).expect(rt, "the usual parameters")
 }
 
 fn master(address: u8) -> TapSpec {

@@ -30,9 +30,6 @@ pub enum ListFault {
     /// It has a key that no event list has.
     #[error("no event list: unknown key `{0}`")]
     UnknownKey(String),
-    /// The cable delay isn't 0.
-    #[error("no event list: ttd isn't 0")]
-    CableDelay,
     /// The reply of a tap is no hex.
     #[error("no event list: the reply of tap {0} is no hex")]
     ReplyNotHex(usize),
@@ -136,6 +133,7 @@ impl Bus {
             self.gap,
             self.hsa,
             self.retries,
+            self.ttd,
         )
     }
 }
@@ -268,9 +266,6 @@ pub fn read_list(alloc: Global, text: &[u8]) -> Result<EventList, ListFault> {
         return Err(ListFault::UnknownKey(name));
     }
     let list: WrittenList<'_> = serde_json::from_slice(alloc, text)?;
-    if list.bus.ttd != 0 {
-        return Err(ListFault::CableDelay);
-    }
     Ok(EventList {
         bus: list.bus,
         taps: read_taps(alloc, &list.taps)?,

@@ -1,41 +1,147 @@
 -- What the premises ask of a bus.
-use Rattle.std.proofs.Common.{◌≡◌, ◌≢◌, ◌∙◌, ap, sym, subst, refl, arith, ℕ, zero, suc, ◌+◌, ◌-◌, ◌<◌, ◌≤◌, ◌&&◌, ◌||◌, nat_le, List, [], ◌∷◌, ◌++◌, length, Bool, true, false, if◌then◌else◌, Option, Some, None, Result, Ok}
-use Rattle.std.specs.Prelude.{take, drop, get_or, slice_get, slice_set, replicate, is_some, ◌==◌}
+use Rattle.std.proofs.Common.{◌≡◌, ◌≢◌, ◌∙◌, map, ap, sym, subst, refl, arith, ℕ, zero, suc, ◌+◌, ◌-◌, ◌<◌, ◌≤◌, ◌&&◌, ◌||◌, nat_le, List, [], ◌∷◌, ◌++◌, length, Bool, true, false, if◌then◌else◌, Option, Some, None, Result, Ok}
+use Rattle.std.specs.Prelude.{take, drop, get_or, slice_get, slice_set, replicate, ◌==◌, nat_lt}
 use Rattle.std.specs.List.{list_any}
 use Rattle.std.specs.Option.{option_and_then}
-use Rattle.std.proofs.lemmas.Bool.{leb-true, eqb-true, eqb-false}
+use Rattle.std.proofs.lemmas.Bool.{ltb-false, leb-true, lt-ltb, le-ltb, eqb-true, eqb-false}
 use Rattle.std.proofs.lemmas.Bool.Decides.{nat_tests}
 use Rattle.std.proofs.lemmas.List.{take-append-drop, get_or-set_same, get_or-set_other, get_or-replicate}
 use Rattle.pb_timers.specs.Timers.{Params, tto}
 use Rattle.pb_timers.specs.ParamRules.{IsValid}
 use Rattle.pb_turn.specs.Stations.{due_of}
-use Rattle.pb_model.specs.Medium.{Tap}
-use Rattle.pb_model.specs.World.{World, Event, Reply, Fault, next_end, next_end_of}
-use Rattle.pb_model.specs.Step.{step}
-use Rattle.pb_model.specs.Laws.{IsSound}
-use Rattle.pb_model.proofs.Past.{next_end_of-skip}
+use Rattle.pb_turn.specs.Spans.{Span}
+use Rattle.pb_model.specs.Trace.{Entry, Sent, Noise}
+use Rattle.pb_model.specs.Medium.{Tap, reaches, reaches_taps, entry_at}
+use Rattle.pb_model.specs.World.{World, Event, Turn, Pass, Damage, Start, Stop, Queue, Unheard, Reply, Fault, clock_limit}
+use Rattle.pb_model.specs.World as world
+use Rattle.pb_model.specs.Step.{step, told, pass_faults, step_pass}
+use Rattle.pb_model.specs.Laws.{AllOver, IsSound}
+use Rattle.pb_model.proofs.Worlds.{unless-Ok}
 use Rattle.pb_model.proofs.Cases.{by_test}
-use Rattle.pb_theorem.specs.Activity.{is_silent}
+use Rattle.pb_theorem.specs.Activity.{active_at, is_silent}
 use Rattle.pb_theorem.specs.Premises.{Waited, Broken, Course, is_overdue, is_late, runs_at, has_namesakes, has_waited, waited_by, loses, comes_late, first_number, broken_or, followed, course_of}
-use Rattle.pb_theorem.specs.Quiet.{quiet_at}
-use Rattle.pb_theorem.specs.Watching.{Watched, passes_busy, new_meet, last_waited, watched_after, StandsFor}
+use Rattle.pb_theorem.specs.Quiet.{is_active, quiet_at, quiet_in, quiet_after}
+use Rattle.pb_theorem.specs.Watching.{Watched, new_meet, last_waited, watched_after, StandsFor}
 use Rattle.pb_theorem.proofs.Quiets.{silent-quiet}
-use Rattle.pb_theorem.proofs.Watching.{quiet-step, stands-followed}
+use Rattle.pb_theorem.proofs.Judged.{any-append}
+use Rattle.pb_theorem.proofs.Watching.{quiet-step, many-taps, stands-followed}
 use Rattle.pb_medium.specs.Airs.{IsCut}
-use Rattle.pb_audit.specs.Premises.{IsFirstWaiting, waiting_of, met_by, last_by}
+use Rattle.pb_audit.specs.Premises.{IsFirstWaiting, IsQuiet, HaveHeard, Listens, time_in, waiting_of, met_by, last_by}
 use Rattle.pb_audit.specs.declared.premises.Waiting.{Waiting}
 use Rattle.pb_audit.specs.declared.premises.Waiting.TheVariants as waiting
-use Rattle.pb_medium.specs.Senses.{at_once}
 use Rattle.pb_bus.specs.Worlds.{due_at}
-use Rattle.std.proofs.Math.Bool.{or-true}
+use Rattle.std.proofs.Math.Bool.{or-true, and-false}
 
--- ---- what is in the air is recent
+-- ---- what is active is recent
 
-pub recent-end : (w : World) (over : ℕ) → w.params.ttd ≡ 0 → IsCut w.now over w.trace → next_end_of at_once w.now (drop over w.trace) ≡ next_end w
-recent-end w over none (m, at, some, old, recent) =
-    ap (λ (d : ℕ). next_end_of d w.now (drop over w.trace)) (sym none)
-    ∙ sym (next_end_of-skip w.params.ttd m w.now (take over w.trace) (drop over w.trace) none old at)
-    ∙ ap (next_end_of w.params.ttd w.now) (take-append-drop over w.trace)
+ends-soon : (delay tap : ℕ) (e : Entry) → (active_at delay tap e).end ≤ (reaches_taps delay e).end
+ends-soon delay tap (Noise span) = omega arith
+ends-soon delay tap (Sent r) =
+    by_test (λ (s : Span). s.end ≤ r.end + delay) (r.tap == tap) (record { begin = r.begin; end = r.end }) (reaches delay r) (λ _. omega arith) (λ _. omega arith)
+
+over-active : (delay m from to tap : ℕ) (es : List Entry) → AllOver delay m es → m ≤ from → is_active delay from to es tap ≡ false
+over-active delay m from to tap [] over later = refl
+over-active delay m from to tap (e ∷ es) over later =
+    ap (λ (b : Bool). (nat_lt (active_at delay tap e).begin to && b) || is_active delay from to es tap) (le-ltb from (active_at delay tap e).end (omega (arith, ends-soon delay tap e, over.1, later)))
+    ∙ ap (λ (b : Bool). b || is_active delay from to es tap) (and-false (nat_lt (active_at delay tap e).begin to))
+    ∙ over-active delay m from to tap es over.2 later
+
+pub active-recent : (w : World) (over to tap : ℕ) → IsCut w.params.ttd w.now over w.trace → is_active w.params.ttd w.now to (drop over w.trace) tap ≡ is_active w.params.ttd w.now to w.trace tap
+active-recent w over to tap (m, at, some, old, recent) =
+    sym (
+    ap (λ es. is_active w.params.ttd w.now to es tap) (sym (take-append-drop over w.trace)) ∙ any-append w.params.ttd tap w.now to (take over w.trace) (drop over w.trace)
+    ∙ ap (λ (b : Bool). b || is_active w.params.ttd w.now to (drop over w.trace) tap) (over-active w.params.ttd m w.now to tap (take over w.trace) old at)
+    )
+
+-- an event that is accepted ends when it can
+pass-ends : (w next : World) (bits : ℕ) (reply : Reply) → step_pass w bits ≡ Ok (next, reply) → w.now + bits ≤ clock_limit
+pass-ends w next bits reply ok =
+    let to = w.now + bits in
+    let taps = told w.params.ttd w.trace w.now to 0 w.taps in
+    let made : World × Reply = (record w { now = to; taps = taps; trace = map (entry_at w.params.ttd w.taps w.trace w.now to) w.trace }, record { now = to; spoke = None }) in
+    let is = unless-Ok (pass_faults w bits taps) made (next, reply) ok in
+    ltb-false clock_limit to is.0.1.1.0
+
+-- since when the taps are in silence after a pass
+pub listens-pass : (w : World) (bits to : ℕ) (before after : List ℕ) → IsSound w → IsQuiet w before → (w.now + bits ≤ clock_limit → to ≡ w.now + bits) → HaveHeard w to before after → Listens w (Pass bits) after
+listens-pass w bits to before after sound quiet reaches have next reply ok tap there =
+    let same = reaches (pass-ends w next bits reply ok) in
+    let here : tap < length w.taps = omega (arith, there, many-taps w next (Pass bits) reply ok) in
+    have tap here
+    ∙ ap (λ n. if is_active w.params.ttd w.now n w.trace tap then n else get_or before tap 0) same
+    ∙ ap (λ n. if is_active w.params.ttd w.now (w.now + bits) w.trace tap then w.now + bits else n) (quiet tap here)
+    ∙ sym (quiet-step w next (Pass bits) reply sound ok tap)
+
+-- and after any other event
+pub listens-still : (w : World) (e : Event) (before : List ℕ) → ((tap q : ℕ) → quiet_after w e tap q ≡ q) → IsSound w → IsQuiet w before → Listens w e before
+listens-still w e before still sound quiet next reply ok tap there =
+    let here : tap < length w.taps = omega (arith, there, many-taps w next e reply ok) in
+    quiet tap here ∙ sym (still tap (quiet_in w tap)) ∙ sym (quiet-step w next e reply sound ok tap)
+
+pub listens-none : (w : World) (e : Event) (before : List ℕ) → time_in e ≡ None → IsSound w → IsQuiet w before → Listens w e before
+listens-none w (Turn tap) before none sound quiet = listens-still w (Turn tap) before (λ tap q. refl) sound quiet
+listens-none w (Pass bits) before none sound quiet = absurd cc
+listens-none w (Damage tap speaker place) before none sound quiet = listens-still w (Damage tap speaker place) before (λ tap q. refl) sound quiet
+listens-none w (Start tap) before none sound quiet = listens-still w (Start tap) before (λ tap q. refl) sound quiet
+listens-none w (Stop tap) before none sound quiet = listens-still w (Stop tap) before (λ tap q. refl) sound quiet
+listens-none w (Queue tap request) before none sound quiet = listens-still w (Queue tap request) before (λ tap q. refl) sound quiet
+listens-none w (world.Noise bits) before none sound quiet = listens-still w (world.Noise bits) before (λ tap q. refl) sound quiet
+listens-none w (Unheard tap speaker) before none sound quiet = listens-still w (Unheard tap speaker) before (λ tap q. refl) sound quiet
+
+pub passes-time : (e : Event) (bits : ℕ) → time_in e ≡ Some bits → e ≡ Pass bits
+passes-time (Turn tap) bits is = absurd cc
+passes-time (Pass n) bits is = ap Pass (let same : n ≡ bits = cc in same)
+passes-time (Damage tap speaker place) bits is = absurd cc
+passes-time (Start tap) bits is = absurd cc
+passes-time (Stop tap) bits is = absurd cc
+passes-time (Queue tap request) bits is = absurd cc
+passes-time (world.Noise n) bits is = absurd cc
+passes-time (Unheard tap speaker) bits is = absurd cc
+
+-- ---- one of some numbers after another
+
+-- one more is a function's
+pub renewed : (f : ℕ → ℕ) (xs before : List ℕ) (tap v : ℕ) → tap < length xs → v ≡ f tap → ((k : ℕ) → get_or xs k 0 ≡ (if nat_lt k tap then f k else get_or before k 0))
+    → (k : ℕ) → get_or (slice_set xs tap v) k 0 ≡ (if nat_lt k (tap + 1) then f k else get_or before k 0)
+renewed f xs before tap v there is so_far k = by (k == tap) refl
+  where
+    by : (b : Bool) → (k == tap) ≡ b → get_or (slice_set xs tap v) k 0 ≡ (if nat_lt k (tap + 1) then f k else get_or before k 0)
+    by true here =
+        let same : k ≡ tap = eqb-true k tap here in
+        ap (λ n. get_or (slice_set xs tap v) n 0) same ∙ get_or-set_same xs tap v 0 there ∙ is ∙ ap f (sym same)
+        ∙ sym (ap (λ (b : Bool). if b then f k else get_or before k 0) (lt-ltb k (tap + 1) (omega (arith, same))))
+    by false other =
+        let apart = eqb-false k tap other in
+        let same : nat_lt k (tap + 1) ≡ nat_lt k tap = grind (arith, apart, nat_tests) in
+        get_or-set_other xs tap k v 0 apart ∙ so_far k ∙ ap (λ (b : Bool). if b then f k else get_or before k 0) (sym same)
+
+-- one more stays as it was
+pub still-old : (f : ℕ → ℕ) (xs before : List ℕ) (tap : ℕ) → f tap ≡ get_or before tap 0 → ((k : ℕ) → get_or xs k 0 ≡ (if nat_lt k tap then f k else get_or before k 0))
+    → (k : ℕ) → get_or xs k 0 ≡ (if nat_lt k (tap + 1) then f k else get_or before k 0)
+still-old f xs before tap is so_far k = by (k == tap) refl
+  where
+    by : (b : Bool) → (k == tap) ≡ b → get_or xs k 0 ≡ (if nat_lt k (tap + 1) then f k else get_or before k 0)
+    by true here =
+        let same : k ≡ tap = eqb-true k tap here in
+        so_far k ∙ ap (λ (b : Bool). if b then f k else get_or before k 0) (le-ltb k tap (omega (arith, same))) ∙ ap (λ n. get_or before n 0) same ∙ sym is ∙ ap f (sym same)
+        ∙ sym (ap (λ (b : Bool). if b then f k else get_or before k 0) (lt-ltb k (tap + 1) (omega (arith, same))))
+    by false other =
+        let apart = eqb-false k tap other in
+        let same : nat_lt k (tap + 1) ≡ nat_lt k tap = grind (arith, apart, nat_tests) in
+        so_far k ∙ ap (λ (b : Bool). if b then f k else get_or before k 0) (sym same)
+
+-- the first number that is not a function's yet is as it was
+pub not-yet : (f : ℕ → ℕ) (xs before : List ℕ) (tap : ℕ) → ((k : ℕ) → get_or xs k 0 ≡ (if nat_lt k tap then f k else get_or before k 0)) → get_or xs tap 0 ≡ get_or before tap 0
+not-yet f xs before tap so_far = so_far tap ∙ ap (λ (b : Bool). if b then f tap else get_or before tap 0) (le-ltb tap tap (omega arith))
+
+-- all of them are
+pub all-renewed : (f : ℕ → ℕ) (xs before : List ℕ) (tap : ℕ) → ((k : ℕ) → get_or xs k 0 ≡ (if nat_lt k tap then f k else get_or before k 0)) → (k : ℕ) → k < tap → get_or xs k 0 ≡ f k
+all-renewed f xs before tap so_far k there = so_far k ∙ ap (λ (b : Bool). if b then f k else get_or before k 0) (lt-ltb k tap there)
+
+-- in a world without entries each tap has been in silence all the time
+pub quiet-blank : (w : World) (quiet : List ℕ) → w.trace ≡ [] → length w.taps ≤ 32 → quiet ≡ replicate 32 0 → IsQuiet w quiet
+quiet-blank w quiet empty few zeros tap there =
+    ap (λ qs. get_or qs tap 0) zeros ∙ get_or-replicate 32 tap 0 0 (omega (arith, few, there)) ∙ sym (ap (quiet_at w.params.ttd tap w.now) empty)
 
 -- ---- time-outs
 
@@ -56,19 +162,19 @@ silent-for timeout quiet now some fits = grind (arith, nat_tests)
 timeout-some : (p : Params) (address : ℕ) → IsValid p → 0 < tto p address
 timeout-some p address valid = omega (arith, valid.slot_long)
 
-pub waited-is : (w : World) (position : ℕ) (t : Tap) (quiet timeout : ℕ) → w.params.ttd ≡ 0 → IsValid w.params → timeout ≡ tto w.params t.spec.address → quiet ≡ quiet_at w.now w.trace
+pub waited-is : (w : World) (position : ℕ) (t : Tap) (quiet timeout : ℕ) → IsValid w.params → timeout ≡ tto w.params t.spec.address → quiet ≡ quiet_in w position
     → (t.running && t.spec.master && nat_le timeout (w.now - t.since) && nat_le timeout (w.now - quiet)) ≡ has_waited w position t
-waited-is w position t quiet timeout none valid is silent =
+waited-is w position t quiet timeout valid is silent =
     let p = w.params in
     let full = tto p t.spec.address in
     let some : 0 < full = timeout-some p t.spec.address valid in
     ap (λ (n : ℕ). t.running && t.spec.master && nat_le n (w.now - t.since) && nat_le n (w.now - quiet)) is
     ∙ ap (λ (n : ℕ). t.running && t.spec.master && nat_le full (w.now - t.since) && nat_le full (w.now - n)) silent
-    ∙ behind-test (t.running && t.spec.master) (nat_le full (w.now - t.since)) (nat_le (t.since + full) w.now) (nat_le full (w.now - quiet_at w.now w.trace))
+    ∙ behind-test (t.running && t.spec.master) (nat_le full (w.now - t.since)) (nat_le (t.since + full) w.now) (nat_le full (w.now - quiet_in w position))
     (is_silent p.ttd position w.trace (w.now - full) w.now) (ran-for full t.since w.now some)
     (λ ran.
     let fits : full ≤ w.now = omega (arith, leb-true (t.since + full) w.now ran) in
-    silent-for full (quiet_at w.now w.trace) w.now some fits ∙ sym (silent-quiet p.ttd position (w.now - full) w.now w.trace none (omega (arith, some, fits))))
+    silent-for full (quiet_in w position) w.now some fits ∙ sym (silent-quiet p.ttd position (w.now - full) w.now w.trace (omega (arith, some, fits))))
 
 -- ---- the first of what is left
 
@@ -171,18 +277,18 @@ all-at w tap (t ∷ ts) =
     by_test (λ (new : List Waited). AllAt w.now new) (has_waited w tap t) (record { tap = tap; moment = w.now } ∷ waited_by w (tap + 1) ts) (waited_by w (tap + 1) ts)
     (λ _. (refl, all-at w (tap + 1) ts)) (λ _. all-at w (tap + 1) ts)
 
-met-of : (now : ℕ) (new : List Waited) (last : Option Waited) → AllAt now new → met_by now (waiting_of new) last ≡ new_meet 0 new last
-met-of now [] last all = refl
-met-of now (one ∷ []) last all = ap (λ (n : ℕ). new_meet 0 (record { tap = one.tap; moment = n } ∷ []) last) (sym all.0)
-met-of now (one ∷ other ∷ more) last all = refl
+met-of : (delay now : ℕ) (new : List Waited) (last : Option Waited) → AllAt now new → met_by delay now (waiting_of new) last ≡ new_meet delay new last
+met-of delay now [] last all = refl
+met-of delay now (one ∷ []) last all = ap (λ (n : ℕ). new_meet delay (record { tap = one.tap; moment = n } ∷ []) last) (sym all.0)
+met-of delay now (one ∷ other ∷ more) last all = refl
 
 last-is : (now : ℕ) (new : List Waited) (last : Option Waited) → AllAt now new → last_by now (waiting_of new) last ≡ last_waited new last
 last-is now [] last all = refl
 last-is now (one ∷ []) last all = ap (λ (n : ℕ). Some (record { tap = one.tap; moment = n })) (sym all.0)
 last-is now (one ∷ other ∷ more) last all = ap (λ (n : ℕ). Some (record { tap = one.tap; moment = n })) (sym all.0)
 
-pub met-now : (w : World) (last : Option Waited) → met_by w.now (waiting_of (waited_by w 0 w.taps)) last ≡ new_meet 0 (waited_by w 0 w.taps) last
-met-now w last = met-of w.now (waited_by w 0 w.taps) last (all-at w 0 w.taps)
+pub met-now : (w : World) (last : Option Waited) → met_by w.params.ttd w.now (waiting_of (waited_by w 0 w.taps)) last ≡ new_meet w.params.ttd (waited_by w 0 w.taps) last
+met-now w last = met-of w.params.ttd w.now (waited_by w 0 w.taps) last (all-at w 0 w.taps)
 
 pub last-now : (w : World) (last : Option Waited) → last_by w.now (waiting_of (waited_by w 0 w.taps)) last ≡ last_waited (waited_by w 0 w.taps) last
 last-now w last = last-is w.now (waited_by w 0 w.taps) last (all-at w 0 w.taps)
@@ -222,38 +328,31 @@ waiting-several w tap next (from, there, is) (behind, too, another) =
 
 -- ---- a watch
 
-pub after-is : (v : Watched) (w next : World) (e : Event) (quiet : ℕ) (waited : Option Waited) (broken : Option Broken) (busy namesakes lost late met : Bool) (number : Option ℕ)
-    (waiting : Waiting) → IsSound next
-    → busy ≡ passes_busy w e → lost ≡ loses e → late ≡ comes_late w e → quiet ≡ (if busy then next.now else v.quiet)
-    → waiting ≡ waiting_of (waited_by next 0 next.taps) → waited ≡ last_by next.now waiting v.waited → met ≡ met_by next.now waiting v.waited
+pub after-is : (v : Watched) (w next : World) (e : Event) (waited : Option Waited) (broken : Option Broken) (namesakes lost late met : Bool) (number : Option ℕ)
+    (waiting : Waiting)
+    → lost ≡ loses e → late ≡ comes_late w e
+    → waiting ≡ waiting_of (waited_by next 0 next.taps) → waited ≡ last_by next.now waiting v.waited → met ≡ met_by next.params.ttd next.now waiting v.waited
     → namesakes ≡ has_namesakes next.taps → number ≡ first_number namesakes lost late met → broken ≡ broken_or v.broken next.now number
-    → record { quiet = quiet; waited = waited; broken = broken } ≡ watched_after v w e next
-after-is v w next e quiet waited broken busy namesakes lost late met number waiting sound isbusy islost islate isquiet iswaiting iswaited ismet isnamesakes isnumber isbroken =
+    → record { waited = waited; broken = broken } ≡ watched_after v w e next
+after-is v w next e waited broken namesakes lost late met number waiting islost islate iswaiting iswaited ismet isnamesakes isnumber isbroken =
     let new = waited_by next 0 next.taps in
-    let same_quiet : quiet ≡ (if passes_busy w e then next.now else v.quiet) = isquiet ∙ ap (λ (b : Bool). if b then next.now else v.quiet) isbusy in
     let same_waited : waited ≡ last_waited new v.waited = iswaited ∙ ap (λ (o : Waiting). last_by next.now o v.waited) iswaiting ∙ last-now next v.waited in
     let same_met : met ≡ new_meet next.params.ttd new v.waited =
-    ismet ∙ ap (λ (o : Waiting). met_by next.now o v.waited) iswaiting ∙ met-now next v.waited ∙ ap (λ (d : ℕ). new_meet d new v.waited) (sym sound.no_delay) in
+    ismet ∙ ap (λ (o : Waiting). met_by next.params.ttd next.now o v.waited) iswaiting ∙ met-now next v.waited in
     let same_number : number ≡ first_number (has_namesakes next.taps) (loses e) (comes_late w e) (new_meet next.params.ttd new v.waited) =
     isnumber ∙ ap (λ (b : Bool). first_number b lost late met) isnamesakes ∙ ap (λ (b : Bool). first_number (has_namesakes next.taps) b late met) islost
     ∙ ap (λ (b : Bool). first_number (has_namesakes next.taps) (loses e) b met) islate ∙ ap (λ (b : Bool). first_number (has_namesakes next.taps) (loses e) (comes_late w e) b) same_met in
     let same_broken : broken ≡ broken_or v.broken next.now (first_number (has_namesakes next.taps) (loses e) (comes_late w e) (new_meet next.params.ttd new v.waited)) =
     isbroken ∙ ap (λ (o : Option ℕ). broken_or v.broken next.now o) same_number in
-    let first : ℕ → Watched = λ n. record { quiet = n; waited = waited; broken = broken } in
-    let second : Option Waited → Watched = λ o. record { quiet = (if passes_busy w e then next.now else v.quiet); waited = o; broken = broken } in
-    let third : Option Broken → Watched = λ o. record { quiet = (if passes_busy w e then next.now else v.quiet); waited = last_waited new v.waited; broken = o } in
-    ap first same_quiet ∙ ap second same_waited ∙ ap third same_broken
+    let second : Option Waited → Watched = λ o. record { waited = o; broken = broken } in
+    let third : Option Broken → Watched = λ o. record { waited = last_waited new v.waited; broken = o } in
+    ap second same_waited ∙ ap third same_broken
 
-pub goes-on : (v after : Watched) (w next : World) (e : Event) (reply : Reply) → IsSound w → IsSound next → step w e ≡ Ok (next, reply) → after ≡ watched_after v w e next
+pub goes-on : (v after : Watched) (w next : World) (e : Event) (reply : Reply) → step w e ≡ Ok (next, reply) → after ≡ watched_after v w e next
     → (c : Course) → c.world ≡ w → StandsFor v c → StandsFor after (followed c e (step c.world e))
-goes-on v after w next e reply sound kept ok is c at stands =
+goes-on v after w next e reply ok is c at stands =
     subst (λ (x : Watched). StandsFor x (followed c e (step c.world e))) (sym (subst (λ (x : World). after ≡ watched_after v x e next) (sym at) is))
-    (stands-followed v c next e reply (subst IsSound (sym at) sound) kept (subst (λ (x : World). step x e ≡ Ok (next, reply)) (sym at) ok) stands)
-
-pub silent-on : (w next : World) (e : Event) (reply : Reply) (busy : Bool) (quiet : ℕ) → IsSound w → step w e ≡ Ok (next, reply) → busy ≡ passes_busy w e → quiet ≡ quiet_at w.now w.trace
-    → (if busy then next.now else quiet) ≡ quiet_at next.now next.trace
-silent-on w next e reply busy quiet sound ok isbusy silent =
-    ap (λ (b : Bool). if b then next.now else quiet) isbusy ∙ ap (λ (n : ℕ). if passes_busy w e then next.now else n) silent ∙ sym (quiet-step w next e reply sound ok)
+    (stands-followed v c next e reply (subst (λ (x : World). step x e ≡ Ok (next, reply)) (sym at) ok) stands)
 
 -- ---- a run
 

@@ -1,3 +1,4 @@
 pub mod Premises
 pub mod Judging
+pub mod Ends
 pub mod Auditing

@@ -1,10 +1,11 @@
 -- A watch over a run, as the premises say it.
-use Rattle.std.specs.Prelude.{◌≡◌, ℕ, ◌+◌, ◌≤◌, ◌<◌, Bool, true, false, ◌||◌, List, [], ◌∷◌, length, drop, Option, Some, None, MatchOption}
+use Rattle.std.specs.Prelude.{◌≡◌, ℕ, ◌+◌, ◌≤◌, ◌<◌, Bool, true, false, List, [], ◌∷◌, length, drop, get_or, Option, Some, None, MatchOption, Ok, if◌then◌else◌}
 use Rattle.std.specs.Option.{option_map}
-use Rattle.pb_model.specs.World.{World, Event}
+use Rattle.pb_model.specs.World.{World, Event, Pass, Reply}
 use Rattle.pb_model.specs.Step.{step}
 use Rattle.pb_theorem.specs.Premises.{Waited, Broken, Course, waited_by, loses, comes_late, followed, course_of}
-use Rattle.pb_theorem.specs.Watching.{Watched, passes_busy, meets_last, watched_after, StandsFor}
+use Rattle.pb_theorem.specs.Quiet.{is_active, quiet_in}
+use Rattle.pb_theorem.specs.Watching.{Watched, meets_last, watched_after, StandsFor}
 use Rattle.pb_audit.specs.declared.premises.Breach.{Breach}
 use Rattle.pb_audit.specs.declared.premises.Foresight.{Foresight}
 use Rattle.pb_audit.specs.declared.premises.Premise.{Premise}
@@ -27,13 +28,29 @@ abbrev pub broken_of : Breach → Broken
 broken_of b = record { number = number_of b.premise; clock = b.clock }
 
 abbrev pub watched_of : Watch → Watched
-watched_of v = record { quiet = v.quiet; waited = option_map waited_of v.waited; broken = option_map broken_of v.broken }
+watched_of v = record { waited = option_map waited_of v.waited; broken = option_map broken_of v.broken }
+
+-- since when each tap of a world is in silence
+abbrev pub IsQuiet : World → List ℕ → Type 0
+IsQuiet w quiet = (tap : ℕ) → tap < length w.taps → get_or quiet tap 0 ≡ quiet_in w tap
+
+-- those taps of a world at which something is active before a moment are no longer in silence
+abbrev pub HaveHeard : World → ℕ → List ℕ → List ℕ → Type 0
+HaveHeard w to before after = (tap : ℕ) → tap < length w.taps → get_or after tap 0 ≡ (if is_active w.params.ttd w.now to w.trace tap then to else get_or before tap 0)
+
+-- how much time passes in an event, if it does
+abbrev pub time_in : Event → Option ℕ
+time_in (Pass bits) = Some bits
+time_in other = None
+
+-- since when each tap is in silence is known before an event that is accepted
+abbrev pub Listens : World → Event → List ℕ → Type 0
+Listens w e quiet = (next : World) (reply : Reply) → step w e ≡ Ok (next, reply) → IsQuiet next quiet
 
 -- what is seen of an event is what it does
 pub record Foresees (f : Foresight) (w : World) (e : Event) : Type 0 where
   pub loses : f.loses ≡ loses e
   pub late : f.late ≡ comes_late w e
-  pub busy : f.busy ≡ passes_busy w e
 
 -- the first of the taps that have waited out, with the others from a position on
 abbrev pub IsFirstWaiting : World → ℕ → Option ℕ → Type 0
@@ -47,10 +64,10 @@ waiting_of [] = waiting.Nobody
 waiting_of (one ∷ []) = waiting.One one.tap
 waiting_of (one ∷ other ∷ more) = waiting.Several one.tap
 
-abbrev pub met_by : ℕ → Waiting → Option Waited → Bool
-met_by now waiting.Nobody last = false
-met_by now (waiting.One tap) last = meets_last 0 (record { tap = tap; moment = now }) last
-met_by now (waiting.Several tap) last = true
+abbrev pub met_by : (delay now : ℕ) → Waiting → Option Waited → Bool
+met_by delay now waiting.Nobody last = false
+met_by delay now (waiting.One tap) last = meets_last delay (record { tap = tap; moment = now }) last
+met_by delay now (waiting.Several tap) last = true
 
 abbrev pub last_by : ℕ → Waiting → Option Waited → Option Waited
 last_by now waiting.Nobody last = last

@@ -21,8 +21,8 @@ use std::alloc::Global;
 /// trace that it leaves.
 ///
 /// The premises, by their numbers: 1, no two running taps have equal addresses; 2, no telegram is lost at a tap
-/// but by damage; 3, no turn is later than the lag; 4, no two masters have waited out their time-outs at one
-/// clock. Where it finds none broken, no telegram is illegal: so the contract says of valid parameters, data to
+/// but by damage; 3, no turn is later than the lag; 4, no two masters have waited out their time-outs at clocks a
+/// cable delay apart at most, each by what was active at its own tap while it ran. Where it finds none broken, no telegram is illegal: so the contract says of valid parameters, data to
 /// reply that fit, and requests as requests are.
 ///
 /// Faults, the first that applies: `New` with that of the new bus; `At` with the place of the first event that
@@ -66,10 +66,10 @@ fn first_broken(
     ensures err { IfErr result
         (λ e. StopsAt (world_of bus.old) (map event_of events.now) e.0 e.1 (world_of bus.new)) }
 {
-    let mut watch = Watch::new(bus.now);
+    let mut watch = Watch::new();
     for (place, event) in events.iter().enumerate() {
-        match follow(watch, alloc, bus, event) {
-            Ok(next) => watch = next,
+        match follow(&mut watch, alloc, bus, event) {
+            Ok(()) => (),
             Err(fault) => return Err((place, fault)),
         }
     }

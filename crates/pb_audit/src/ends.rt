@@ -1,94 +1,83 @@
-ghost use Rattle.std.specs.Prelude.{◌≡◌};
+ghost use Rattle.std.specs.Prelude.{◌≡◌, ◌≤◌, ◌<◌, max, length, map, take, drop, ◌++◌};
 ghost use Rattle.pb_medium.specs.Entries.{entry_of};
-ghost use Rattle.pb_model.specs.Trace.{entry_begin, entry_end};
+ghost use Rattle.pb_model.specs.Medium.{reaches_taps};
+ghost use Rattle.pb_theorem.specs.Activity as activity;
+ghost use Rattle.pb_theorem.specs.Activity.{active_at};
+ghost use Rattle.pb_theorem.specs.Judging.{AllReached};
+ghost use Rattle.pb_audit.specs.Ends.{AreEnds, HaveMore};
 
+use crate::activity::{active_at, is_active};
 use pb_medium::Entry;
-use std::marker::Model;
 
-/// When an entry begins, in bit times.
-pub(crate) fn begin_of(entry: &Entry) -> u64
-    ensures { result ≡ entry_begin (entry_of entry.now) }
-{
-    match entry {
-        Entry::Sent(telegram) => telegram.begin,
-        Entry::Noise { begin, .. } => *begin,
-    }
-}
+/// How many taps a bus may have.
+const TAPS: usize = 32;
 
-/// When an entry ends, in bit times.
-pub(crate) fn end_of(entry: &Entry) -> u64
-    ensures { result ≡ entry_end (entry_of entry.now) }
-{
-    match entry {
-        Entry::Sent(telegram) => telegram.end,
-        Entry::Noise { end, .. } => *end,
-    }
-}
-
-/// When some entries of a trace, taken in its order, were on the bus, in bit times. No entry is 0.
+/// The latest end at each tap of those entries of a trace that have begun at all taps, in bit times.
 #[derive(Clone, Copy, Debug)]
 pub(crate) struct Ends {
-    /// When the newest began.
-    newest: u64,
-    /// The latest end of those that began before the newest.
-    before: u64,
-    /// The latest end of all.
-    latest: u64,
-}
-
-impl Model for Ends {
-    ghost use Rattle.pb_theorem.specs.Judging as judging;
-
-    ghost Value = { judging.Ends };
-
-    ghost view = { λ e. record { newest = e.newest; before = e.before; latest = e.latest } };
-
-    ghost invariant = { λ _. Unit {0} };
-
-    ghost inverse = { λ e. record { newest = e.newest; before = e.before; latest = e.latest } };
+    /// How many entries have: the first ones.
+    begun: usize,
+    latest: [u64; TAPS],
 }
 
 impl Ends {
-    ghost use Rattle.std.specs.Prelude.{◌≡◌};
-    ghost use Rattle.pb_theorem.specs.Judging.{no_ends, end_before, with_end};
+    ghost use Rattle.std.specs.Prelude.{◌≡◌, ◌≤◌, ℕ, [], length, map, take};
+    ghost use Rattle.pb_model.specs.Trace.{Entry};
+    ghost use Rattle.pb_theorem.specs.Activity as activity;
+    ghost use Rattle.pb_theorem.specs.Judging.{AllReached};
     ghost use Rattle.pb_medium.specs.Entries.{entry_of};
+    ghost use Rattle.pb_audit.specs.Ends.{AreEnds};
 
     /// The ends of no entries.
     pub(crate) fn none() -> Ends
-        ensures { result ≡ no_ends }
+        ensures { (delay moment : ℕ) → AreEnds delay moment [] result }
     {
         Ends {
-            newest: 0,
-            before: 0,
-            latest: 0,
+            begun: 0,
+            latest: [0; TAPS],
         }
     }
 
-    /// The latest end of all.
-    pub(crate) fn latest(self) -> u64
-        ensures { result ≡ self.latest }
+    /// Takes those on among the earlier entries that have begun at all taps before a moment.
+    pub(crate) fn advance(&mut self, earlier: &[Entry], delay: u32, moment: u64)
+        requires { (before : ℕ) × (before ≤ moment) × AreEnds delay before (map entry_of earlier.now) self.old }
+        ensures { AreEnds delay moment (map entry_of earlier.now) self.new }
     {
-        self.latest
+        for place in self.begun..earlier.len() {
+            let entry = &earlier[place];
+            if entry.reaches_taps(delay).begin() >= moment {
+                return;
+            }
+            take_on(&mut self.latest, entry, delay);
+            self.begun = place + 1;
+        }
     }
 
-    /// The latest end of the entries that began before a moment, at which the next one begins.
-    pub(crate) fn before(self, begin: u64) -> u64
-        ensures { result ≡ end_before self begin }
+    /// Whether nothing of the earlier entries was active at a tap from one moment on, before another.
+    pub(crate) fn is_silent(
+        &self,
+        earlier: &[Entry],
+        delay: u32,
+        tap: usize,
+        from: u64,
+        to: u64,
+    ) -> bool
+        requires { (before : ℕ) × (before ≤ to) × AreEnds delay before (map entry_of earlier.now) self.now }
+        ensures { result ≡ activity.is_silent delay tap (map entry_of earlier.now) from to }
     {
-        if self.newest < begin {
-            return self.latest;
+        match self.latest.get(tap) {
+            Some(latest) => *latest <= from
+                && !is_active(&earlier[self.begun..], delay, tap, from, to),
+            None => !is_active(earlier, delay, tap, from, to),
         }
-        self.before
     }
+}
 
-    /// The ends with the next entry.
-    pub(crate) fn with(self, entry: &Entry) -> Ends
-        ensures { result ≡ with_end self (entry_of entry.now) }
-    {
-        Ends {
-            newest: begin_of(entry),
-            before: self.before(begin_of(entry)),
-            latest: self.latest.max(end_of(entry)),
-        }
+/// The latest end at each tap with one entry more.
+fn take_on(latest: &mut [u64; TAPS], entry: &Entry, delay: u32)
+    ensures { HaveMore delay (entry_of entry.now) latest.old latest.new }
+{
+    for tap in 0..TAPS {
+        latest[tap] = latest[tap].max(active_at(entry, delay, tap).end());
     }
 }

@@ -1,12 +1,16 @@
-ghost use Rattle.std.specs.Prelude.{◌≡◌, ◌+◌, None, map, nat_le, slice_get};
+ghost use Rattle.std.specs.Prelude.{◌≡◌, ◌+◌, ◌≤◌, map, nat_le, slice_get};
 ghost use Rattle.std.specs.Option.{option_map};
+ghost use Rattle.pb_model.specs.Trace.{entry_begin, entry_end};
+ghost use Rattle.pb_theorem.specs.Activity as activity;
 ghost use Rattle.pb_theorem.specs.Initiators as initiators;
-ghost use Rattle.pb_theorem.specs.Judging.{IsOrdered, claims_after, goes_on_after, is_between, last_after, may_come, may_follow, slot_after, takes_after};
+ghost use Rattle.pb_theorem.specs.Judging.{IsOrdered, claims_after, goes_on_after, is_in_slot, last_after, may_come, may_follow, slot_after, takes_after};
 ghost use Rattle.pb_theorem.specs.Legality as legality;
 ghost use Rattle.pb_medium.specs.Entries.{entry_of, record_of};
+ghost use Rattle.pb_audit.specs.Ends.{AreEnds};
 ghost use Rattle.pb_audit.specs.Judging.{last_of, specs_at};
 
-use crate::ends::{Ends, begin_of, end_of};
+use crate::activity::is_active_in;
+use crate::ends::Ends;
 use crate::initiators::{claims_for, is_initiator, offered_to};
 use pb_medium::{Entry, Heard, Record};
 use pb_taps::Tap;
@@ -19,96 +23,117 @@ const NO_ADDRESS: u8 = 255;
 #[derive(Clone, Copy, Debug)]
 struct LastInitiator<'a> {
     telegram: &'a Record,
-    /// Whether nothing was on the bus in the slot behind it so far.
+    /// Whether nothing was active at its speaker in the slot behind it so far.
     silent: bool,
 }
 
 /// The position of the first illegal initiator record of a trace that stands in order, in one pass.
 pub(crate) fn first_illegal(params: &BusParams, taps: &[Tap], trace: &[Entry]) -> Option<usize>
-    ensures { params.now.ttd ≡ 0 → IsOrdered (map entry_of trace.now) → result
-        ≡ legality.first_illegal params.now (specs_at taps.now) (map entry_of trace.now) }
+    requires { IsOrdered (map entry_of trace.now) }
+    ensures { result ≡ legality.first_illegal params.now (specs_at taps.now) (map entry_of trace.now) }
 {
     let mut ends = Ends::none();
     let mut last = None;
     for (place, entry) in trace.iter().enumerate() {
-        if !may_come(params, taps, ends, last, entry) {
+        let earlier = &trace[..place];
+        ends.advance(earlier, params.ttd(), entry.begin());
+        if !may_come(params, taps, earlier, &ends, last, entry) {
             return Some(place);
         }
-        ends = ends.with(entry);
-        last = last_after(params.tsl(), ends, last, entry);
+        last = last_after(params, earlier, &ends, last, entry);
     }
     None
 }
 
-/// Whether an entry is no illegal initiator record.
+/// Whether an entry is no illegal initiator record behind the earlier ones.
 fn may_come(
     params: &BusParams,
     taps: &[Tap],
-    ends: Ends,
+    earlier: &[Entry],
+    ends: &Ends,
     last: Option<LastInitiator>,
     entry: &Entry,
 ) -> bool
-    ensures { result
-        ≡ may_come params.now (specs_at taps.now) ends (option_map last_of last.entry) (entry_of entry.now) }
+    requires { AreEnds params.now.ttd (entry_begin (entry_of entry.now)) (map entry_of earlier.now) ends.now }
+    ensures { result ≡ may_come params.now (specs_at taps.now) (map entry_of earlier.now)
+        (option_map last_of last.entry) (entry_of entry.now) }
 {
     match entry {
         Entry::Sent(telegram) => !is_initiator(telegram)
-            || may_follow(params, taps, ends, last, telegram),
+            || may_follow(params, taps, earlier, ends, last, telegram),
         Entry::Noise { .. } => true,
     }
 }
 
-/// The last initiator record behind an entry, with the ends behind it.
+/// The last initiator record behind an entry, which has the earlier ones before it.
 fn last_after<'a>(
-    slot: u32,
-    ends: Ends,
+    params: &BusParams,
+    earlier: &[Entry],
+    ends: &Ends,
     last: Option<LastInitiator<'a>>,
     entry: &'a Entry,
 ) -> Option<LastInitiator<'a>>
+    requires ends { AreEnds params.now.ttd (entry_begin (entry_of entry.now)) (map entry_of earlier.now) ends.now }
+    requires lasts { entry_begin (entry_of entry.now) ≤ entry_end (entry_of entry.now) }
     ensures { option_map last_of result
-        ≡ last_after slot ends (option_map last_of last.entry) (entry_of entry.now) }
+        ≡ last_after params.now.ttd params.now.tsl (map entry_of earlier.now) (option_map last_of last.entry)
+        (entry_of entry.now) }
 {
     match entry {
         Entry::Sent(telegram) if is_initiator(telegram) => Some(LastInitiator {
             telegram,
-            silent: ends.latest() <= telegram.end,
+            silent: is_slot_silent(params, earlier, ends, telegram),
         }),
-        _ => slot_after(slot, entry, last),
+        _ => slot_after(params, entry, last),
     }
+}
+
+/// Whether nothing of the earlier entries is active at the speaker of a telegram in the slot behind it.
+fn is_slot_silent(params: &BusParams, earlier: &[Entry], ends: &Ends, telegram: &Record) -> bool
+    requires ends { AreEnds params.now.ttd telegram.now.begin (map entry_of earlier.now) ends.now }
+    requires lasts { telegram.now.begin ≤ telegram.now.end }
+    ensures { result ≡ activity.is_silent params.now.ttd telegram.now.tap (map entry_of earlier.now)
+        telegram.now.end (telegram.now.end + params.now.tsl) }
+{
+    let end = telegram.end;
+    let over = end + u64::from(params.tsl());
+    ends.is_silent(earlier, params.ttd(), telegram.tap, end, over)
 }
 
 /// Whether an initiator record is legal behind the last one: the first of all has to be a claim.
 fn may_follow(
     params: &BusParams,
     taps: &[Tap],
-    ends: Ends,
+    earlier: &[Entry],
+    ends: &Ends,
     last: Option<LastInitiator>,
     telegram: &Record,
 ) -> bool
-    ensures { result
-        ≡ may_follow params.now (specs_at taps.now) ends (option_map last_of last.entry)
-        (record_of telegram.now) }
+    requires { AreEnds params.now.ttd telegram.now.begin (map entry_of earlier.now) ends.now }
+    ensures { result ≡ may_follow params.now (specs_at taps.now) (map entry_of earlier.now)
+        (option_map last_of last.entry) (record_of telegram.now) }
 {
     match last {
         Some(last) => last.telegram.end <= telegram.begin
-            && (follows(params, taps, last, telegram) || claims(params, taps, ends, telegram)),
-        None => claims(params, taps, ends, telegram),
+            && (follows(params, taps, last, telegram)
+                || claims(params, taps, earlier, ends, telegram)),
+        None => claims(params, taps, earlier, ends, telegram),
     }
 }
 
 /// The last initiator record behind an entry that is none.
 fn slot_after<'a>(
-    slot: u32,
+    params: &BusParams,
     entry: &Entry,
     last: Option<LastInitiator<'a>>,
 ) -> Option<LastInitiator<'a>>
     ensures { option_map last_of result
-        ≡ slot_after slot (entry_of entry.now) (option_map last_of last.entry) }
+        ≡ slot_after params.now.ttd params.now.tsl (entry_of entry.now) (option_map last_of last.entry) }
 {
     let LastInitiator { telegram, silent } = last?;
     Some(LastInitiator {
         telegram,
-        silent: silent && !is_in_slot(telegram.end, slot, entry),
+        silent: silent && !is_in_slot(params, telegram, entry),
     })
 }
 
@@ -125,21 +150,32 @@ fn follows(params: &BusParams, taps: &[Tap], last: LastInitiator, telegram: &Rec
     }
 }
 
-/// Whether a telegram is a claim: its speaker's token to itself, before which nothing was on the bus for
-/// the speaker's time-out.
-fn claims(params: &BusParams, taps: &[Tap], ends: Ends, telegram: &Record) -> bool
-    ensures { result ≡ claims_after params.now (specs_at taps.now) ends (record_of telegram.now) }
+/// Whether a telegram is a claim: its speaker's token to itself, before which nothing of the earlier entries was
+/// active at the speaker for its time-out.
+fn claims(
+    params: &BusParams,
+    taps: &[Tap],
+    earlier: &[Entry],
+    ends: &Ends,
+    telegram: &Record,
+) -> bool
+    requires { AreEnds params.now.ttd telegram.now.begin (map entry_of earlier.now) ends.now }
+    ensures { result ≡ claims_after params.now (specs_at taps.now) (map entry_of earlier.now)
+        (record_of telegram.now) }
 {
     let address = address_at(taps, telegram.tap);
+    let begin = telegram.begin;
+    let from = begin.saturating_sub(params.tto(address));
     claims_for(telegram, address)
-        && ends.before(telegram.begin) <= telegram.begin.saturating_sub(params.tto(address))
+        && ends.is_silent(earlier, params.ttd(), telegram.tap, from, begin)
 }
 
-/// Whether an entry is on the bus in the slot behind an end.
-fn is_in_slot(end: u64, slot: u32, entry: &Entry) -> bool
-    ensures { result ≡ is_between end (end + slot) (entry_of entry.now) }
+/// Whether an entry is active at the speaker of a telegram in the slot behind it.
+fn is_in_slot(params: &BusParams, telegram: &Record, entry: &Entry) -> bool
+    ensures { result ≡ is_in_slot params.now.ttd params.now.tsl (record_of telegram.now) (entry_of entry.now) }
 {
-    !is_slot_over(end, slot, begin_of(entry)) && end < end_of(entry)
+    let over = telegram.end + u64::from(params.tsl());
+    is_active_in(entry, params.ttd(), telegram.tap, telegram.end, over)
 }
 
 /// Whether a telegram follows a token to an address: its speaker passes it again after a slot in silence, or

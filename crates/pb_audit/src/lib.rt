@@ -2,6 +2,7 @@
 //! in bit times.
 #![tactic(auto)]
 
+mod activity;
 mod auditing;
 mod ends;
 mod findings;

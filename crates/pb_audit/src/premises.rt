@@ -1,28 +1,29 @@
-ghost use Rattle.std.specs.Prelude.{◌≡◌, ◌+◌, ◌-◌, ◌≤◌, ◌&&◌, nat_le, ℕ, IfOk, IfErr, OnOk, Ok, is_some, if◌then◌else◌, length, map};
+ghost use Rattle.std.specs.Prelude.{◌≡◌, ◌+◌, ◌-◌, ◌≤◌, ◌&&◌, nat_le, IfErr, OnOk, Ok, length, map};
 ghost use Rattle.std.specs.List.{list_any};
 ghost use Rattle.std.specs.Option.{option_map};
 ghost use Rattle.pb_model.specs.Step.{step};
 ghost use Rattle.pb_model.specs.World as model;
-ghost use Rattle.pb_model.specs.World.{next_end};
 ghost use Rattle.pb_theorem.specs.Premises as premises;
 ghost use Rattle.pb_theorem.specs.Premises.{is_late, waited_by};
-ghost use Rattle.pb_theorem.specs.Quiet.{quiet_at};
-ghost use Rattle.pb_theorem.specs.Watching as watching;
+ghost use Rattle.pb_theorem.specs.Quiet.{is_active, quiet_in};
 ghost use Rattle.pb_theorem.specs.Watching.{meets_last};
 ghost use Rattle.pb_bus.specs.Buses.{world_of, IsKept};
 ghost use Rattle.pb_taps.specs.Events.{event_of};
 ghost use Rattle.pb_taps.specs.Faults.{Refuses};
-ghost use Rattle.pb_audit.specs.Premises.{waited_of, number_of, broken_of, watched_of, waiting_of, met_by, last_by, Foresees, IsFirstWaiting, IsAfter, GoesOn};
+ghost use Rattle.pb_audit.specs.Premises.{waited_of, number_of, broken_of, watched_of, waiting_of, met_by, last_by, Foresees, IsFirstWaiting, IsQuiet, HaveHeard, Listens, GoesOn, time_in};
 ghost use Rattle.pb_taps.specs.Taps.{tap_of};
 
+use crate::activity::is_active;
 use pb_bus::Bus;
-use pb_medium::next_end;
 use pb_taps::{Event, Tap, WorldFault};
 use pb_timers::Moment;
 use std::alloc::Global;
 
 /// How many addresses a station may have: 0 to 126.
 const ADDRESSES: usize = 127;
+
+/// How many taps a bus may have.
+const TAPS: usize = 32;
 
 /// What has to hold of a bus, so that one station at most may initiate.
 #[derive(Clone, Copy, Debug)]
@@ -33,7 +34,7 @@ pub(crate) enum Premise {
     NothingLost,
     /// No turn is later than the lag.
     TurnsInTime,
-    /// No two masters have waited out their time-outs at one clock.
+    /// No two masters have waited out their time-outs within a cable delay.
     OneWaits,
 }
 
@@ -67,15 +68,13 @@ pub(crate) struct Foresight {
     loses: bool,
     /// Whether a turn comes later than the lag.
     late: bool,
-    /// Whether time passes while something is in the air.
-    busy: bool,
 }
 
 /// Follows a run, event by event, to the first premise that breaks.
 #[derive(Clone, Copy, Debug)]
 pub(crate) struct Watch {
-    /// The moment since which the bus has been silent.
-    quiet: Moment,
+    /// The moment since which each tap has been in silence, in bit times.
+    quiet: [u64; TAPS],
     /// The tap that was the last to wait out its time-out, and when. As long as no two have met, it decides
     /// whether a later one meets any.
     waited: Option<Waited>,
@@ -84,18 +83,18 @@ pub(crate) struct Watch {
 }
 
 impl Watch {
-    ghost use Rattle.std.specs.Prelude.{◌≡◌, if◌then◌else◌, None};
+    ghost use Rattle.std.specs.Prelude.{◌≡◌, None, replicate};
     ghost use Rattle.std.specs.Option.{option_map};
-    ghost use Rattle.pb_theorem.specs.Quiet.{quiet_at};
     ghost use Rattle.pb_bus.specs.Buses.{world_of, IsKept};
-    ghost use Rattle.pb_audit.specs.Premises.{watched_of, broken_of, IsAfter};
+    ghost use Rattle.pb_audit.specs.Premises.{watched_of, broken_of, IsAfter, IsQuiet};
 
-    /// Before the first event of a run, at a clock.
-    pub(crate) fn new(now: Moment) -> Watch
-        ensures { watched_of result ≡ record { quiet = now; waited = None; broken = None } }
+    /// Before the first event of a run.
+    pub(crate) fn new() -> Watch
+        ensures watched { watched_of result ≡ record { waited = None; broken = None } }
+        ensures silent { result.quiet ≡ replicate 32 0 }
     {
         Watch {
-            quiet: now,
+            quiet: [0; TAPS],
             waited: None,
             broken: None,
         }
@@ -108,54 +107,87 @@ impl Watch {
         self.broken
     }
 
-    /// Since when the bus has been silent, after an event that has led to a clock.
-    fn quiet_after(&self, now: Moment, foresight: Foresight) -> Moment
-        ensures { result ≡ (if foresight.busy then now else self.now.quiet) }
-    {
-        if foresight.busy { now } else { self.quiet }
-    }
-
-    /// After an event that has led to a bus, as it was foreseen.
-    fn after(self, bus: &Bus, foresight: Foresight) -> Watch
+    /// Notes what stands after an event that has led to a bus, as it was foreseen.
+    fn note(&mut self, bus: &Bus, foresight: Foresight)
         requires kept { IsKept bus.now }
-        requires silent { (if foresight.busy then bus.now.now else self.quiet)
-            ≡ quiet_at bus.now.now (world_of bus.now).trace }
-        ensures { IsAfter self foresight (world_of bus.entry.now) result }
+        requires silent { IsQuiet (world_of bus.now) self.old.quiet }
+        ensures quiet { self.new.quiet ≡ self.old.quiet }
+        ensures after { IsAfter self.old foresight (world_of bus.entry.now) self.new }
     {
-        let quiet = self.quiet_after(bus.now, foresight);
-        let waiting = waiting_taps(bus, quiet);
-        let met = is_met(waiting, bus.now, self.waited);
+        let waiting = waiting_taps(bus, &self.quiet);
+        let met = is_met(bus.params.ttd(), waiting, bus.now, self.waited);
         let namesakes = has_namesakes(&bus.taps);
         let premise = first_premise(namesakes, foresight, met);
-        Watch {
-            quiet,
-            waited: last_waiting(waiting, bus.now, self.waited),
-            broken: broken_or(self.broken, bus.now, premise),
-        }
+        self.waited = last_waiting(waiting, bus.now, self.waited);
+        self.broken = broken_or(self.broken, bus.now, premise);
     }
 }
 
-/// Does an event, and answers what a watch over the run is after it.
+/// Does an event, and follows it with a watch over the run.
 pub(crate) fn follow(
-    watch: Watch,
+    watch: &mut Watch,
     alloc: Global,
     bus: &mut Bus,
     event: &Event,
-) -> Result<Watch, WorldFault>
+) -> Result<(), WorldFault>
     requires kept { IsKept bus.old }
-    requires silent { watch.quiet ≡ quiet_at bus.old.now (world_of bus.old).trace }
+    requires silent { IsQuiet (world_of bus.old) watch.old.quiet }
     ensures kept { IsKept bus.new }
     ensures steps { OnOk result ((reply : model.Reply)
         × (step (world_of bus.old) (event_of event.now) ≡ Ok (world_of bus.new, reply))) }
-    ensures silent { IfOk result (λ next. next.quiet ≡ quiet_at bus.new.now (world_of bus.new).trace) }
-    ensures stands { IfOk result (GoesOn watch (world_of bus.old) (event_of event.now)) }
+    ensures silent { OnOk result (IsQuiet (world_of bus.new) watch.new.quiet) }
+    ensures stands { OnOk result (GoesOn watch.old (world_of bus.old) (event_of event.now) watch.new) }
     ensures err { IfErr result (λ fault. (world_of bus.new ≡ world_of bus.old)
         × Refuses (world_of bus.old) (event_of event.now)
         (step (world_of bus.old) (event_of event.now)) fault) }
 {
     let foresight = foresee(bus, event);
+    listen(&mut watch.quiet, bus, event);
     bus.apply(alloc, event)?;
-    Ok(watch.after(bus, foresight))
+    watch.note(bus, foresight);
+    Ok(())
+}
+
+/// An event is about to happen: while time passes in it, those taps at which something is active are no longer in
+/// silence.
+fn listen(quiet: &mut [u64; TAPS], bus: &Bus, event: &Event)
+    requires kept { IsKept bus.now }
+    requires silent { IsQuiet (world_of bus.now) quiet.old }
+    ensures { Listens (world_of bus.entry.now) (event_of event.now) quiet.new }
+{
+    if let Some(bits) = time_in(event) {
+        listen_to(quiet, bus, bus.now.get().saturating_add(bits));
+    }
+}
+
+/// How much time passes in an event, if it does.
+fn time_in(event: &Event) -> Option<u64>
+    ensures { result ≡ time_in (event_of event.now) }
+{
+    match event {
+        Event::Pass(bits) => Some(*bits),
+        _ => None,
+    }
+}
+
+/// Taps at which something is active before a moment are no longer in silence.
+fn listen_to(quiet: &mut [u64; TAPS], bus: &Bus, to: u64)
+    requires { IsKept bus.now }
+    ensures { HaveHeard (world_of bus.entry.now) to quiet.old quiet.new }
+{
+    for tap in 0..bus.taps.len() {
+        if is_heard(bus, tap, to) {
+            quiet[tap] = to;
+        }
+    }
+}
+
+/// Whether something is active at a tap from the clock on, before a moment.
+fn is_heard(bus: &Bus, tap: usize, to: u64) -> bool
+    requires { IsKept bus.now }
+    ensures { result ≡ is_active bus.entry.now.params.ttd bus.entry.now.now to (world_of bus.entry.now).trace tap }
+{
+    is_active(bus.trace.recent(), bus.params.ttd(), tap, bus.now.get(), to)
 }
 
 impl Premise {
@@ -221,25 +253,6 @@ fn comes_late(bus: &Bus, event: &Event) -> bool
     }
 }
 
-/// Whether something is in the air.
-fn is_busy(bus: &Bus) -> bool
-    requires { IsKept bus.now }
-    ensures { result ≡ is_some (next_end (world_of bus.entry.now)) }
-{
-    next_end(bus.trace.recent(), bus.now.get()).is_some()
-}
-
-/// Whether time passes in an event, while something is in the air.
-fn passes_busy(bus: &Bus, event: &Event) -> bool
-    requires { IsKept bus.now }
-    ensures { result ≡ watching.passes_busy (world_of bus.entry.now) (event_of event.now) }
-{
-    match event {
-        Event::Pass(_) => is_busy(bus),
-        _ => false,
-    }
-}
-
 fn foresee(bus: &Bus, event: &Event) -> Foresight
     requires { IsKept bus.now }
     ensures { Foresees result (world_of bus.entry.now) (event_of event.now) }
@@ -247,7 +260,6 @@ fn foresee(bus: &Bus, event: &Event) -> Foresight
     Foresight {
         loses: loses(event),
         late: comes_late(bus, event),
-        busy: passes_busy(bus, event),
     }
 }
 
@@ -280,26 +292,25 @@ fn has_waited_since(tap: &Tap, moment: u64, timeout: u64, now: u64) -> bool
         && timeout <= now.saturating_sub(moment)
 }
 
-/// Whether a tap is a master that has run for its time-out, in which the bus was silent.
-fn has_waited(bus: &Bus, tap: &Tap, quiet: Moment) -> bool
+/// Whether the tap at a position is a master that has run for its time-out, in which it was in silence.
+fn has_waited(bus: &Bus, position: usize, tap: &Tap, quiet: u64) -> bool
     requires kept { IsKept bus.now }
-    requires silent { quiet ≡ quiet_at bus.now.now (world_of bus.now).trace }
-    ensures { (position : ℕ) → result
-        ≡ premises.has_waited (world_of bus.entry.now) position (tap_of tap.now) }
+    requires silent { quiet ≡ quiet_in (world_of bus.now) position }
+    ensures { result ≡ premises.has_waited (world_of bus.entry.now) position (tap_of tap.now) }
 {
     let timeout = bus.params.tto(tap.station.address());
-    has_waited_since(tap, quiet.get(), timeout, bus.now.get())
+    has_waited_since(tap, quiet, timeout, bus.now.get())
 }
 
 /// The first tap from a position on that has waited out its time-out.
-fn first_waiting(bus: &Bus, quiet: Moment, from: usize) -> Option<usize>
+fn first_waiting(bus: &Bus, quiet: &[u64; TAPS], from: usize) -> Option<usize>
     requires kept { IsKept bus.now }
-    requires silent { quiet ≡ quiet_at bus.now.now (world_of bus.now).trace }
+    requires silent { IsQuiet (world_of bus.now) quiet.now }
     requires place { from ≤ length bus.now.taps.items }
     ensures { IsFirstWaiting (world_of bus.entry.now) from result }
 {
     for tap in from..bus.taps.len() {
-        if has_waited(bus, &bus.taps[tap], quiet) {
+        if has_waited(bus, tap, &bus.taps[tap], quiet[tap]) {
             return Some(tap);
         }
     }
@@ -307,9 +318,9 @@ fn first_waiting(bus: &Bus, quiet: Moment, from: usize) -> Option<usize>
 }
 
 /// The taps that have waited out their time-outs.
-fn waiting_taps(bus: &Bus, quiet: Moment) -> Waiting
+fn waiting_taps(bus: &Bus, quiet: &[u64; TAPS]) -> Waiting
     requires kept { IsKept bus.now }
-    requires silent { quiet ≡ quiet_at bus.now.now (world_of bus.now).trace }
+    requires silent { IsQuiet (world_of bus.now) quiet.now }
     ensures { result ≡ waiting_of (waited_by (world_of bus.entry.now) 0 (world_of bus.entry.now).taps) }
 {
     let Some(tap) = first_waiting(bus, quiet, 0) else {
@@ -321,23 +332,24 @@ fn waiting_taps(bus: &Bus, quiet: Moment) -> Waiting
     Waiting::One(tap)
 }
 
-/// Whether another tap was the last to wait out its time-out, at this clock too.
-fn meets(tap: usize, now: Moment, last: Option<Waited>) -> bool
-    ensures { result ≡ meets_last 0 (record { tap = tap; moment = now }) (option_map waited_of last) }
+/// Whether another tap was the last to wait out its time-out, a cable delay ago at most.
+fn meets(delay: u32, tap: usize, now: Moment, last: Option<Waited>) -> bool
+    ensures { result ≡ meets_last delay (record { tap = tap; moment = now }) (option_map waited_of last) }
 {
     match last {
-        Some(last) => tap != last.tap && now <= last.moment,
+        Some(last) => tap != last.tap
+            && now.get().saturating_sub(last.moment.get()) <= u64::from(delay),
         None => false,
     }
 }
 
-/// Whether two taps have waited out their time-outs at one clock, one of them now.
-fn is_met(waiting: Waiting, now: Moment, last: Option<Waited>) -> bool
-    ensures { result ≡ met_by now waiting (option_map waited_of last) }
+/// Whether two taps have waited out their time-outs within a cable delay, one of them now.
+fn is_met(delay: u32, waiting: Waiting, now: Moment, last: Option<Waited>) -> bool
+    ensures { result ≡ met_by delay now waiting (option_map waited_of last) }
 {
     match waiting {
         Waiting::Nobody => false,
-        Waiting::One(tap) => meets(tap, now, last),
+        Waiting::One(tap) => meets(delay, tap, now, last),
         Waiting::Several(_) => true,
     }
 }

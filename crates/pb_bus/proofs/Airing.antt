@@ -1,5 +1,5 @@
 -- The recent entries and the taps of a bus, as a world of the model.
-use Rattle.std.proofs.Common.{◌≡◌, ap, ℕ, List, map}
+use Rattle.std.proofs.Common.{◌≡◌, ◌∙◌, ap, ℕ, List, map}
 use Rattle.std.specs.Prelude.{drop}
 use Rattle.pb_timers.specs.Timers.{Params}
 use Rattle.pb_model.specs.Trace as trace
@@ -8,6 +8,6 @@ use Rattle.pb_taps.specs.Taps.{tap_of}
 use Rattle.pb_taps.specs.declared.taps.Tap.{Tap}
 use Rattle.pb_bus.proofs.Stepping.{recent_of}
 
-pub air-recent : (p : Params) (now over : ℕ) (es : List trace.Entry) (ts taps : List Tap) → taps ≡ ts
-    → air now (drop over es) taps ≡ recent_of over (record { params = p; now = now; trace = es; taps = map tap_of ts })
-air-recent p now over es ts taps same = ap (air now (drop over es)) same
+pub air-recent : (p : Params) (delay now over : ℕ) (es : List trace.Entry) (ts taps : List Tap) → delay ≡ p.ttd → taps ≡ ts
+    → air delay now (drop over es) taps ≡ recent_of over (record { params = p; now = now; trace = es; taps = map tap_of ts })
+air-recent p delay now over es ts taps is same = ap (λ d. air d now (drop over es) taps) is ∙ ap (air p.ttd now (drop over es)) same

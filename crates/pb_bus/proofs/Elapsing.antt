@@ -1,44 +1,30 @@
 -- Time passes.
 use Rattle.std.proofs.Common.{◌≡◌, ◌∙◌, ap, sym, refl, ℕ, ◌+◌, ◌<◌, ◌++◌, List, [], ◌∷◌, map, Bool, true, false, if◌then◌else◌, arith, Option, Some, None, Err}
 use Rattle.std.specs.Prelude.{is_some, unwrap_or}
-use Rattle.std.proofs.lemmas.Bool.{eqb-false}
 use Rattle.pb_refusals.specs.FirstFault.{first_fault}
 use Rattle.pb_refusals.proofs.FirstFaults.{none_holds, first_fault-append}
-use Rattle.pb_turn.specs.Marks.{Mark}
 use Rattle.pb_model.specs.Trace.{Heard, Record, Entry, Sent, Noise}
 use Rattle.pb_model.specs.Medium.{Tap, heard_by, entry_at, reaches, ends_between, heard_in_the_end, is_whole_at}
 use Rattle.pb_model.specs.World.{World, Reply, Fault, InboxFull, next_end_of, unless_fault}
 use Rattle.pb_model.specs.Step.{told, first_full, is_past, pass_faults, step_pass}
-use Rattle.pb_model.specs.Laws.{AllBegun, AllInOrder, IsSound}
-use Rattle.pb_model.proofs.Bursts.{marks_between-exact}
-use Rattle.pb_model.proofs.Sensed.{ready-sensed}
 use Rattle.pb_bus.specs.Clocks.{time_faults}
-use Rattle.pb_bus.specs.Passes.{news, told_news}
 
 -- ---- what the taps are told
 
-told-is-news : (delay : ℕ) (trace : List Entry) (from to k : ℕ) (ts : List Tap) → delay ≡ 0 → from < to → AllBegun from trace
-    → is_past (next_end_of delay from trace) to ≡ false → AllInOrder from ts → told delay trace from to k ts ≡ told_news delay trace from to k ts
-told-is-news delay trace from to k [] none later begun past sound = refl
-told-is-news delay trace from to k (t ∷ ts) none later begun past sound =
-    let exact = marks_between-exact delay k t trace from to later (ready-sensed delay k from to t.since trace none sound.0 begun past) in
-    ap (λ (ms : List Mark). record t { marks = t.marks ++ (if t.running then ms else []) } ∷ told delay trace from to (k + 1) ts) exact
-    ∙ ap (λ (us : List Tap). record t { marks = t.marks ++ news delay k t trace from to } ∷ us) (told-is-news delay trace from to (k + 1) ts none later begun past sound.2)
-
 -- news to the taps doesn't change what telegrams were to them
 heard_by-told : (delay : ℕ) (trace entries : List Entry) (from to : ℕ) (r : Record) (k : ℕ) (ts : List Tap) (hs : List Heard)
-    → heard_by delay entries r k (told_news delay trace from to k ts) hs ≡ heard_by delay entries r k ts hs
+    → heard_by delay entries r k (told delay trace from to k ts) hs ≡ heard_by delay entries r k ts hs
 heard_by-told delay trace entries from to r k [] hs = refl
 heard_by-told delay trace entries from to r k (t ∷ ts) [] = refl
 heard_by-told delay trace entries from to r k (t ∷ ts) (h ∷ hs) =
     ap (λ (rest : List Heard). heard_in_the_end (is_whole_at delay k t entries r) h ∷ rest) (heard_by-told delay trace entries from to r (k + 1) ts hs)
 
 entries-told : (delay : ℕ) (trace entries : List Entry) (from to : ℕ) (ts : List Tap) (es : List Entry)
-    → map (entry_at delay (told_news delay trace from to 0 ts) entries from to) es ≡ map (entry_at delay ts entries from to) es
+    → map (entry_at delay (told delay trace from to 0 ts) entries from to) es ≡ map (entry_at delay ts entries from to) es
 entries-told delay trace entries from to ts [] = refl
 entries-told delay trace entries from to ts (Noise span ∷ es) = ap (λ (rest : List Entry). Noise span ∷ rest) (entries-told delay trace entries from to ts es)
 entries-told delay trace entries from to ts (Sent r ∷ es) =
-    ap (λ (hs : List Heard). (if ends_between from to (reaches delay r) then Sent (record r { heard = hs }) else Sent r) ∷ map (entry_at delay (told_news delay trace from to 0 ts) entries from to) es)
+    ap (λ (hs : List Heard). (if ends_between from to (reaches delay r) then Sent (record r { heard = hs }) else Sent r) ∷ map (entry_at delay (told delay trace from to 0 ts) entries from to) es)
     (heard_by-told delay trace entries from to r 0 ts r.heard)
     ∙ ap (λ (rest : List Entry). entry_at delay ts entries from to (Sent r) ∷ rest) (entries-told delay trace entries from to ts es)
 
@@ -58,29 +44,25 @@ pass-refused w d f e =
     (found-in-front (time_faults w.now d (next_end_of w.params.ttd w.now w.trace)) ((is_some (first_full 0 taps), InboxFull (unwrap_or (first_full 0 taps) 0)) ∷ []) f e)
 
 -- how a pass ends, by the first tap that would have too many unread marks
-pub pass-by : (w : World) (d : ℕ) (o : Option ℕ) → IsSound w → first_fault (time_faults w.now d (next_end_of w.params.ttd w.now w.trace)) ≡ None
-    → first_full 0 (told_news w.params.ttd w.trace w.now (w.now + d) 0 w.taps) ≡ o
+pub pass-by : (w : World) (d : ℕ) (o : Option ℕ) → first_fault (time_faults w.now d (next_end_of w.params.ttd w.now w.trace)) ≡ None
+    → first_full 0 (told w.params.ttd w.trace w.now (w.now + d) 0 w.taps) ≡ o
     → step_pass w d ≡ unless_fault (first_fault ((is_some o, InboxFull (unwrap_or o 0)) ∷ [])) (
       record w {
         now = w.now + d;
-        taps = told_news w.params.ttd w.trace w.now (w.now + d) 0 w.taps;
-        trace = map (entry_at w.params.ttd (told_news w.params.ttd w.trace w.now (w.now + d) 0 w.taps) w.trace w.now (w.now + d)) w.trace;
+        taps = told w.params.ttd w.trace w.now (w.now + d) 0 w.taps;
+        trace = map (entry_at w.params.ttd (told w.params.ttd w.trace w.now (w.now + d) 0 w.taps) w.trace w.now (w.now + d)) w.trace;
       },
       record { now = w.now + d; spoke = None },
     )
-pass-by w d o sound e full =
+pass-by w d o e full =
     let delay = w.params.ttd in
     let now = w.now + d in
     let times = time_faults w.now d (next_end_of delay w.now w.trace) in
     let none = none_holds times e in
-    let some : d ≡ 0 → ⊥ = eqb-false d 0 none.0 in
-    let later : w.now < now = grind (arith, some) in
-    let same = told-is-news delay w.trace w.now now 0 w.taps sound.no_delay later sound.begun none.1.0 sound.in_order in
-    let taps = told_news delay w.trace w.now now 0 w.taps in
+    let taps = told delay w.trace w.now now 0 w.taps in
     let reply : Reply = record { now = now; spoke = None } in
     let entries = map (entry_at delay w.taps w.trace w.now now) w.trace in
-    ap (λ (ts : List Tap). unless_fault (first_fault (pass_faults w d ts)) (record w { now = now; taps = ts; trace = entries }, reply)) same
-    ∙ ap (λ x. unless_fault x (record w { now = now; taps = taps; trace = entries }, reply))
+    ap (λ x. unless_fault x (record w { now = now; taps = taps; trace = entries }, reply))
     (first_fault-append times ((is_some (first_full 0 taps), InboxFull (unwrap_or (first_full 0 taps) 0)) ∷ []) none)
     ∙ ap (λ (x : Option ℕ). unless_fault (first_fault ((is_some x, InboxFull (unwrap_or x 0)) ∷ [])) (record w { now = now; taps = taps; trace = entries }, reply)) full
     ∙ ap (λ (es : List Entry). unless_fault (first_fault ((is_some o, InboxFull (unwrap_or o 0)) ∷ [])) (record w { now = now; taps = taps; trace = es }, reply))

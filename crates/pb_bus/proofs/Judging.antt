@@ -8,14 +8,12 @@ use Rattle.pb_messages.specs.RequestFields.{RequestFields}
 use Rattle.pb_turn.specs.Stations.{Station}
 use Rattle.pb_turn.specs.Turns.{turn_of}
 use Rattle.pb_model.specs.Medium as medium
-use Rattle.pb_model.specs.Step.{first_full, step, step_pass, step_turn, with_said}
+use Rattle.pb_model.specs.Step.{told, first_full, step, step_pass, step_turn, with_said}
 use Rattle.pb_model.specs.Trace.{Entry}
 use Rattle.pb_timers.specs.Timers.{Params}
 use Rattle.pb_medium.specs.Airs.{air, IsCut}
-use Rattle.pb_medium.specs.Senses.{at_once}
 use Rattle.pb_medium.proofs.Widening.{widened, pass-whole}
 use Rattle.pb_bus.specs.Clocks.{CanPass, IsFault}
-use Rattle.pb_bus.specs.Passes.{told_news}
 use Rattle.pb_model.specs.World.{World, Event, Reply, Fault, NotRunning, TraceFull, Pass, Turn, Start, Stop, Queue, trace_limit, unless}
 use Rattle.pb_medium.specs.Traces.{over_of, recent_of}
 use Rattle.pb_taps.specs.Faults.{Refuses}
@@ -31,7 +29,7 @@ use Rattle.pb_bus.specs.Starting.{CanStart, RefusesStart}
 use Rattle.pb_bus.specs.declared.buses.Bus.{Bus}
 use Rattle.pb_bus.proofs.Elapsing.{pass-by}
 use Rattle.pb_bus.proofs.Stepping as stepping
-use Rattle.pb_bus.proofs.Stepping.{both-there, is-there, sound-recent, start-done, start-missing, start-running, stop-done, stop-missing, stop-stopped, queue-done, queue-missing, queue-idle, queue-full}
+use Rattle.pb_bus.proofs.Stepping.{both-there, is-there, start-done, start-missing, start-running, stop-done, stop-missing, stop-stopped, queue-done, queue-missing, queue-idle, queue-full}
 
 abbrev is_memory : WorldFault → Bool
 is_memory fault.NoMemory = true
@@ -58,15 +56,15 @@ both-taps b i k one two =
 
 -- ---- Start
 
-pub start-refused : (b : Bus) (i : ℕ) (reason : WorldFault) → IsKept b → RefusesStart b.now (recent_of b.trace) b.taps.items i reason
+pub start-refused : (b : Bus) (i : ℕ) (reason : WorldFault) → IsKept b → RefusesStart b.params.ttd b.now (recent_of b.trace) b.taps.items i reason
     → Refuses (world_of b) (Start i) (step (world_of b) (Start i)) reason
 start-refused b i fault.NoSuchTap kept missing = start-missing (world_of b) i (no-tap-at b i missing)
-start-refused b i fault.Running kept (t, at, up) = start-running (world_of b) (over_of b.trace) i (tap_of t) kept.sound.no_delay kept.cut (tap-at b i t at) up
+start-refused b i fault.Running kept (t, at, up) = start-running (world_of b) (over_of b.trace) i (tap_of t) kept.cut (tap-at b i t at) up
 start-refused b i other kept wrong = absurd wrong
 
-pub judges-start : (b : Bus) (i : ℕ) (r : Result (Unit {0}) WorldFault) → IsKept b → OnOk r (CanStart b.now (recent_of b.trace) b.taps.items i)
-    → IfErr r (RefusesStart b.now (recent_of b.trace) b.taps.items i) → Judges (world_of b) (Start i) r
-judges-start b i (Ok done) kept (t, at, down) why = ap fault_of (start-done (world_of b) (over_of b.trace) i (tap_of t) kept.sound.no_delay kept.cut (tap-at b i t at) down)
+pub judges-start : (b : Bus) (i : ℕ) (r : Result (Unit {0}) WorldFault) → IsKept b → OnOk r (CanStart b.params.ttd b.now (recent_of b.trace) b.taps.items i)
+    → IfErr r (RefusesStart b.params.ttd b.now (recent_of b.trace) b.taps.items i) → Judges (world_of b) (Start i) r
+judges-start b i (Ok done) kept (t, at, down) why = ap fault_of (start-done (world_of b) (over_of b.trace) i (tap_of t) kept.cut (tap-at b i t at) down)
 judges-start b i (Err fault.NoSuchTap) kept ok why = refused (world_of b) (Start i) _ _ refl (start-refused b i fault.NoSuchTap kept why)
 judges-start b i (Err fault.Running) kept ok why = refused (world_of b) (Start i) _ _ refl (start-refused b i fault.Running kept why)
 judges-start b i (Err other) kept ok why = absurd why
@@ -123,18 +121,18 @@ fault-is (Ok next) reason wrong = absurd wrong
 fault-is (Err f) reason is = ap (λ x. Some x) (sym is)
 
 -- a pass is judged by the recent entries
-pass-behind : (w : World) (over bits : ℕ) → w.params.ttd ≡ 0 → IsCut w.now over w.trace → fault_of (step_pass w bits) ≡ fault_of (step_pass (stepping.recent_of over w) bits)
-pass-behind w over bits none cut = ap fault_of (pass-whole w over bits none cut) ∙ fault-widened (take over w.trace) w.params (step_pass (stepping.recent_of over w) bits)
+pass-behind : (w : World) (over bits : ℕ) → IsCut w.params.ttd w.now over w.trace → fault_of (step_pass w bits) ≡ fault_of (step_pass (stepping.recent_of over w) bits)
+pass-behind w over bits cut = ap fault_of (pass-whole w over bits cut) ∙ fault-widened (take over w.trace) w.params (step_pass (stepping.recent_of over w) bits)
 
-pub pass-can : (b : Bus) (bits to : ℕ) → IsKept b → CanPass (air b.now (recent_of b.trace) b.taps.items) bits to → fault_of (step (world_of b) (Pass bits)) ≡ None
+pub pass-can : (b : Bus) (bits to : ℕ) → IsKept b → CanPass (air b.params.ttd b.now (recent_of b.trace) b.taps.items) bits to → fault_of (step (world_of b) (Pass bits)) ≡ None
 pass-can b bits to kept can =
     let w = world_of b in
     let over = over_of b.trace in
-    let x = air b.now (recent_of b.trace) b.taps.items in
-    let full = ap (λ n. first_full 0 (told_news at_once x.trace x.now n 0 x.taps)) (sym can.later) ∙ can.room in
-    pass-behind w over bits kept.sound.no_delay kept.cut ∙ ap fault_of (pass-by x bits None (sound-recent over w kept.sound) can.time full)
+    let x = air b.params.ttd b.now (recent_of b.trace) b.taps.items in
+    let full = ap (λ n. first_full 0 (told b.params.ttd x.trace x.now n 0 x.taps)) (sym can.later) ∙ can.room in
+    pass-behind w over bits kept.cut ∙ ap fault_of (pass-by x bits None can.time full)
 
-pub pass-refused-by : (b : Bus) (bits : ℕ) (reason : WorldFault) → IsKept b → IsFault (step_pass (air b.now (recent_of b.trace) b.taps.items) bits) reason
+pub pass-refused-by : (b : Bus) (bits : ℕ) (reason : WorldFault) → IsKept b → IsFault (step_pass (air b.params.ttd b.now (recent_of b.trace) b.taps.items) bits) reason
     → fault_of (step (world_of b) (Pass bits)) ≡ Some reason
 pass-refused-by b bits reason kept is =
-    pass-behind (world_of b) (over_of b.trace) bits kept.sound.no_delay kept.cut ∙ fault-is (step_pass (air b.now (recent_of b.trace) b.taps.items) bits) reason is
+    pass-behind (world_of b) (over_of b.trace) bits kept.cut ∙ fault-is (step_pass (air b.params.ttd b.now (recent_of b.trace) b.taps.items) bits) reason is

@@ -21,7 +21,6 @@ use Rattle.pb_medium.specs.Damaging.{can_hit, RefusesHit}
 use Rattle.pb_taps.specs.Faults.{Refuses}
 use Rattle.pb_medium.specs.Losing.{has_nothing_to_lose}
 use Rattle.pb_medium.specs.Noising.{has_noise, has_no_room, RefusesNoise}
-use Rattle.pb_medium.specs.Senses.{at_once}
 use Rattle.pb_medium.specs.Speaking.{is_full, RefusesSaid}
 use Rattle.pb_medium.specs.Traces as traces
 use Rattle.pb_medium.specs.Traces.{entries_of, over_of, HasRoom, RecentBecomes, StaysAs}
@@ -36,7 +35,7 @@ use Rattle.std.proofs.lemmas.Bool.{not-true, not-false, lt-leb}
 
 -- the world of the recent entries
 abbrev pub recent_of : ℕ → World → World
-recent_of over w = record w { params = plain; trace = drop over w.trace }
+recent_of over w = record w { params = plain w.params.ttd; trace = drop over w.trace }
 
 -- ---- results
 
@@ -60,29 +59,28 @@ sound-after w e next reply ok is sound = subst IsSound (ap (world_after w) ok) (
 -- the world of the recent entries is as sound
 pub sound-recent : (over : ℕ) (w : World) → IsSound w → IsSound (recent_of over w)
 sound-recent over w sound = record {
-  no_delay = refl;
   begun = begun-behind w.now (take over w.trace) (drop over w.trace) (subst (AllBegun w.now) (sym (take-append-drop over w.trace)) sound.begun);
   in_order = sound.in_order;
   sayable = sound.sayable;
 }
 
 -- other entries behind those that are over, none of which began before they had ended
-pub cut-with : (now over : ℕ) (es recent : List Entry) → ((m : ℕ) → m ≤ now → AllFrom m (drop over es) → AllFrom m recent) → IsCut now over es
-    → IsCut now over (take over es ++ recent)
-cut-with now over es recent from (m, at, some, old, begun) =
+pub cut-with : (delay now over : ℕ) (es recent : List Entry) → ((m : ℕ) → m ≤ now → AllFrom m (drop over es) → AllFrom m recent) → IsCut delay now over es
+    → IsCut delay now over (take over es ++ recent)
+cut-with delay now over es recent from (m, at, some, old, begun) =
     let front = take over es in
     let size : length front ≡ over = length-take-le over es some in
     let same : take over (front ++ recent) ≡ front = ap (λ n. take n (front ++ recent)) (sym size) ∙ take-append_seam front recent in
     let rest : drop over (front ++ recent) ≡ recent = ap (λ n. drop n (front ++ recent)) (sym size) ∙ drop-append_seam front recent in
-    (m, at, omega (arith, size, length-append front recent), subst (AllOver m) (sym same) old, subst (AllFrom m) (sym rest) (from m at begun))
+    (m, at, omega (arith, size, length-append front recent), subst (AllOver delay m) (sym same) old, subst (AllFrom m) (sym rest) (from m at begun))
 
 -- the recent entries of a trace change, none of which began before the others had ended
-pub cut-after : (now : ℕ) (change : List Entry → List Entry) (before after : Trace) → RecentBecomes change before after
+pub cut-after : (delay now : ℕ) (change : List Entry → List Entry) (before after : Trace) → RecentBecomes change before after
     → ((m : ℕ) → m ≤ now → AllFrom m (traces.recent_of before) → AllFrom m (change (traces.recent_of before)))
-    → IsCut now (over_of before) (entries_of before) → IsCut now (over_of after) (entries_of after)
-cut-after now change before after becomes from cut =
-    subst (λ over. IsCut now over (entries_of after)) (sym becomes.over)
-    (subst (IsCut now (over_of before)) (sym becomes.entries) (cut-with now (over_of before) (entries_of before) (change (traces.recent_of before)) from cut))
+    → IsCut delay now (over_of before) (entries_of before) → IsCut delay now (over_of after) (entries_of after)
+cut-after delay now change before after becomes from cut =
+    subst (λ over. IsCut delay now over (entries_of after)) (sym becomes.over)
+    (subst (IsCut delay now (over_of before)) (sym becomes.entries) (cut-with delay now (over_of before) (entries_of before) (change (traces.recent_of before)) from cut))
 
 pub from-changed : (m : ℕ) (test : Entry → Bool) (change : Entry → Entry) (es : List Entry) → ((e : Entry) → entry_begin (change e) ≡ entry_begin e) → AllFrom m es
     → AllFrom m (change_first test change es)
@@ -118,24 +116,24 @@ from-settled m delay taps trace t u (Sent r ∷ es) from =
 
 -- ---- Pass
 
-pub pass-done : (w : World) (over d to : ℕ) (entries : List Entry) (taps : List Tap) → w.params.ttd ≡ 0 → IsCut w.now over w.trace
+pub pass-done : (w : World) (over d to : ℕ) (entries : List Entry) (taps : List Tap) → IsCut w.params.ttd w.now over w.trace
     → PassesTo (recent_of over w) d (take over w.trace) to entries taps
     → step_pass w d ≡ Ok (record w { now = to; trace = entries; taps = taps }, record { now = to; spoke = None })
-pass-done w over d to entries taps none cut (recent, are, passed) =
-    pass-whole w over d none cut ∙ ap (widened (take over w.trace) w.params) passed
+pass-done w over d to entries taps cut (recent, are, passed) =
+    pass-whole w over d cut ∙ ap (widened (take over w.trace) w.params) passed
     ∙ ap (λ es. Ok (record w { now = to; trace = es; taps = taps }, record { now = to; spoke = None })) (sym are)
 
-pub pass-refused : (w : World) (over d : ℕ) (reason : WorldFault) → w.params.ttd ≡ 0 → IsCut w.now over w.trace
+pub pass-refused : (w : World) (over d : ℕ) (reason : WorldFault) → IsCut w.params.ttd w.now over w.trace
     → IsFault (step_pass (recent_of over w) d) reason → Refuses w (Pass d) (step_pass w d) reason
-pass-refused w over d reason none cut refused =
-    subst (λ r. Refuses w (Pass d) r reason) (sym (pass-whole w over d none cut)) (by (step_pass (recent_of over w) d) refused)
+pass-refused w over d reason cut refused =
+    subst (λ r. Refuses w (Pass d) r reason) (sym (pass-whole w over d cut)) (by (step_pass (recent_of over w) d) refused)
   where
     by : (r : Result (World × Reply) Fault) → IsFault r reason → Refuses w (Pass d) (widened (take over w.trace) w.params r) reason
     by (Ok next) refused = absurd refused
     by (Err f) refused = refused
 
-pub cut-passed : (w : World) (over d to : ℕ) (entries : List Entry) (taps : List Tap) → IsCut w.now over w.trace
-    → PassesTo (recent_of over w) d (take over w.trace) to entries taps → IsCut w.now over entries
+pub cut-passed : (w : World) (over d to : ℕ) (entries : List Entry) (taps : List Tap) → IsCut w.params.ttd w.now over w.trace
+    → PassesTo (recent_of over w) d (take over w.trace) to entries taps → IsCut w.params.ttd w.now over entries
 cut-passed w over d to entries taps cut (recent, are, passed) =
     let s = recent_of over w in
     let after = w.now + d in
@@ -143,75 +141,75 @@ cut-passed w over d to entries taps cut (recent, are, passed) =
     let moved : World = record s { now = after; taps = news; trace = map (entry_at s.params.ttd w.taps s.trace w.now after) s.trace } in
     let same = (unless-Ok (pass_faults s d news) (moved, record { now = after; spoke = None }) (record s { now = to; trace = recent; taps = taps }, record { now = to; spoke = None }) passed).1 in
     let settled = ap (λ (next : World × Reply). next.0.trace) same in
-    subst (IsCut w.now over) (ap (λ es. take over w.trace ++ es) settled ∙ sym are)
-    (cut-with w.now over w.trace moved.trace (λ m at from. from-settled m s.params.ttd w.taps s.trace w.now after s.trace from) cut)
+    subst (IsCut w.params.ttd w.now over) (ap (λ es. take over w.trace ++ es) settled ∙ sym are)
+    (cut-with w.params.ttd w.now over w.trace moved.trace (λ m at from. from-settled m s.params.ttd w.taps s.trace w.now after s.trace from) cut)
 
 -- ---- Damage
 
-pub damage-done : (w : World) (over tap speaker : ℕ) (place : Option ℕ) (at from : Option Tap) → w.params.ttd ≡ 0 → IsCut w.now over w.trace
-    → (is_none at || is_none from) ≡ false → can_hit speaker w.now (record { tap = tap; place = place }) (drop over w.trace) ≡ true
+pub damage-done : (w : World) (over tap speaker : ℕ) (place : Option ℕ) (at from : Option Tap) → IsCut w.params.ttd w.now over w.trace
+    → (is_none at || is_none from) ≡ false → can_hit w.params.ttd speaker w.now (record { tap = tap; place = place }) (drop over w.trace) ≡ true
     → step_damage w tap speaker place at from ≡ Ok (
-      record w { trace = take over w.trace ++ change_first (is_in_air_by at_once w.now speaker) (with_hit (record { tap = tap; place = place })) (drop over w.trace) },
+      record w { trace = take over w.trace ++ change_first (is_in_air_by w.params.ttd w.now speaker) (with_hit (record { tap = tap; place = place })) (drop over w.trace) },
       record { now = w.now; spoke = None },
     )
-damage-done w over tap speaker place at from none cut there can =
+damage-done w over tap speaker place at from cut there can =
     let es = drop over w.trace in
-    let test = tap == speaker || not (has_place (find (is_in_air_by at_once w.now speaker) es) place) in
-    let next : World = record w { params = plain; trace = change_first (is_in_air_by at_once w.now speaker) (with_hit (record { tap = tap; place = place })) es } in
+    let test = tap == speaker || not (has_place (find (is_in_air_by w.params.ttd w.now speaker) es) place) in
+    let next : World = record w { params = plain w.params.ttd; trace = change_first (is_in_air_by w.params.ttd w.now speaker) (with_hit (record { tap = tap; place = place })) es } in
     let reply : Reply = record { now = w.now; spoke = None } in
-    damage-whole w over tap speaker place at from none cut
+    damage-whole w over tap speaker place at from cut
     ∙ ap (λ (b : Bool). widened (take over w.trace) w.params (unless ((b, NoSuchTap) ∷ (test, NothingInAir) ∷ []) (next, reply))) there
     ∙ ap (λ (b : Bool). widened (take over w.trace) w.params (unless ((false, NoSuchTap) ∷ (b, NothingInAir) ∷ []) (next, reply))) (not-true test can)
 
-pub damage-refused : (w : World) (over tap speaker : ℕ) (place : Option ℕ) (at from : Option Tap) (reason : WorldFault) → w.params.ttd ≡ 0 → IsCut w.now over w.trace
-    → (is_none at || is_none from) ≡ false → RefusesHit (can_hit speaker w.now (record { tap = tap; place = place }) (drop over w.trace)) reason
+pub damage-refused : (w : World) (over tap speaker : ℕ) (place : Option ℕ) (at from : Option Tap) (reason : WorldFault) → IsCut w.params.ttd w.now over w.trace
+    → (is_none at || is_none from) ≡ false → RefusesHit (can_hit w.params.ttd speaker w.now (record { tap = tap; place = place }) (drop over w.trace)) reason
     → Refuses w (Damage tap speaker place) (step_damage w tap speaker place at from) reason
-damage-refused w over tap speaker place at from fault.NoMemory none cut there can =
-    subst (λ r. Refuses w (Damage tap speaker place) r fault.NoMemory) (sym (damage-done w over tap speaker place at from none cut there can)) (refl, refl)
-damage-refused w over tap speaker place at from fault.NothingInAir none cut there can =
+damage-refused w over tap speaker place at from fault.NoMemory cut there can =
+    subst (λ r. Refuses w (Damage tap speaker place) r fault.NoMemory) (sym (damage-done w over tap speaker place at from cut there can)) (refl, refl)
+damage-refused w over tap speaker place at from fault.NothingInAir cut there can =
     let es = drop over w.trace in
-    let test = tap == speaker || not (has_place (find (is_in_air_by at_once w.now speaker) es) place) in
-    let next : World = record w { params = plain; trace = change_first (is_in_air_by at_once w.now speaker) (with_hit (record { tap = tap; place = place })) es } in
+    let test = tap == speaker || not (has_place (find (is_in_air_by w.params.ttd w.now speaker) es) place) in
+    let next : World = record w { params = plain w.params.ttd; trace = change_first (is_in_air_by w.params.ttd w.now speaker) (with_hit (record { tap = tap; place = place })) es } in
     let reply : Reply = record { now = w.now; spoke = None } in
     subst (λ r. Refuses w (Damage tap speaker place) r fault.NothingInAir)
     (sym (
-    damage-whole w over tap speaker place at from none cut
+    damage-whole w over tap speaker place at from cut
     ∙ ap (λ (b : Bool). widened (take over w.trace) w.params (unless ((b, NoSuchTap) ∷ (test, NothingInAir) ∷ []) (next, reply))) there
     ∙ ap (λ (b : Bool). widened (take over w.trace) w.params (unless ((false, NoSuchTap) ∷ (b, NothingInAir) ∷ []) (next, reply))) (not-false test can)
     ))
     refl
-damage-refused w over tap speaker place at from other none cut there can = absurd can
+damage-refused w over tap speaker place at from other cut there can = absurd can
 
 -- ---- Start
 
-pub start-done : (w : World) (over tap : ℕ) (t : Tap) → w.params.ttd ≡ 0 → IsCut w.now over w.trace → slice_get w.taps tap ≡ Some t → is_sending over w tap t ≡ false
+pub start-done : (w : World) (over tap : ℕ) (t : Tap) → IsCut w.params.ttd w.now over w.trace → slice_get w.taps tap ≡ Some t → is_sending over w tap t ≡ false
     → step_start w tap (slice_get w.taps tap) ≡ Ok (record w { taps = slice_set w.taps tap (started_amid over w tap t) }, record { now = w.now; spoke = None })
-start-done w over tap t none cut at up =
-    ap (λ o. step_start w tap o) at ∙ start-whole w over tap t none cut
+start-done w over tap t cut at up =
+    ap (λ o. step_start w tap o) at ∙ start-whole w over tap t cut
     ∙ ap (λ (b : Bool). unless ((b, Running) ∷ []) (record w { taps = slice_set w.taps tap (started_amid over w tap t) }, record { now = w.now; spoke = None })) up
 
 pub start-missing : (w : World) (tap : ℕ) → slice_get w.taps tap ≡ None → Refuses w (Start tap) (step_start w tap (slice_get w.taps tap)) fault.NoSuchTap
 start-missing w tap missing = subst (λ o. Refuses w (Start tap) (step_start w tap o) fault.NoSuchTap) (sym missing) refl
 
-pub start-running : (w : World) (over tap : ℕ) (t : Tap) → w.params.ttd ≡ 0 → IsCut w.now over w.trace → slice_get w.taps tap ≡ Some t → is_sending over w tap t ≡ true
+pub start-running : (w : World) (over tap : ℕ) (t : Tap) → IsCut w.params.ttd w.now over w.trace → slice_get w.taps tap ≡ Some t → is_sending over w tap t ≡ true
     → Refuses w (Start tap) (step_start w tap (slice_get w.taps tap)) fault.Running
-start-running w over tap t none cut at up =
+start-running w over tap t cut at up =
     subst (λ r. Refuses w (Start tap) r fault.Running)
     (sym (
-    ap (λ o. step_start w tap o) at ∙ start-whole w over tap t none cut
+    ap (λ o. step_start w tap o) at ∙ start-whole w over tap t cut
     ∙ ap (λ (b : Bool). unless ((b, Running) ∷ []) (record w { taps = slice_set w.taps tap (started_amid over w tap t) }, record { now = w.now; spoke = None })) up
     ))
     refl
 
 -- ---- Stop
 
-pub stop-done : (w : World) (over tap : ℕ) (t : Tap) → IsCut w.now over w.trace → slice_get w.taps tap ≡ Some t → t.running ≡ true
+pub stop-done : (w : World) (over tap : ℕ) (t : Tap) → IsCut w.params.ttd w.now over w.trace → slice_get w.taps tap ≡ Some t → t.running ≡ true
     → step_stop w tap (slice_get w.taps tap)
     ≡ Ok (record w { trace = take over w.trace ++ map (cut_at w.now tap) (drop over w.trace); taps = slice_set w.taps tap (halted t) }, record { now = w.now; spoke = None })
 stop-done w over tap t cut at runs =
     let ending : Bool → List Entry → Result (World × Reply) Fault
     = λ b es. unless ((not b, NotRunning) ∷ []) (record w { trace = es; taps = slice_set w.taps tap (halted t) }, record { now = w.now; spoke = None }) in
-    ap (λ o. step_stop w tap o) at ∙ ap (λ b. ending b (map (cut_at w.now tap) w.trace)) runs ∙ ap (ending true) (cut-whole w.now over tap w.trace cut)
+    ap (λ o. step_stop w tap o) at ∙ ap (λ b. ending b (map (cut_at w.now tap) w.trace)) runs ∙ ap (ending true) (cut-whole w.params.ttd w.now over tap w.trace cut)
 
 pub stop-missing : (w : World) (tap : ℕ) → slice_get w.taps tap ≡ None → Refuses w (Stop tap) (step_stop w tap (slice_get w.taps tap)) fault.NoSuchTap
 stop-missing w tap missing = subst (λ o. Refuses w (Stop tap) (step_stop w tap o) fault.NoSuchTap) (sym missing) refl
@@ -265,7 +263,7 @@ queue-full w tap r t at takes full =
 
 -- ---- Noise
 
-pub noise-done : (w : World) (over bits : ℕ) → IsCut w.now over w.trace → (bits == 0) ≡ false → has_no_room (has_noise w.now (drop over w.trace)) (length w.trace) ≡ false
+pub noise-done : (w : World) (over bits : ℕ) → IsCut w.params.ttd w.now over w.trace → (bits == 0) ≡ false → has_no_room (has_noise w.now (drop over w.trace)) (length w.trace) ≡ false
     → step_noise w bits (is_noisy w) ≡ Ok (
       record w { trace = take over w.trace ++ with_noise w.now (w.now + bits) (has_noise w.now (drop over w.trace)) (drop over w.trace) },
       record { now = w.now; spoke = None },
@@ -277,7 +275,7 @@ noise-done w over bits cut some room =
     ∙ ap (λ (b : Bool). unless ((b, ZeroTime) ∷ (has_no_room (has_noise w.now (drop over w.trace)) (length w.trace), TraceFull) ∷ []) (next, reply)) some
     ∙ ap (λ (b : Bool). unless ((false, ZeroTime) ∷ (b, TraceFull) ∷ []) (next, reply)) room
 
-pub noise-refused : (w : World) (over bits : ℕ) (reason : WorldFault) → IsCut w.now over w.trace → RefusesNoise bits (has_noise w.now (drop over w.trace)) (length w.trace) reason
+pub noise-refused : (w : World) (over bits : ℕ) (reason : WorldFault) → IsCut w.params.ttd w.now over w.trace → RefusesNoise bits (has_noise w.now (drop over w.trace)) (length w.trace) reason
     → Refuses w (world.Noise bits) (step_noise w bits (is_noisy w)) reason
 noise-refused w over bits fault.ZeroTime cut none =
     let next = record w { trace = take over w.trace ++ with_noise w.now (w.now + bits) (has_noise w.now (drop over w.trace)) (drop over w.trace) } in
@@ -308,7 +306,7 @@ from-noise m now end false es later from = from-entered m (Noise (record { begin
 
 -- ---- Unheard
 
-pub unheard-done : (w : World) (over tap speaker : ℕ) (at from : Option Tap) → IsCut w.now over w.trace → (is_none at || is_none from) ≡ false
+pub unheard-done : (w : World) (over tap speaker : ℕ) (at from : Option Tap) → IsCut w.params.ttd w.now over w.trace → (is_none at || is_none from) ≡ false
     → has_nothing_to_lose tap speaker w.now (drop over w.trace) ≡ false
     → step_unheard w tap speaker at from ≡ Ok (
       record w { trace = take over w.trace ++ change_first (begins_from w.now speaker) (unheard_at tap) (drop over w.trace) },
@@ -321,7 +319,7 @@ unheard-done w over tap speaker at from cut there some =
     ∙ ap (λ (b : Bool). unless ((b, NoSuchTap) ∷ (has_nothing_to_lose tap speaker w.now (drop over w.trace), NothingInAir) ∷ []) (next, reply)) there
     ∙ ap (λ (b : Bool). unless ((false, NoSuchTap) ∷ (b, NothingInAir) ∷ []) (next, reply)) some
 
-pub unheard-refused : (w : World) (over tap speaker : ℕ) (at from : Option Tap) (reason : WorldFault) → IsCut w.now over w.trace → (is_none at || is_none from) ≡ false
+pub unheard-refused : (w : World) (over tap speaker : ℕ) (at from : Option Tap) (reason : WorldFault) → IsCut w.params.ttd w.now over w.trace → (is_none at || is_none from) ≡ false
     → has_nothing_to_lose tap speaker w.now (drop over w.trace) ≡ true → reason ≡ fault.NothingInAir → Refuses w (world.Unheard tap speaker) (step_unheard w tap speaker at from) reason
 unheard-refused w over tap speaker at from reason cut there nothing is =
     let next = record w { trace = take over w.trace ++ change_first (begins_from w.now speaker) (unheard_at tap) (drop over w.trace) } in
@@ -350,15 +348,15 @@ turn-by w tap t s said at runs turns =
       record { now = w.now; spoke = said },
     )) runs
 
-said-behind : (w : World) (over tap : ℕ) (said : Option (List ℕ)) → IsCut w.now over w.trace
+said-behind : (w : World) (over tap : ℕ) (said : Option (List ℕ)) → IsCut w.params.ttd w.now over w.trace
     → with_said tap said w.now w.taps w.trace ≡ take over w.trace ++ with_said tap said w.now w.taps (drop over w.trace)
 said-behind w over tap None cut = sym (take-append-drop over w.trace)
 said-behind w over tap (Some octets) (m, at, some, old, begun) =
     let e : Entry = Sent (sending tap octets w.now w.taps) in
-    ap (with_entry e) (sym (take-append-drop over w.trace)) ∙ entered-behind m e (take over w.trace) (drop over w.trace) old at
+    ap (with_entry e) (sym (take-append-drop over w.trace)) ∙ entered-behind w.params.ttd m e (take over w.trace) (drop over w.trace) old at
 
 pub turn-done : (w : World) (over tap : ℕ) (t : Tap) (s : Station) (said : Option (List ℕ)) → slice_get w.taps tap ≡ Some t → t.running ≡ true
-    → (s, said) ≡ turn_of w.params t.station t.marks w.now → IsCut w.now over w.trace → is_full said (length w.trace) ≡ false
+    → (s, said) ≡ turn_of w.params t.station t.marks w.now → IsCut w.params.ttd w.now over w.trace → is_full said (length w.trace) ≡ false
     → step w (Turn tap) ≡ Ok (
       record w {
         trace = take over w.trace ++ with_said tap said w.now w.taps (drop over w.trace);

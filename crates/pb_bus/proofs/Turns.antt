@@ -73,6 +73,6 @@ turn-kept b i next taps said roomy after out kept runs (t, at, are, spoken) back
       clock = kept.clock;
       room = omega (arith, ap length back, ap length are, length-set items i (turned_tap t b.now), kept.room);
       seats = subst (AreSeated b.params 0) (sym (ap (map seat_of) (back ∙ are) ∙ same-seats items i t (turned_tap t b.now) at (turned-seat t b.now))) kept.seats;
-      cut = cut-after b.now (with_said i said b.now w.taps) b.trace after becomes (λ m at from. from-said m i b.now said w.taps (recent_of b.trace) at from) kept.cut;
+      cut = cut-after b.params.ttd b.now (with_said i said b.now w.taps) b.trace after becomes (λ m at from. from-said m i b.now said w.taps (recent_of b.trace) at from) kept.cut;
       ends = in-time w (Turn i) _ _ follows tt kept.clock kept.sound kept.ends;
     }

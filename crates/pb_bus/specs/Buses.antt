@@ -19,7 +19,7 @@ pub record IsKept (w : Bus) : Type 0 where
   pub clock : w.now ≤ clock_limit
   pub room : length w.taps.items ≤ tap_limit
   pub seats : AreSeated w.params 0 (map seat_of w.taps.items)
-  pub cut : IsCut w.now (over_of w.trace) (entries_of w.trace)
+  pub cut : IsCut w.params.ttd w.now (over_of w.trace) (entries_of w.trace)
   pub ends : AllBy last_end (entries_of w.trace)
 
 -- nothing has happened yet

@@ -2,14 +2,12 @@
 use Rattle.std.specs.Prelude.{◌≡◌, ℕ, ◌+◌, ◌≤◌, ◌==◌, nat_lt, Bool, List, [], ◌∷◌, ◌++◌, Option, Some, None, Result, Ok, Err, unwrap_or}
 use Rattle.std.specs.Option.{option_map}
 use Rattle.pb_refusals.specs.FirstFault.{first_fault}
-use Rattle.pb_model.specs.Step.{first_full, is_past, step_pass}
+use Rattle.pb_model.specs.Step.{told, first_full, is_past, step_pass}
 use Rattle.pb_model.specs.World.{World, Fault, ZeroTime, TooFar, ClockFull, clock_limit, next_end_of}
 use Rattle.pb_model.specs.Trace.{Entry}
 use Rattle.pb_model.specs.Medium.{Tap}
 use Rattle.pb_taps.specs.declared.faults.WorldFault.{WorldFault}
 use Rattle.pb_taps.specs.Faults.{world_fault}
-use Rattle.pb_medium.specs.Senses.{at_once}
-use Rattle.pb_bus.specs.Passes.{told_news}
 
 -- why time doesn't pass, whatever the taps: with the next end in the air
 abbrev pub time_faults : ℕ → ℕ → Option ℕ → List (Bool × Fault)
@@ -23,8 +21,8 @@ time_faults now bits end =
 pub record CanPass (w : World) (bits to : ℕ) : Type 0 where
   pub later : to ≡ w.now + bits
   pub clock : to ≤ clock_limit
-  pub time : first_fault (time_faults w.now bits (next_end_of at_once w.now w.trace)) ≡ None
-  pub room : first_full 0 (told_news at_once w.trace w.now to 0 w.taps) ≡ None
+  pub time : first_fault (time_faults w.now bits (next_end_of w.params.ttd w.now w.trace)) ≡ None
+  pub room : first_full 0 (told w.params.ttd w.trace w.now to 0 w.taps) ≡ None
 
 -- a step is refused by a fault
 abbrev pub IsFault : {X : Type 0} → Result X Fault → WorldFault → Type 0

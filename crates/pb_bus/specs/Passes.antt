@@ -1,29 +1,29 @@
 -- What a pass tells the taps.
-use Rattle.std.specs.Prelude.{ℕ, ◌+◌, List, [], ◌∷◌, ◌++◌, if◌then◌else◌, length}
+use Rattle.std.specs.Prelude.{ℕ, ◌+◌, List, [], ◌∷◌, ◌++◌, length, Option, Some, None}
 use Rattle.pb_turn.specs.Marks.{Mark, End}
 use Rattle.pb_model.specs.Trace.{Entry}
-use Rattle.pb_model.specs.Medium.{Tap, burst_characters}
+use Rattle.pb_model.specs.Medium.{Tap, burst_characters, new_marks}
+use Rattle.pb_model.specs.Laws.{begin_of}
 use Rattle.pb_taps.specs.declared.taps.Tap as declared
 use Rattle.pb_taps.specs.Taps.{tap_of}
-use Rattle.pb_model.specs.Laws.{marks_of_pass}
 
--- what a pass tells a tap, if it runs
-abbrev pub news : ℕ → ℕ → Tap → List Entry → ℕ → ℕ → List Mark
-news delay tap t trace from to = if t.running then marks_of_pass delay tap t trace from to else []
-
--- the tap with its news behind its unread marks
+-- the tap with what a pass tells it behind its unread marks
 abbrev pub with_news : ℕ → ℕ → Tap → List Entry → ℕ → ℕ → Tap
-with_news delay tap t trace from to = record t { marks = t.marks ++ news delay tap t trace from to }
+with_news delay tap t trace from to = record t { marks = t.marks ++ new_marks delay tap t trace from to }
 
--- the taps with their news behind their unread marks, the first of them at a position
-abbrev pub told_news : ℕ → List Entry → ℕ → ℕ → ℕ → List Tap → List Tap
-told_news delay trace from to tap [] = []
-told_news delay trace from to tap (t ∷ ts) = record t { marks = t.marks ++ news delay tap t trace from to } ∷ told_news delay trace from to (tap + 1) ts
-
--- how many marks a tap has unread with its news
+-- how many marks a tap has unread after a pass
 abbrev pub unread_after : ℕ → ℕ → Tap → List Entry → ℕ → ℕ → ℕ
-unread_after delay tap t trace from to = length t.marks + length (news delay tap t trace from to)
+unread_after delay tap t trace from to = length t.marks + length (new_marks delay tap t trace from to)
 
--- the tap that is told of the end of a burst
-abbrev pub with_end : ℕ → ℕ → declared.Tap → List Entry → ℕ → declared.Tap
-with_end delay tap t trace to = record t { marks = t.marks ++ End to to (burst_characters delay tap (tap_of t) trace to) ∷ [] }
+-- that a burst ended at a moment, if one did, with its characters
+abbrev pub end_of : ℕ → ℕ → Tap → List Entry → ℕ → Option ℕ → List Mark
+end_of delay tap t trace seen None = []
+end_of delay tap t trace seen (Some m) = End m seen (burst_characters delay tap t trace m) ∷ []
+
+-- the tap that is told of the begin of a burst, if one began
+abbrev pub with_begin : declared.Tap → ℕ → Option ℕ → declared.Tap
+with_begin t seen begin = record t { marks = t.marks ++ begin_of seen begin }
+
+-- the tap that is told of the end of a burst, if one ended
+abbrev pub with_end : ℕ → ℕ → declared.Tap → List Entry → ℕ → Option ℕ → declared.Tap
+with_end delay tap t trace seen end = record t { marks = t.marks ++ end_of delay tap (tap_of t) trace seen end }

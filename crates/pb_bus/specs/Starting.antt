@@ -8,7 +8,6 @@ use Rattle.pb_model.specs.World.{is_in_air_by}
 use Rattle.pb_taps.specs.declared.faults.WorldFault.{WorldFault}
 use Rattle.pb_taps.specs.declared.faults.WorldFault.TheVariants as fault
 use Rattle.pb_taps.specs.declared.taps.Tap.{Tap}
-use Rattle.pb_medium.specs.Senses.{at_once}
 
 -- a tap that starts, amid something that is reaching it or not
 abbrev pub fresh_tap : Tap → Bool → ℕ → Tap
@@ -21,20 +20,20 @@ fresh_tap t amid now = record t {
 }
 
 -- whether a tap runs, or a telegram of its own is among the entries in the air
-abbrev pub is_up : ℕ → List Entry → ℕ → Tap → Bool
-is_up now entries tap t = t.running || list_any (is_in_air_by at_once now tap) entries
+abbrev pub is_up : (delay now : ℕ) → List Entry → ℕ → Tap → Bool
+is_up delay now entries tap t = t.running || list_any (is_in_air_by delay now tap) entries
 
 -- a tap is there that is down
-abbrev pub CanStart : ℕ → List Entry → List Tap → ℕ → Type 0
-CanStart now entries taps tap = (t : Tap) × (slice_get taps tap ≡ Some t) × (is_up now entries tap t ≡ false)
+abbrev pub CanStart : (delay now : ℕ) → List Entry → List Tap → ℕ → Type 0
+CanStart delay now entries taps tap = (t : Tap) × (slice_get taps tap ≡ Some t) × (is_up delay now entries tap t ≡ false)
 
 -- the taps after the start of one that was down
-abbrev pub IsStarted : ℕ → List Entry → List Tap → ℕ → List Tap → Type 0
-IsStarted now entries taps tap next = (t : Tap) × (slice_get taps tap ≡ Some t) × (is_up now entries tap t ≡ false)
-    × (next ≡ slice_set taps tap (fresh_tap t (list_any (reaches_now at_once tap now) entries) now))
+abbrev pub IsStarted : (delay now : ℕ) → List Entry → List Tap → ℕ → List Tap → Type 0
+IsStarted delay now entries taps tap next = (t : Tap) × (slice_get taps tap ≡ Some t) × (is_up delay now entries tap t ≡ false)
+    × (next ≡ slice_set taps tap (fresh_tap t (list_any (reaches_now delay tap now) entries) now))
 
 -- why a tap doesn't start
-abbrev pub RefusesStart : ℕ → List Entry → List Tap → ℕ → WorldFault → Type 0
-RefusesStart now entries taps tap fault.NoSuchTap = slice_get taps tap ≡ None
-RefusesStart now entries taps tap fault.Running = (t : Tap) × (slice_get taps tap ≡ Some t) × (is_up now entries tap t ≡ true)
-RefusesStart now entries taps tap other = ⊥
+abbrev pub RefusesStart : (delay now : ℕ) → List Entry → List Tap → ℕ → WorldFault → Type 0
+RefusesStart delay now entries taps tap fault.NoSuchTap = slice_get taps tap ≡ None
+RefusesStart delay now entries taps tap fault.Running = (t : Tap) × (slice_get taps tap ≡ Some t) × (is_up delay now entries tap t ≡ true)
+RefusesStart delay now entries taps tap other = ⊥

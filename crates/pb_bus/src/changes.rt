@@ -1,14 +1,16 @@
-ghost use Rattle.std.specs.Prelude.{◌≡◌, ◌+◌, ◌≤◌, ◌&&◌, ◌||◌, IfSome, Some, map};
+ghost use Rattle.std.specs.Prelude.{◌≡◌, ◌+◌, ◌≤◌, ◌&&◌, IfSome, if◌then◌else◌, Some, None, map};
 ghost use Rattle.std.specs.List.{list_any};
+ghost use Rattle.std.specs.Option.{option_map};
+ghost use Rattle.pb_turn.specs.Stations as stations;
 ghost use Rattle.pb_model.specs.World.{clock_limit};
-ghost use Rattle.pb_medium.specs.Changing.{begins, lasts};
 ghost use Rattle.pb_medium.specs.Entries.{entry_of};
-ghost use Rattle.pb_runs.specs.Bus.{started_now};
+ghost use Rattle.pb_runs.specs.Bus.{is_in_air, started_now};
 ghost use Rattle.pb_bus.specs.Ends.{last_end};
 ghost use Rattle.pb_taps.specs.Taps.{tap_of};
 
 use crate::buses::Bus;
-use pb_medium::{Entry, next_end, something_begins, something_lasts};
+use crate::passes::moment_of;
+use pb_medium::{Entry, next_begin, next_end, something_lasts};
 use pb_taps::Tap;
 use pb_timers::Moment;
 
@@ -22,44 +24,51 @@ impl Bus {
         requires { IsKept self.now }
         ensures { result ≡ next_change (world_of self.entry.now) }
     {
+        let delay = self.params.ttd();
         let recent = self.trace.recent();
-        if changes_at_once(recent, &self.taps, self.now.get()) {
-            return next_bit(self.now);
-        }
-        moment_of(next_end(recent, self.now.get()))
+        let amid = something_lasts(recent, delay, self.now.get());
+        let start = start_known(&self.taps, amid, self.now);
+        let begin = known_of(next_begin(recent, delay, self.now.get()));
+        let end = moment_of(next_end(recent, delay, self.now.get()));
+        earlier(end, earlier(begin, start))
     }
 }
 
-/// Whether the next change comes with the next bit time: something begins now, or a tap has started now while
-/// something is in the air that began before.
-fn changes_at_once(entries: &[Entry], taps: &[Tap], now: u64) -> bool
+/// When a tap can know what it started amid, if one has started now.
+fn start_known(taps: &[Tap], amid: bool, now: Moment) -> Option<Moment>
+    requires { now ≤ clock_limit }
     ensures { result
-        ≡ (list_any (begins now) (map entry_of entries.now)
-        || (list_any (lasts now) (map entry_of entries.now)
-        && list_any (started_now now) (map tap_of taps.now))) }
+        ≡ (if list_any (started_now now) (map tap_of taps.now) && amid then Some (now + 1) else None) }
 {
-    something_begins(entries, now) || (something_lasts(entries, now) && some_started(taps, now))
+    if amid && some_started(taps, now) {
+        return now.add(1).ok();
+    }
+    None
 }
 
 /// Whether a tap has started at a moment.
-fn some_started(taps: &[Tap], now: u64) -> bool
+fn some_started(taps: &[Tap], now: Moment) -> bool
     ensures { result ≡ list_any (started_now now) (map tap_of taps.now) }
 {
-    taps.iter().any(|tap| tap.since == now)
+    taps.iter().any(|tap| tap.since == now.get())
 }
 
-/// The moment one bit time later.
-fn next_bit(now: Moment) -> Option<Moment>
-    requires { now ≤ clock_limit }
-    ensures { result ≡ Some (now + 1) }
+/// When a tap can know of what begins at it, if something does: one bit time later.
+fn known_of(begin: Option<u64>) -> Option<Moment>
+    requires { IfSome begin (λ m. m ≤ last_end) }
+    ensures { result ≡ option_map (λ m. m + 1) begin }
 {
-    now.add(1).ok()
+    let begin = moment_of(begin)?;
+    begin.add(1).ok()
 }
 
-/// The end of something in the air as a moment.
-fn moment_of(end: Option<u64>) -> Option<Moment>
-    requires { IfSome end (λ e. e ≤ last_end) }
-    ensures { result ≡ end }
+/// The earlier of two moments, if there are any.
+fn earlier(one: Option<Moment>, two: Option<Moment>) -> Option<Moment>
+    ensures { result ≡ stations.earlier one two }
 {
-    end.and_then(Moment::new)
+    match (one, two) {
+        (Some(one), Some(two)) => Some(one.min(two)),
+        (Some(one), None) => Some(one),
+        (None, two) => two,
+    }
 }

@@ -1,6 +1,5 @@
 ghost use Rattle.std.specs.Prelude.{◌≡◌, ◌+◌, ◌≤◌, None, IfOk, IfErr, OnErr, MatchResult, map, take};
 ghost use Rattle.pb_refusals.specs.FirstFault.{first_fault};
-ghost use Rattle.pb_model.specs.Laws.{IsSound};
 ghost use Rattle.pb_model.specs.Step.{step_pass};
 ghost use Rattle.pb_model.specs.World as world;
 ghost use Rattle.pb_medium.specs.Airs.{air};
@@ -20,24 +19,24 @@ const CLOCK_LIMIT: u64 = 1_000_000_000_000;
 /// Time passes, for all taps and the recent entries; the clock afterwards.
 pub(crate) fn pass(
     trace: &mut Trace,
+    delay: u32,
     taps: &mut [Tap],
     now: Moment,
     bits: u64,
 ) -> Result<Moment, WorldFault>
-    requires sound { IsSound (air now (recent_of trace.old) taps.old) }
     ensures ok { IfOk result
-        (λ to. PassesTo (air now (recent_of trace.old) taps.old) bits
+        (λ to. PassesTo (air delay now (recent_of trace.old) taps.old) bits
         (take (over_of trace.old) (entries_of trace.old))
         to (entries_of trace.new) (map tap_of taps.new)) }
     ensures clock { IfOk result (λ to. (now ≤ to) × (to ≤ world.clock_limit)) }
     ensures seats { map seat_of taps.new ≡ map seat_of taps.old }
     ensures over { over_of trace.new ≡ over_of trace.old }
     ensures err { OnErr result ((trace.new ≡ trace.old) × (taps.new ≡ taps.old)) }
-    ensures fault { IfErr result (IsFault (step_pass (air now (recent_of trace.old) taps.old) bits)) }
+    ensures fault { IfErr result (IsFault (step_pass (air delay now (recent_of trace.old) taps.old) bits)) }
 {
-    let to = passes_to(trace.recent(), taps, now, bits)?;
-    tell_all(trace.recent(), taps, now, to);
-    trace.settle(taps, now, to);
+    let to = passes_to(trace.recent(), delay, taps, now, bits)?;
+    tell_all(trace.recent(), delay, taps, now, to);
+    trace.settle(delay, taps, now, to);
     Ok(to)
 }
 
@@ -45,17 +44,17 @@ pub(crate) fn pass(
 /// `ClockFull`; `InboxFull`.
 pub(crate) fn passes_to(
     entries: &[Entry],
+    delay: u32,
     taps: &[Tap],
     now: Moment,
     bits: u64,
 ) -> Result<Moment, WorldFault>
-    requires sound { IsSound (air now (map entry_of entries.now) taps.now) }
-    ensures ok { IfOk result (CanPass (air now (map entry_of entries.now) taps.now) bits) }
+    ensures ok { IfOk result (CanPass (air delay now (map entry_of entries.now) taps.now) bits) }
     ensures fault { IfErr result
-        (IsFault (step_pass (air now (map entry_of entries.now) taps.now) bits)) }
+        (IsFault (step_pass (air delay now (map entry_of entries.now) taps.now) bits)) }
 {
-    let to = later(next_end(entries, now.get()), now, bits)?;
-    if let Some(tap) = first_full(entries, taps, now, to) {
+    let to = later(next_end(entries, delay, now.get()), now, bits)?;
+    if let Some(tap) = first_full(entries, delay, taps, now, to) {
         return Err(WorldFault::InboxFull(tap));
     }
     Ok(to)

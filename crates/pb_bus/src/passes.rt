@@ -1,12 +1,15 @@
-ghost use Rattle.std.specs.Prelude.{◌≡◌, ◌+◌, ◌≤◌, ◌<◌, true, false, None, length, map};
+ghost use Rattle.std.specs.Prelude.{◌≡◌, ◌+◌, ◌≤◌, ◌<◌, IfSome, true, false, None, length, map};
+ghost use Rattle.pb_timers.specs.Timers.{last_moment};
+ghost use Rattle.pb_model.specs.Laws.{begin_of};
+ghost use Rattle.pb_model.specs.Medium.{new_marks, sensed};
 ghost use Rattle.pb_model.specs.Step as step;
 ghost use Rattle.pb_model.specs.World.{mark_limit};
 ghost use Rattle.pb_medium.specs.Entries.{entry_of};
-ghost use Rattle.pb_bus.specs.Passes.{news, told_news, unread_after, with_end, with_news};
-ghost use Rattle.pb_medium.specs.Senses.{at_once};
+ghost use Rattle.pb_medium.specs.Senses.{begin_between, end_between};
+ghost use Rattle.pb_bus.specs.Passes.{end_of, unread_after, with_begin, with_end, with_news};
 ghost use Rattle.pb_taps.specs.Taps.{seat_of, tap_of};
 
-use pb_medium::{Entry, burst_begins, burst_characters, burst_ends};
+use pb_medium::{Entry, begin_between, burst_characters, end_between};
 use pb_station::Mark;
 use pb_taps::{MARK_LIMIT, Tap};
 use pb_timers::Moment;
@@ -15,12 +18,18 @@ use pb_timers::Moment;
 const MOST_NEWS: usize = 2;
 
 /// The first tap that a pass would tell more than it may have unread.
-pub(crate) fn first_full(entries: &[Entry], taps: &[Tap], from: Moment, to: Moment) -> Option<usize>
+pub(crate) fn first_full(
+    entries: &[Entry],
+    delay: u32,
+    taps: &[Tap],
+    from: Moment,
+    to: Moment,
+) -> Option<usize>
     ensures { result
-        ≡ step.first_full 0 (told_news at_once (map entry_of entries.now) from to 0 (map tap_of taps.now)) }
+        ≡ step.first_full 0 (step.told delay (map entry_of entries.now) from to 0 (map tap_of taps.now)) }
 {
     for (position, tap) in taps.iter().enumerate() {
-        if overflows(entries, position, tap, from, to) {
+        if overflows(entries, delay, position, tap, from, to) {
             return Some(position);
         }
     }
@@ -28,71 +37,148 @@ pub(crate) fn first_full(entries: &[Entry], taps: &[Tap], from: Moment, to: Mome
 }
 
 /// A pass tells every tap. None of them is told more than it may have unread.
-pub(crate) fn tell_all(entries: &[Entry], taps: &mut [Tap], from: Moment, to: Moment)
+pub(crate) fn tell_all(
+    entries: &[Entry],
+    delay: u32,
+    taps: &mut [Tap],
+    from: Moment,
+    to: Moment,
+)
     requires { step.first_full 0
-        (told_news at_once (map entry_of entries.now) from to 0 (map tap_of taps.old)) ≡ None }
+        (step.told delay (map entry_of entries.now) from to 0 (map tap_of taps.old)) ≡ None }
     ensures seats { map seat_of taps.new ≡ map seat_of taps.old }
-    ensures told { map tap_of taps.new ≡ told_news at_once (map entry_of entries.now) from to 0 (map tap_of
-        taps.old) }
+    ensures told { map tap_of taps.new
+        ≡ step.told delay (map entry_of entries.now) from to 0 (map tap_of taps.old) }
 {
     for (position, tap) in taps.iter_mut().enumerate() {
-        tell(entries, position, tap, from, to);
+        tell(entries, delay, position, tap, from, to);
     }
 }
 
 /// Whether a pass would tell the tap at a position more than it may have unread.
-fn overflows(entries: &[Entry], position: usize, tap: &Tap, from: Moment, to: Moment) -> bool
+fn overflows(
+    entries: &[Entry],
+    delay: u32,
+    position: usize,
+    tap: &Tap,
+    from: Moment,
+    to: Moment,
+) -> bool
     ensures full { result ≡ true
-        → mark_limit < unread_after at_once position (tap_of tap.now) (map entry_of entries.now) from to }
+        → mark_limit < unread_after delay position (tap_of tap.now) (map entry_of entries.now) from to }
     ensures fits { result ≡ false
-        → unread_after at_once position (tap_of tap.now) (map entry_of entries.now) from to ≤ mark_limit }
+        → unread_after delay position (tap_of tap.now) (map entry_of entries.now) from to ≤ mark_limit }
 {
     let unread = tap.marks.marks().len();
     unread + MOST_NEWS > MARK_LIMIT
-        && unread + news_count(entries, position, tap, from, to) > MARK_LIMIT
+        && unread + news_count(entries, delay, position, tap, from, to) > MARK_LIMIT
 }
 
 /// A pass tells the tap at a position.
-fn tell(entries: &[Entry], position: usize, tap: &mut Tap, from: Moment, to: Moment)
-    requires { length tap.old.marks + length
-        (news at_once position (tap_of tap.old) (map entry_of entries.now) from to) ≤ mark_limit }
+fn tell(entries: &[Entry], delay: u32, position: usize, tap: &mut Tap, from: Moment, to: Moment)
+    requires { unread_after delay position (tap_of tap.old) (map entry_of entries.now) from to ≤ mark_limit }
     ensures told { tap_of tap.new
-        ≡ with_news at_once position (tap_of tap.old) (map entry_of entries.now) from to }
+        ≡ with_news delay position (tap_of tap.old) (map entry_of entries.now) from to }
     ensures seat { seat_of tap.new ≡ seat_of tap.old }
 {
     if !tap.running {
         return;
     }
-    if burst_begins(entries, position, tap.since, from.get()) {
-        tap.marks.push(Mark::Begin { at: from, seen: to });
-    }
-    if burst_ends(entries, position, tap.since, to.get()) {
-        tell_end(entries, position, tap, to);
-    }
+    let begin = begin_in(entries, delay, position, tap, from, to);
+    let end = end_in(entries, delay, position, tap, from, to);
+    tell_begin(tap, begin, to);
+    tell_end(entries, delay, position, tap, end, to);
 }
 
 /// How many marks a pass tells the tap at a position.
-fn news_count(entries: &[Entry], position: usize, tap: &Tap, from: Moment, to: Moment) -> usize
+fn news_count(
+    entries: &[Entry],
+    delay: u32,
+    position: usize,
+    tap: &Tap,
+    from: Moment,
+    to: Moment,
+) -> usize
     ensures count { result
-        ≡ length (news at_once position (tap_of tap.now) (map entry_of entries.now) from to) }
+        ≡ length (new_marks delay position (tap_of tap.now) (map entry_of entries.now) from to) }
     ensures few { result ≤ 2 }
 {
     if !tap.running {
         return 0;
     }
-    usize::from(burst_begins(entries, position, tap.since, from.get()))
-        + usize::from(burst_ends(entries, position, tap.since, to.get()))
+    usize::from(begin_in(entries, delay, position, tap, from, to).is_some())
+        + usize::from(end_in(entries, delay, position, tap, from, to).is_some())
 }
 
-/// A pass tells the tap at a position that a burst ends.
-fn tell_end(entries: &[Entry], position: usize, tap: &mut Tap, to: Moment)
-    requires { length tap.old.marks < mark_limit }
-    ensures { tap.new ≡ with_end at_once position tap.old (map entry_of entries.now) to }
+/// When a burst begins at the tap at a position in a pass, if one does.
+fn begin_in(
+    entries: &[Entry],
+    delay: u32,
+    position: usize,
+    tap: &Tap,
+    from: Moment,
+    to: Moment,
+) -> Option<Moment>
+    ensures { result ≡ begin_between (sensed delay position tap.now.since (map entry_of entries.now)) from to }
 {
-    let chars = burst_characters(entries, position, tap, to.get());
-    tap.marks.push(Mark::End {
-        at: to,
-        seen: to,
-        chars,
-    });
+    moment_of(begin_between(
+        entries, delay, position, tap.since, from.get(), to.get(),
+    ))
+}
+
+/// When a burst ends at the tap at a position in a pass, if one does.
+fn end_in(
+    entries: &[Entry],
+    delay: u32,
+    position: usize,
+    tap: &Tap,
+    from: Moment,
+    to: Moment,
+) -> Option<Moment>
+    ensures { result ≡ end_between (sensed delay position tap.now.since (map entry_of entries.now)) from to }
+{
+    moment_of(end_between(
+        entries, delay, position, tap.since, from.get(), to.get(),
+    ))
+}
+
+/// Bit times that are few enough as a moment.
+pub(crate) fn moment_of(bits: Option<u64>) -> Option<Moment>
+    requires { IfSome bits (λ n. n ≤ last_moment) }
+    ensures { result ≡ bits }
+{
+    bits.and_then(Moment::new)
+}
+
+/// A pass tells a tap that a burst began, if one did.
+fn tell_begin(tap: &mut Tap, begin: Option<Moment>, to: Moment)
+    requires { length tap.old.marks + length (begin_of to begin) ≤ mark_limit }
+    ensures { tap.new ≡ with_begin tap.old to begin }
+{
+    if let Some(at) = begin {
+        tap.marks.push(Mark::Begin { at, seen: to });
+    }
+}
+
+/// A pass tells the tap at a position that a burst ended, if one did.
+fn tell_end(
+    entries: &[Entry],
+    delay: u32,
+    position: usize,
+    tap: &mut Tap,
+    end: Option<Moment>,
+    to: Moment,
+)
+    requires { length tap.old.marks + length
+        (end_of delay position (tap_of tap.old) (map entry_of entries.now) to end) ≤ mark_limit }
+    ensures { tap.new ≡ with_end delay position tap.old (map entry_of entries.now) to end }
+{
+    if let Some(at) = end {
+        let chars = burst_characters(entries, delay, position, tap, at.get());
+        tap.marks.push(Mark::End {
+            at,
+            seen: to,
+            chars,
+        });
+    }
 }

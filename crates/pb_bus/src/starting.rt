@@ -2,7 +2,6 @@ ghost use Rattle.std.specs.Prelude.{◌≡◌, ◌≤◌, IfErr, OnOk, OnErr, ma
 ghost use Rattle.std.specs.List.{list_any};
 ghost use Rattle.pb_model.specs.World as world;
 ghost use Rattle.pb_medium.specs.Entries.{entry_of};
-ghost use Rattle.pb_medium.specs.Senses.{at_once};
 ghost use Rattle.pb_bus.specs.Starting.{fresh_tap, is_up, CanStart, IsStarted, RefusesStart};
 
 use pb_medium::{Entry, is_in_air_by, is_reached};
@@ -12,17 +11,18 @@ use pb_timers::Moment;
 /// Starts the station at a tap.
 pub(crate) fn start(
     entries: &[Entry],
+    delay: u32,
     taps: &mut [Tap],
     tap: usize,
     now: Moment,
 ) -> Result<(), WorldFault>
     requires { now ≤ world.clock_limit }
-    ensures ok { OnOk result (IsStarted now (map entry_of entries.now) taps.old tap taps.new) }
+    ensures ok { OnOk result (IsStarted delay now (map entry_of entries.now) taps.old tap taps.new) }
     ensures err { OnErr result (taps.new ≡ taps.old) }
-    ensures fault { IfErr result (RefusesStart now (map entry_of entries.now) taps.old tap) }
+    ensures fault { IfErr result (RefusesStart delay now (map entry_of entries.now) taps.old tap) }
 {
-    check_start(entries, taps, tap, now)?;
-    let amid = is_reached(entries, tap, now.get());
+    check_start(entries, delay, taps, tap, now)?;
+    let amid = is_reached(entries, delay, tap, now.get());
     start_tap(&mut taps[tap], amid, now);
     Ok(())
 }
@@ -30,36 +30,37 @@ pub(crate) fn start(
 /// Whether the station at a tap can start. Faults, the first that applies: `NoSuchTap`; `Running`.
 pub(crate) fn check_start(
     entries: &[Entry],
+    delay: u32,
     taps: &[Tap],
     tap: usize,
     now: Moment,
 ) -> Result<(), WorldFault>
-    ensures ok { OnOk result (CanStart now (map entry_of entries.now) taps.now tap) }
-    ensures fault { IfErr result (RefusesStart now (map entry_of entries.now) taps.now tap) }
+    ensures ok { OnOk result (CanStart delay now (map entry_of entries.now) taps.now tap) }
+    ensures fault { IfErr result (RefusesStart delay now (map entry_of entries.now) taps.now tap) }
 {
     if tap >= taps.len() {
         return Err(WorldFault::NoSuchTap);
     }
-    if is_up(entries, &taps[tap], tap, now) {
+    if is_up(entries, delay, &taps[tap], tap, now) {
         return Err(WorldFault::Running);
     }
     Ok(())
 }
 
 /// Whether the tap at a position runs, or a telegram of its own is in the air.
-fn is_up(entries: &[Entry], tap: &Tap, position: usize, now: Moment) -> bool
-    ensures { result ≡ is_up now (map entry_of entries.now) position tap.now }
+fn is_up(entries: &[Entry], delay: u32, tap: &Tap, position: usize, now: Moment) -> bool
+    ensures { result ≡ is_up delay now (map entry_of entries.now) position tap.now }
 {
-    tap.running || is_sending(entries, position, now)
+    tap.running || is_sending(entries, delay, position, now)
 }
 
-/// Whether a telegram of the tap is in the air.
-fn is_sending(entries: &[Entry], tap: usize, now: Moment) -> bool
-    ensures { result ≡ list_any (world.is_in_air_by at_once now tap) (map entry_of entries.now) }
+/// Whether a telegram of the tap is in the air: it has not reached the others yet.
+fn is_sending(entries: &[Entry], delay: u32, tap: usize, now: Moment) -> bool
+    ensures { result ≡ list_any (world.is_in_air_by delay now tap) (map entry_of entries.now) }
 {
     entries
         .iter()
-        .any(|entry| is_in_air_by(entry, tap, now.get()))
+        .any(|entry| is_in_air_by(entry, delay, tap, now.get()))
 }
 
 /// The tap starts; whether amid something that is reaching it is told.

@@ -7,6 +7,7 @@ use Rattle.std.proofs.lemmas.List.{take_more, drop-map, drop-drop, take-map, map
 use Rattle.std.proofs.Math.Seq.{take-add}
 use Rattle.pb_model.specs.Trace.{Own, Pending, Entry, entry_begin, rank, goes_before, with_entry, heard_at_first}
 use Rattle.pb_model.specs.Laws.{AllOver}
+use Rattle.pb_model.proofs.Past.{ended-by}
 
 -- ---- its place
 
@@ -25,14 +26,14 @@ stands-behind e x xs i passed left more behind =
 
 -- ---- it goes before nothing that is over
 
-pub entered-behind : (m : ℕ) (e : Entry) (old recent : List Entry) → AllOver m old → m ≤ entry_begin e → with_entry e (old ++ recent) ≡ old ++ with_entry e recent
-entered-behind m e [] recent over later = refl
-entered-behind m e (x ∷ old) recent over later =
+pub entered-behind : (delay m : ℕ) (e : Entry) (old recent : List Entry) → AllOver delay m old → m ≤ entry_begin e → with_entry e (old ++ recent) ≡ old ++ with_entry e recent
+entered-behind delay m e [] recent over later = refl
+entered-behind delay m e (x ∷ old) recent over later =
     ap (λ (b : Bool). if b || (entry_begin e == entry_begin x && nat_lt (rank e) (rank x)) then e ∷ x ∷ (old ++ recent) else x ∷ with_entry e (old ++ recent))
-    (le-ltb (entry_begin e) (entry_begin x) (omega (arith, over.0, over.1, later)))
+    (le-ltb (entry_begin e) (entry_begin x) (omega (arith, over.0, ended-by delay m x over.1, later)))
     ∙ ap (λ (b : Bool). if b && nat_lt (rank e) (rank x) then e ∷ x ∷ (old ++ recent) else x ∷ with_entry e (old ++ recent))
-    (ne_eqb (entry_begin e) (entry_begin x) (λ same. omega (arith, same, over.0, over.1, later)))
-    ∙ ap (λ es. x ∷ es) (entered-behind m e old recent over.2 later)
+    (ne_eqb (entry_begin e) (entry_begin x) (λ same. omega (arith, same, over.0, ended-by delay m x over.1, later)))
+    ∙ ap (λ es. x ∷ es) (entered-behind delay m e old recent over.2 later)
 
 -- ---- what it is to each tap at first
 

@@ -1,24 +1,25 @@
--- What a tap senses without a cable delay: tests and choices over mapped lists, the next end, bursts and characters.
+-- What a tap senses: tests and choices over mapped lists, the next end, bursts and characters.
 use Rattle.std.proofs.Common.{◌≡◌, ℕ, ◌+◌, ◌<◌, List, [], ◌∷◌, ◌++◌, Bool, true, false, cond, if◌then◌else◌, not, ◌||◌, ◌&&◌, ◌==◌, refl, ap, sym, ◌∙◌, arith, Option, Some, None, map, length, get_or, drop, append_assoc, add-one, drop-cons}
 use Rattle.std.proofs.Math.Bool.{and-true}
+use Rattle.std.proofs.lemmas.Bool.Decides.{nat_tests}
 use Rattle.std.proofs.lemmas.List.{length-take-le}
 use Rattle.pb_timers.specs.Timers.{bits}
-use Rattle.std.specs.Prelude.{◌-◌, ◌/◌, ◌≤◌, take, nat_lt, min, filter, filter_map, find, fold, count_by, slice_get}
+use Rattle.std.specs.Prelude.{◌-◌, ◌/◌, ◌≤◌, take, nat_lt, nat_le, min, filter, filter_map, find, fold, count_by, slice_get}
 use Rattle.std.specs.List.{list_any, list_all, cons_option, reduce}
 use Rattle.std.specs.Option.{option_map}
 use Rattle.pb_telegram.specs.Faults.{is_bad}
 use Rattle.pb_telegram.specs.declared.chars.RxChar.{RxChar}
 use Rattle.pb_telegram.specs.declared.chars.RxChar.TheVariants.{Good, Bad}
-use Rattle.pb_turn.specs.Spans.{Span}
-use Rattle.pb_model.specs.Medium.{Tap, reaches, is_unheard, sensed, hears_from, overlaps, sends_during, fills_burst, is_whole_at}
+use Rattle.pb_model.specs.Medium.{Tap, reaches, reaches_taps, is_unheard, sensed, hears_from, overlaps, sends_during, fills_burst, is_whole_at}
 use Rattle.pb_turn.specs.Stations.{earlier}
-use Rattle.pb_model.specs.Trace.{Hit, Record, Entry, Sent, Noise, entry_end, hits_place, characters_from, characters_at}
+use Rattle.pb_model.specs.Trace.{Hit, Record, Entry, hits_place, characters_from, characters_at}
 use Rattle.pb_model.specs.World.{later_end, entry_next_end, next_end_of}
-use Rattle.pb_medium.specs.Senses.{at_once, span_of, is_alone, is_undamaged}
+use Rattle.pb_runs.specs.Bus.{next_known}
+use Rattle.pb_medium.specs.Senses.{is_alone, is_undamaged}
 
-pub list_any-map : {X Y : Type 0} (delay : Y → Bool) (f : X → Y) (xs : List X) → list_any delay (map f xs) ≡ list_any (λ x. delay (f x)) xs
-list_any-map delay f [] = refl
-list_any-map delay f (x ∷ xs) = ap (λ (b : Bool). delay (f x) || b) (list_any-map delay f xs)
+pub list_any-map : {X Y : Type 0} (test : Y → Bool) (f : X → Y) (xs : List X) → list_any test (map f xs) ≡ list_any (λ x. test (f x)) xs
+list_any-map test f [] = refl
+list_any-map test f (x ∷ xs) = ap (λ (b : Bool). test (f x) || b) (list_any-map test f xs)
 
 pub filter_map-map : {X Y Z : Type 0} (h : Y → Option Z) (f : X → Y) (xs : List X) → filter_map h (map f xs) ≡ filter_map (λ x. h (f x)) xs
 filter_map-map h f [] = refl
@@ -29,18 +30,18 @@ find-step : {X Y : Type 0} (f : X → Y) (b : Bool) (x : X) (o : Option X) (r : 
 find-step f true x o r e = refl
 find-step f false x o r e = e
 
-find-map : {X Y : Type 0} (delay : Y → Bool) (f : X → Y) (xs : List X) → find delay (map f xs) ≡ option_map f (find (λ x. delay (f x)) xs)
-find-map delay f [] = refl
-find-map delay f (x ∷ xs) = find-step f (delay (f x)) x (find (λ y. delay (f y)) xs) (find delay (map f xs)) (find-map delay f xs)
+find-map : {X Y : Type 0} (test : Y → Bool) (f : X → Y) (xs : List X) → find test (map f xs) ≡ option_map f (find (λ x. test (f x)) xs)
+find-map test f [] = refl
+find-map test f (x ∷ xs) = find-step f (test (f x)) x (find (λ y. test (f y)) xs) (find test (map f xs)) (find-map test f xs)
 
 map-seen : {X Y Z : Type 0} (f : Y → Z) (v : X → Y) (o : Option X) → option_map (λ x. f (v x)) o ≡ option_map f (option_map v o)
 map-seen f v None = refl
 map-seen f v (Some x) = refl
 
 -- what is found through references
-pub found-map : {X Y Z : Type 0} (delay : Z → Bool) (f : Y → Z) (v : X → Y) (ys : List Y) (o : Option X) → option_map v o ≡ find (λ y. delay (f y)) ys
-    → option_map (λ x. f (v x)) o ≡ find delay (map f ys)
-found-map delay f v ys o e = map-seen f v o ∙ ap (option_map f) e ∙ sym (find-map delay f ys)
+pub found-map : {X Y Z : Type 0} (test : Z → Bool) (f : Y → Z) (v : X → Y) (ys : List Y) (o : Option X) → option_map v o ≡ find (λ y. test (f y)) ys
+    → option_map (λ x. f (v x)) o ≡ find test (map f ys)
+found-map test f v ys o e = map-seen f v o ∙ ap (option_map f) e ∙ sym (find-map test f ys)
 
 -- ---- the next end
 
@@ -52,43 +53,40 @@ fold-earlier : (a : ℕ) (xs : List ℕ) → Some (fold min a xs) ≡ earlier (S
 fold-earlier a [] = refl
 fold-earlier a (x ∷ xs) = fold-earlier (min a x) xs ∙ earlier-assoc a x (reduce min xs) ∙ ap (earlier (Some a)) (sym (fold-earlier x xs))
 
--- the least of the later ends, one end at a time
-later-step : (b : Bool) (m : ℕ) (ms : List ℕ) → reduce min (cond b (m ∷ ms) ms) ≡ earlier (cond b (Some m) None) (reduce min ms)
-later-step true m ms = fold-earlier m ms
-later-step false m ms = refl
+-- the least of some moments with one more, if there is one
+least-step : (o : Option ℕ) (ms : List ℕ) → reduce min (cons_option o ms) ≡ earlier o (reduce min ms)
+least-step None ms = refl
+least-step (Some m) ms = fold-earlier m ms
 
-twice : (b : Bool) (m : ℕ) → cond b (Some m) None ≡ earlier (cond b (Some m) None) (cond b (Some m) None)
-twice true m = ap (λ (n : ℕ). Some n) (omega arith)
-twice false m = refl
+pub least-end : (delay now : ℕ) (es : List Entry) → reduce min (filter_map (entry_next_end delay now) es) ≡ next_end_of delay now es
+least-end delay now [] = refl
+least-end delay now (e ∷ es) =
+    least-step (entry_next_end delay now e) (filter_map (entry_next_end delay now) es) ∙ ap (earlier (entry_next_end delay now e)) (least-end delay now es)
 
-next-end-step : (now : ℕ) (e : Entry) → later_end now (entry_end e) ≡ entry_next_end at_once now e
-next-end-step now (Noise span) = refl
-next-end-step now (Sent r) =
-    let soon : r.end ≡ r.end + 0 = omega arith in
-    twice (nat_lt now r.end) r.end ∙ ap (λ (m : ℕ). earlier (later_end now r.end) (later_end now m)) soon
+-- ---- the next begin
 
-pub least-later-end : (now : ℕ) (es : List Entry) → reduce min (filter (λ m. nat_lt now m) (map entry_end es)) ≡ next_end_of at_once now es
-least-later-end now [] = refl
-least-later-end now (e ∷ es) =
-    later-step (nat_lt now (entry_end e)) (entry_end e) (filter (λ m. nat_lt now m) (map entry_end es))
-    ∙ ap (λ (o : Option ℕ). earlier o (reduce min (filter (λ m. nat_lt now m) (map entry_end es)))) (next-end-step now e)
-    ∙ ap (earlier (entry_next_end at_once now e)) (least-later-end now es)
+one-later : (m : ℕ) (o : Option ℕ) → option_map (λ n. n + 1) (earlier (Some m) o) ≡ earlier (Some (m + 1)) (option_map (λ n. n + 1) o)
+one-later m None = refl
+one-later m (Some n) = ap (λ (k : ℕ). Some k) (let same : min m n + 1 ≡ min (m + 1) (n + 1) = omega arith in same)
+
+begin-step : (b c : Bool) (m : ℕ) (ms : List ℕ) → c ≡ b → option_map (λ n. n + 1) (reduce min (cond b (m ∷ ms) ms)) ≡ earlier (if c then Some (m + 1) else None) (option_map (λ n. n + 1) (reduce min ms))
+begin-step true true m ms same = ap (option_map (λ n. n + 1)) (fold-earlier m ms) ∙ one-later m (reduce min ms)
+begin-step false false m ms same = refl
+begin-step true false m ms same = absurd cc
+begin-step false true m ms same = absurd cc
+
+begins-late : (now m : ℕ) → nat_lt now (m + 1) ≡ nat_le now m
+begins-late now m = grind (arith, nat_tests)
+
+pub least-later-begin : (delay now : ℕ) (es : List Entry) → option_map (λ n. n + 1) (reduce min (filter (λ m. nat_le now m) (map (λ e. (reaches_taps delay e).begin) es))) ≡ next_known delay now es
+least-later-begin delay now [] = refl
+least-later-begin delay now (e ∷ es) =
+    let begin = (reaches_taps delay e).begin in
+    let rest = filter (λ m. nat_le now m) (map (λ x. (reaches_taps delay x).begin) es) in
+    begin-step (nat_le now begin) (nat_lt now (begin + 1)) begin rest (begins-late now begin)
+    ∙ ap (earlier (later_end now (begin + 1))) (least-later-begin delay now es)
 
 -- ---- bursts
-
--- whether a telegram that is at the taps for a stretch of time fills a burst
-abbrev fills : ℕ → Tap → List Entry → Record → Span → Bool
-fills tap t trace r span =
-    not (r.tap == tap || is_unheard (slice_get r.heard tap))
-    && hears_from t span.begin
-    && count_by (overlaps span) (sensed at_once tap t.since trace) == 1
-    && not (list_any (sends_during tap span) trace)
-
-reaches-at_once : (r : Record) → span_of r ≡ reaches at_once r
-reaches-at_once r =
-    let begins : r.begin ≡ r.begin + 0 = omega arith in
-    let ends : r.end ≡ r.end + 0 = omega arith in
-    ap (λ (m : ℕ). record { begin = m; end = r.end }) begins ∙ ap (λ (m : ℕ). record { begin = r.begin + 0; end = m }) ends
 
 second-first : (a b c d : Bool) → (b && (a && c && d)) ≡ (a && b && c && d)
 second-first true true c d = refl
@@ -96,24 +94,23 @@ second-first true false c d = refl
 second-first false true c d = refl
 second-first false false c d = refl
 
-pub burst-filled : (tap : ℕ) (t : Tap) (trace : List Entry) (r : Record) (hears alone : Bool) → hears ≡ hears_from t r.begin → alone ≡ is_alone tap t.since trace r
-    → (hears && alone) ≡ fills_burst at_once tap t trace r
-burst-filled tap t trace r hears alone h a =
-    ap (λ (b : Bool). b && alone) h ∙ ap (λ (b : Bool). hears_from t r.begin && b) a
-    ∙ second-first (not (r.tap == tap || is_unheard (slice_get r.heard tap))) (hears_from t r.begin)
-    (count_by (overlaps (span_of r)) (sensed at_once tap t.since trace) == 1) (not (list_any (sends_during tap (span_of r)) trace))
-    ∙ ap (fills tap t trace r) (reaches-at_once r)
+pub burst-filled : (delay tap : ℕ) (t : Tap) (trace : List Entry) (r : Record) (hears alone : Bool) → hears ≡ hears_from t (reaches delay r).begin → alone ≡ is_alone delay tap t.since trace r
+    → (hears && alone) ≡ fills_burst delay tap t trace r
+burst-filled delay tap t trace r hears alone h a =
+    ap (λ (b : Bool). b && alone) h ∙ ap (λ (b : Bool). hears_from t (reaches delay r).begin && b) a
+    ∙ second-first (not (r.tap == tap || is_unheard (slice_get r.heard tap))) (hears_from t (reaches delay r).begin)
+    (count_by (overlaps (reaches delay r)) (sensed delay tap t.since trace) == 1) (not (list_any (sends_during tap (reaches delay r)) trace))
 
 whole-parts : (a b c d : Bool) → a ≡ true → (b && (c && d)) ≡ (a && b && c && d)
 whole-parts true true c d e = refl
 whole-parts true false c d e = refl
 whole-parts false b c d e = absurd cc
 
-pub whole-filled : (tap : ℕ) (t : Tap) (trace : List Entry) (r : Record) (fills undamaged : Bool) → t.running ≡ true → fills ≡ fills_burst at_once tap t trace r
-    → undamaged ≡ is_undamaged tap r → (fills && undamaged) ≡ is_whole_at at_once tap t trace r
-whole-filled tap t trace r fills undamaged runs f u =
-    ap (λ (b : Bool). b && undamaged) f ∙ ap (λ (b : Bool). fills_burst at_once tap t trace r && b) u
-    ∙ whole-parts t.running (fills_burst at_once tap t trace r) (length (characters_at tap r) == length r.octets) (list_all (λ char. not (is_bad char)) (characters_at tap r)) runs
+pub whole-filled : (delay tap : ℕ) (t : Tap) (trace : List Entry) (r : Record) (fills undamaged : Bool) → t.running ≡ true → fills ≡ fills_burst delay tap t trace r
+    → undamaged ≡ is_undamaged tap r → (fills && undamaged) ≡ is_whole_at delay tap t trace r
+whole-filled delay tap t trace r fills undamaged runs f u =
+    ap (λ (b : Bool). b && undamaged) f ∙ ap (λ (b : Bool). fills_burst delay tap t trace r && b) u
+    ∙ whole-parts t.running (fills_burst delay tap t trace r) (length (characters_at tap r) == length r.octets) (list_all (λ char. not (is_bad char)) (characters_at tap r)) runs
 
 -- ---- characters
 

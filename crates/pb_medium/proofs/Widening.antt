@@ -20,7 +20,6 @@ use Rattle.pb_model.proofs.Past.{marks_between-skip, next_end_of-skip, trace_at-
 use Rattle.pb_medium.specs.Airs.{plain, IsCut}
 use Rattle.pb_medium.specs.Losing.{has_nothing_to_lose}
 use Rattle.pb_medium.specs.Noising.{has_noise, has_no_room}
-use Rattle.pb_medium.specs.Senses.{at_once}
 use Rattle.pb_medium.proofs.Entering.{entered-behind}
 use Rattle.std.proofs.Math.Bool.{and-false}
 
@@ -40,18 +39,18 @@ widened-unless old p tests w reply = by_fault (first_fault tests)
 
 -- ---- Pass
 
-told-skip : (delay m from to k : ℕ) (old recent : List Entry) (ts : List Tap) → delay ≡ 0 → AllOver m old → AllFrom m recent → m ≤ from
+told-skip : (delay m from to k : ℕ) (old recent : List Entry) (ts : List Tap) → AllOver delay m old → AllFrom m recent → m ≤ from
     → told delay (old ++ recent) from to k ts ≡ told delay recent from to k ts
-told-skip delay m from to k old recent [] none over begun later = refl
-told-skip delay m from to k old recent (t ∷ ts) none over begun later =
+told-skip delay m from to k old recent [] over begun later = refl
+told-skip delay m from to k old recent (t ∷ ts) over begun later =
     ap (λ (ms : List Mark). record t { marks = t.marks ++ (if t.running then ms else []) } ∷ told delay (old ++ recent) from to (k + 1) ts)
-    (marks_between-skip delay k m from to t old recent none over begun later)
-    ∙ ap (λ (us : List Tap). record t { marks = t.marks ++ new_marks delay k t recent from to } ∷ us) (told-skip delay m from to (k + 1) old recent ts none over begun later)
+    (marks_between-skip delay k m from to t old recent over begun later)
+    ∙ ap (λ (us : List Tap). record t { marks = t.marks ++ new_marks delay k t recent from to } ∷ us) (told-skip delay m from to (k + 1) old recent ts over begun later)
 
-pass-wide : (p : Params) (old recent : List Entry) (now d m : ℕ) (taps : List Tap) → p.ttd ≡ 0 → AllOver m old → AllFrom m recent → m ≤ now
+pass-wide : (p : Params) (old recent : List Entry) (now d m : ℕ) (taps : List Tap) → AllOver p.ttd m old → AllFrom m recent → m ≤ now
     → step_pass (record { params = p; now = now; trace = old ++ recent; taps = taps }) d
-    ≡ widened old p (step_pass (record { params = plain; now = now; trace = recent; taps = taps }) d)
-pass-wide p old recent now d m taps none over begun later =
+    ≡ widened old p (step_pass (record { params = plain p.ttd; now = now; trace = recent; taps = taps }) d)
+pass-wide p old recent now d m taps over begun later =
     let to = now + d in
     let reply : Reply = record { now = to; spoke = None } in
     let ending : Option ℕ → List Tap → List Entry → Result (World × Reply) Fault
@@ -59,41 +58,40 @@ pass-wide p old recent now d m taps none over begun later =
     (d == 0, ZeroTime) ∷ (is_past o to, TooFar (unwrap_or o 0)) ∷ (nat_lt clock_limit to, ClockFull)
     ∷ (is_some (first_full 0 ts), InboxFull (unwrap_or (first_full 0 ts) 0)) ∷ []
     ) (record { params = p; now = to; trace = es; taps = ts }, reply) in
-    ap (λ o. ending o (told p.ttd (old ++ recent) now to 0 taps) (map (entry_at p.ttd taps (old ++ recent) now to) (old ++ recent))) (next_end_of-skip p.ttd m now old recent none over later)
-    ∙ ap (λ ts. ending (next_end_of p.ttd now recent) ts (map (entry_at p.ttd taps (old ++ recent) now to) (old ++ recent))) (told-skip p.ttd m now to 0 old recent taps none over begun later)
-    ∙ ap (λ es. ending (next_end_of p.ttd now recent) (told p.ttd recent now to 0 taps) es) (trace_at-skip p.ttd m now to taps old recent none over begun later)
-    ∙ ap (λ delay. ending (next_end_of delay now recent) (told delay recent now to 0 taps) (old ++ map (entry_at delay taps recent now to) recent)) none
+    ap (λ o. ending o (told p.ttd (old ++ recent) now to 0 taps) (map (entry_at p.ttd taps (old ++ recent) now to) (old ++ recent))) (next_end_of-skip p.ttd m now old recent over later)
+    ∙ ap (λ ts. ending (next_end_of p.ttd now recent) ts (map (entry_at p.ttd taps (old ++ recent) now to) (old ++ recent))) (told-skip p.ttd m now to 0 old recent taps over begun later)
+    ∙ ap (λ es. ending (next_end_of p.ttd now recent) (told p.ttd recent now to 0 taps) es) (trace_at-skip p.ttd m now to taps old recent over begun later)
     ∙ widened-unless old p (
-    (d == 0, ZeroTime) ∷ (is_past (next_end_of 0 now recent) to, TooFar (unwrap_or (next_end_of 0 now recent) 0)) ∷ (nat_lt clock_limit to, ClockFull)
-    ∷ (is_some (first_full 0 (told 0 recent now to 0 taps)), InboxFull (unwrap_or (first_full 0 (told 0 recent now to 0 taps)) 0)) ∷ []
-    ) (record { params = plain; now = to; trace = map (entry_at 0 taps recent now to) recent; taps = told 0 recent now to 0 taps }) reply
+    (d == 0, ZeroTime) ∷ (is_past (next_end_of p.ttd now recent) to, TooFar (unwrap_or (next_end_of p.ttd now recent) 0)) ∷ (nat_lt clock_limit to, ClockFull)
+    ∷ (is_some (first_full 0 (told p.ttd recent now to 0 taps)), InboxFull (unwrap_or (first_full 0 (told p.ttd recent now to 0 taps)) 0)) ∷ []
+    ) (record { params = plain p.ttd; now = to; trace = map (entry_at p.ttd taps recent now to) recent; taps = told p.ttd recent now to 0 taps }) reply
 
-pub pass-whole : (w : World) (over d : ℕ) → w.params.ttd ≡ 0 → IsCut w.now over w.trace
-    → step_pass w d ≡ widened (take over w.trace) w.params (step_pass (record w { params = plain; trace = drop over w.trace }) d)
-pass-whole w over d none (m, later, some, old, begun) =
+pub pass-whole : (w : World) (over d : ℕ) → IsCut w.params.ttd w.now over w.trace
+    → step_pass w d ≡ widened (take over w.trace) w.params (step_pass (record w { params = plain w.params.ttd; trace = drop over w.trace }) d)
+pass-whole w over d (m, later, some, old, begun) =
     ap (λ es. step_pass (record w { trace = es }) d) (sym (take-append-drop over w.trace))
-    ∙ pass-wide w.params (take over w.trace) (drop over w.trace) w.now d m w.taps none old begun later
+    ∙ pass-wide w.params (take over w.trace) (drop over w.trace) w.now d m w.taps old begun later
 
 -- ---- what is over is not in the air, and reaches nobody
 
-over-landed : (delay m now speaker : ℕ) (es : List Entry) → delay ≡ 0 → AllOver m es → m ≤ now → list_any (is_in_air_by delay now speaker) es ≡ false
-over-landed delay m now speaker [] none over later = refl
-over-landed delay m now speaker (Noise span ∷ es) none over later = over-landed delay m now speaker es none over.2 later
-over-landed delay m now speaker (Sent r ∷ es) none over later =
-    ap (λ (b : Bool). (r.tap == speaker && b) || list_any (is_in_air_by delay now speaker) es) (le-ltb now (reaches delay r).end (omega (arith, none, over.1, later)))
+over-landed : (delay m now speaker : ℕ) (es : List Entry) → AllOver delay m es → m ≤ now → list_any (is_in_air_by delay now speaker) es ≡ false
+over-landed delay m now speaker [] over later = refl
+over-landed delay m now speaker (Noise span ∷ es) over later = over-landed delay m now speaker es over.2 later
+over-landed delay m now speaker (Sent r ∷ es) over later =
+    ap (λ (b : Bool). (r.tap == speaker && b) || list_any (is_in_air_by delay now speaker) es) (le-ltb now (reaches delay r).end (omega (arith, over.1, later)))
     ∙ ap (λ (b : Bool). b || list_any (is_in_air_by delay now speaker) es) (and-false (r.tap == speaker))
-    ∙ over-landed delay m now speaker es none over.2 later
+    ∙ over-landed delay m now speaker es over.2 later
 
-over-passed : (delay m now tap : ℕ) (es : List Entry) → delay ≡ 0 → AllOver m es → m ≤ now → list_any (reaches_now delay tap now) es ≡ false
-over-passed delay m now tap [] none over later = refl
-over-passed delay m now tap (Noise span ∷ es) none over later =
+over-passed : (delay m now tap : ℕ) (es : List Entry) → AllOver delay m es → m ≤ now → list_any (reaches_now delay tap now) es ≡ false
+over-passed delay m now tap [] over later = refl
+over-passed delay m now tap (Noise span ∷ es) over later =
     ap (λ (b : Bool). (nat_le span.begin now && b) || list_any (reaches_now delay tap now) es) (le-ltb now span.end (omega (arith, over.1, later)))
-    ∙ ap (λ (b : Bool). b || list_any (reaches_now delay tap now) es) (and-false (nat_le span.begin now)) ∙ over-passed delay m now tap es none over.2 later
-over-passed delay m now tap (Sent r ∷ es) none over later =
+    ∙ ap (λ (b : Bool). b || list_any (reaches_now delay tap now) es) (and-false (nat_le span.begin now)) ∙ over-passed delay m now tap es over.2 later
+over-passed delay m now tap (Sent r ∷ es) over later =
     by_test (λ (o : Option Span). (is_there now o || list_any (reaches_now delay tap now) es) ≡ false) (r.tap == tap || is_unheard (slice_get r.heard tap)) None (Some (reaches delay r))
-    (λ _. over-passed delay m now tap es none over.2 later)
-    (λ _. ap (λ (b : Bool). (nat_le (reaches delay r).begin now && b) || list_any (reaches_now delay tap now) es) (le-ltb now (reaches delay r).end (omega (arith, none, over.1, later)))
-    ∙ ap (λ (b : Bool). b || list_any (reaches_now delay tap now) es) (and-false (nat_le (reaches delay r).begin now)) ∙ over-passed delay m now tap es none over.2 later)
+    (λ _. over-passed delay m now tap es over.2 later)
+    (λ _. ap (λ (b : Bool). (nat_le (reaches delay r).begin now && b) || list_any (reaches_now delay tap now) es) (le-ltb now (reaches delay r).end (omega (arith, over.1, later)))
+    ∙ ap (λ (b : Bool). b || list_any (reaches_now delay tap now) es) (and-false (nat_le (reaches delay r).begin now)) ∙ over-passed delay m now tap es over.2 later)
 
 any-behind : (test : Entry → Bool) (old recent : List Entry) → list_any test old ≡ false → list_any test (old ++ recent) ≡ list_any test recent
 any-behind test old recent none = list_any-append test old recent ∙ ap (λ (b : Bool). b || list_any test recent) none
@@ -120,107 +118,104 @@ changed-behind test change (e ∷ old) recent none =
 -- ---- Damage
 
 damage-wide : (p : Params) (old recent : List Entry) (now m tap speaker : ℕ) (place : Option ℕ) (at from : Option Tap) (taps : List Tap)
-    → p.ttd ≡ 0 → AllOver m old → m ≤ now
+    → AllOver p.ttd m old → m ≤ now
     → step_damage (record { params = p; now = now; trace = old ++ recent; taps = taps }) tap speaker place at from
-    ≡ widened old p (step_damage (record { params = plain; now = now; trace = recent; taps = taps }) tap speaker place at from)
-damage-wide p old recent now m tap speaker place at from taps none over later =
+    ≡ widened old p (step_damage (record { params = plain p.ttd; now = now; trace = recent; taps = taps }) tap speaker place at from)
+damage-wide p old recent now m tap speaker place at from taps over later =
     let hit = with_hit (record { tap = tap; place = place }) in
-    let landed = over-landed p.ttd m now speaker old none over later in
+    let landed = over-landed p.ttd m now speaker old over later in
     let reply : Reply = record { now = now; spoke = None } in
     let ending : Option Entry → List Entry → Result (World × Reply) Fault
     = λ o es. unless ((is_none at || is_none from, NoSuchTap) ∷ (tap == speaker || not (has_place o place), NothingInAir) ∷ [])
     (record { params = p; now = now; trace = es; taps = taps }, reply) in
     ap (λ o. ending o (change_first (is_in_air_by p.ttd now speaker) hit (old ++ recent))) (find-behind (is_in_air_by p.ttd now speaker) old recent landed)
     ∙ ap (λ es. ending (find (is_in_air_by p.ttd now speaker) recent) es) (changed-behind (is_in_air_by p.ttd now speaker) hit old recent landed)
-    ∙ ap (λ delay. ending (find (is_in_air_by delay now speaker) recent) (old ++ change_first (is_in_air_by delay now speaker) hit recent)) none
-    ∙ widened-unless old p ((is_none at || is_none from, NoSuchTap) ∷ (tap == speaker || not (has_place (find (is_in_air_by 0 now speaker) recent) place), NothingInAir) ∷ [])
-    (record { params = plain; now = now; trace = change_first (is_in_air_by 0 now speaker) hit recent; taps = taps }) reply
+    ∙ widened-unless old p ((is_none at || is_none from, NoSuchTap) ∷ (tap == speaker || not (has_place (find (is_in_air_by p.ttd now speaker) recent) place), NothingInAir) ∷ [])
+    (record { params = plain p.ttd; now = now; trace = change_first (is_in_air_by p.ttd now speaker) hit recent; taps = taps }) reply
 
-pub damage-whole : (w : World) (over tap speaker : ℕ) (place : Option ℕ) (at from : Option Tap) → w.params.ttd ≡ 0 → IsCut w.now over w.trace
-    → step_damage w tap speaker place at from ≡ widened (take over w.trace) w.params (step_damage (record w { params = plain; trace = drop over w.trace }) tap speaker place at from)
-damage-whole w over tap speaker place at from none (m, later, some, old, begun) =
+pub damage-whole : (w : World) (over tap speaker : ℕ) (place : Option ℕ) (at from : Option Tap) → IsCut w.params.ttd w.now over w.trace
+    → step_damage w tap speaker place at from ≡ widened (take over w.trace) w.params (step_damage (record w { params = plain w.params.ttd; trace = drop over w.trace }) tap speaker place at from)
+damage-whole w over tap speaker place at from (m, later, some, old, begun) =
     ap (λ es. step_damage (record w { trace = es }) tap speaker place at from) (sym (take-append-drop over w.trace))
-    ∙ damage-wide w.params (take over w.trace) (drop over w.trace) w.now m tap speaker place at from w.taps none old later
+    ∙ damage-wide w.params (take over w.trace) (drop over w.trace) w.now m tap speaker place at from w.taps old later
 
 -- ---- Start
 
 -- whether a tap runs, or a telegram of its own is among the recent entries in the air
 abbrev pub is_sending : ℕ → World → ℕ → Tap → Bool
-is_sending over w tap t = t.running || list_any (is_in_air_by at_once w.now tap) (drop over w.trace)
+is_sending over w tap t = t.running || list_any (is_in_air_by w.params.ttd w.now tap) (drop over w.trace)
 
 -- a tap that starts, as the recent entries tell it
 abbrev pub started_amid : ℕ → World → ℕ → Tap → Tap
 started_amid over w tap t = record t {
   running = true;
   since = w.now;
-  amid = list_any (reaches_now at_once tap w.now) (drop over w.trace);
+  amid = list_any (reaches_now w.params.ttd tap w.now) (drop over w.trace);
   station = started w.params t.station t.spec.master w.now;
   marks = [];
 }
 
-pub start-whole : (w : World) (over tap : ℕ) (t : Tap) → w.params.ttd ≡ 0 → IsCut w.now over w.trace
+pub start-whole : (w : World) (over tap : ℕ) (t : Tap) → IsCut w.params.ttd w.now over w.trace
     → step_start w tap (Some t) ≡ unless ((is_sending over w tap t, Running) ∷ []) (record w { taps = slice_set w.taps tap (started_amid over w tap t) }, record { now = w.now; spoke = None })
-start-whole w over tap t none (m, later, some, old, begun) =
+start-whole w over tap t (m, later, some, old, begun) =
     let past = take over w.trace in
     let recent = drop over w.trace in
     let parts = sym (take-append-drop over w.trace) in
     let sends = ap (list_any (is_in_air_by w.params.ttd w.now tap)) parts
-    ∙ any-behind (is_in_air_by w.params.ttd w.now tap) past recent (over-landed w.params.ttd m w.now tap past none old later)
-    ∙ ap (λ delay. list_any (is_in_air_by delay w.now tap) recent) none in
+    ∙ any-behind (is_in_air_by w.params.ttd w.now tap) past recent (over-landed w.params.ttd m w.now tap past old later) in
     let amid = ap (list_any (reaches_now w.params.ttd tap w.now)) parts
-    ∙ any-behind (reaches_now w.params.ttd tap w.now) past recent (over-passed w.params.ttd m w.now tap past none old later)
-    ∙ ap (λ delay. list_any (reaches_now delay tap w.now) recent) none in
+    ∙ any-behind (reaches_now w.params.ttd tap w.now) past recent (over-passed w.params.ttd m w.now tap past old later) in
     let ending : Bool → Bool → Result (World × Reply) Fault
     = λ s a. unless ((t.running || s, Running) ∷ []) (
       record w { taps = slice_set w.taps tap (record t { running = true; since = w.now; amid = a; station = started w.params t.station t.spec.master w.now; marks = [] }) },
       record { now = w.now; spoke = None },
     ) in
-    ap (λ s. ending s (list_any (reaches_now w.params.ttd tap w.now) w.trace)) sends ∙ ap (ending (list_any (is_in_air_by at_once w.now tap) recent)) amid
+    ap (λ s. ending s (list_any (reaches_now w.params.ttd tap w.now) w.trace)) sends ∙ ap (ending (list_any (is_in_air_by w.params.ttd w.now tap) recent)) amid
 
 -- ---- Stop
 
 -- what is over is not cut
-over-uncut : (m now tap : ℕ) (es : List Entry) → AllOver m es → m ≤ now → map (cut_at now tap) es ≡ es
-over-uncut m now tap [] over later = refl
-over-uncut m now tap (Noise span ∷ es) over later = ap (λ xs. Noise span ∷ xs) (over-uncut m now tap es over.2 later)
-over-uncut m now tap (Sent r ∷ es) over later =
+over-uncut : (delay m now tap : ℕ) (es : List Entry) → AllOver delay m es → m ≤ now → map (cut_at now tap) es ≡ es
+over-uncut delay m now tap [] over later = refl
+over-uncut delay m now tap (Noise span ∷ es) over later = ap (λ xs. Noise span ∷ xs) (over-uncut delay m now tap es over.2 later)
+over-uncut delay m now tap (Sent r ∷ es) over later =
     let whole : cut_end now r ≡ r.end = omega (arith, over.0, over.1, later) in
     by_test (λ (x : Record). Sent x ∷ map (cut_at now tap) es ≡ Sent r ∷ es) (r.tap == tap) (record r { end = cut_end now r }) r
-    (λ _. ap (λ end. Sent (record r { end = end }) ∷ map (cut_at now tap) es) whole ∙ ap (λ xs. Sent r ∷ xs) (over-uncut m now tap es over.2 later))
-    (λ _. ap (λ xs. Sent r ∷ xs) (over-uncut m now tap es over.2 later))
+    (λ _. ap (λ end. Sent (record r { end = end }) ∷ map (cut_at now tap) es) whole ∙ ap (λ xs. Sent r ∷ xs) (over-uncut delay m now tap es over.2 later))
+    (λ _. ap (λ xs. Sent r ∷ xs) (over-uncut delay m now tap es over.2 later))
 
-pub cut-whole : (now over tap : ℕ) (es : List Entry) → IsCut now over es → map (cut_at now tap) es ≡ take over es ++ map (cut_at now tap) (drop over es)
-cut-whole now over tap es (m, later, some, old, begun) =
+pub cut-whole : (delay now over tap : ℕ) (es : List Entry) → IsCut delay now over es → map (cut_at now tap) es ≡ take over es ++ map (cut_at now tap) (drop over es)
+cut-whole delay now over tap es (m, later, some, old, begun) =
     ap (map (cut_at now tap)) (sym (take-append-drop over es)) ∙ map-append (cut_at now tap) (take over es) (drop over es)
-    ∙ ap (λ xs. xs ++ map (cut_at now tap) (drop over es)) (over-uncut m now tap (take over es) old later)
+    ∙ ap (λ xs. xs ++ map (cut_at now tap) (drop over es)) (over-uncut delay m now tap (take over es) old later)
 
 -- ---- Noise and Unheard
 
 -- no noise that is over is in the air
-over-silent : (m now : ℕ) (es : List Entry) → AllOver m es → m ≤ now → list_any (is_noise_at now) es ≡ false
-over-silent m now [] over later = refl
-over-silent m now (Noise span ∷ es) over later =
-    ap (λ (b : Bool). b || list_any (is_noise_at now) es) (le-ltb now span.end (omega (arith, over.1, later))) ∙ over-silent m now es over.2 later
-over-silent m now (Sent r ∷ es) over later = over-silent m now es over.2 later
+over-silent : (delay m now : ℕ) (es : List Entry) → AllOver delay m es → m ≤ now → list_any (is_noise_at now) es ≡ false
+over-silent delay m now [] over later = refl
+over-silent delay m now (Noise span ∷ es) over later =
+    ap (λ (b : Bool). b || list_any (is_noise_at now) es) (le-ltb now span.end (omega (arith, over.1, later))) ∙ over-silent delay m now es over.2 later
+over-silent delay m now (Sent r ∷ es) over later = over-silent delay m now es over.2 later
 
 -- nothing that is over begins now
-over-begun : (m now speaker : ℕ) (es : List Entry) → AllOver m es → m ≤ now → list_any (begins_from now speaker) es ≡ false
-over-begun m now speaker [] over later = refl
-over-begun m now speaker (Noise span ∷ es) over later = over-begun m now speaker es over.2 later
-over-begun m now speaker (Sent r ∷ es) over later =
+over-begun : (delay m now speaker : ℕ) (es : List Entry) → AllOver delay m es → m ≤ now → list_any (begins_from now speaker) es ≡ false
+over-begun delay m now speaker [] over later = refl
+over-begun delay m now speaker (Noise span ∷ es) over later = over-begun delay m now speaker es over.2 later
+over-begun delay m now speaker (Sent r ∷ es) over later =
     ap (λ (b : Bool). (r.tap == speaker && b) || list_any (begins_from now speaker) es) (ne_eqb r.begin now (λ same. omega (arith, same, over.0, over.1, later)))
-    ∙ ap (λ (b : Bool). b || list_any (begins_from now speaker) es) (and-false (r.tap == speaker)) ∙ over-begun m now speaker es over.2 later
+    ∙ ap (λ (b : Bool). b || list_any (begins_from now speaker) es) (and-false (r.tap == speaker)) ∙ over-begun delay m now speaker es over.2 later
 
-noise-behind : (m now end : ℕ) (noisy : Bool) (old recent : List Entry) → AllOver m old → m ≤ now → with_noise now end noisy (old ++ recent) ≡ old ++ with_noise now end noisy recent
-noise-behind m now end true old recent over later = changed-behind (is_noise_at now) (noisy_until end) old recent (over-silent m now old over later)
-noise-behind m now end false old recent over later = entered-behind m (Noise (record { begin = now; end = end })) old recent over later
+noise-behind : (delay m now end : ℕ) (noisy : Bool) (old recent : List Entry) → AllOver delay m old → m ≤ now → with_noise now end noisy (old ++ recent) ≡ old ++ with_noise now end noisy recent
+noise-behind delay m now end true old recent over later = changed-behind (is_noise_at now) (noisy_until end) old recent (over-silent delay m now old over later)
+noise-behind delay m now end false old recent over later = entered-behind delay m (Noise (record { begin = now; end = end })) old recent over later
 
-pub noisy-behind : (w : World) (over : ℕ) → IsCut w.now over w.trace → is_noisy w ≡ has_noise w.now (drop over w.trace)
+pub noisy-behind : (w : World) (over : ℕ) → IsCut w.params.ttd w.now over w.trace → is_noisy w ≡ has_noise w.now (drop over w.trace)
 noisy-behind w over (m, later, some, old, begun) =
     ap (list_any (is_noise_at w.now)) (sym (take-append-drop over w.trace))
-    ∙ any-behind (is_noise_at w.now) (take over w.trace) (drop over w.trace) (over-silent m w.now (take over w.trace) old later)
+    ∙ any-behind (is_noise_at w.now) (take over w.trace) (drop over w.trace) (over-silent w.params.ttd m w.now (take over w.trace) old later)
 
-pub noise-whole : (w : World) (over bits : ℕ) → IsCut w.now over w.trace
+pub noise-whole : (w : World) (over bits : ℕ) → IsCut w.params.ttd w.now over w.trace
     → step_noise w bits (is_noisy w) ≡ unless ((bits == 0, ZeroTime) ∷ (has_no_room (has_noise w.now (drop over w.trace)) (length w.trace), TraceFull) ∷ []) (
       record w { trace = take over w.trace ++ with_noise w.now (w.now + bits) (has_noise w.now (drop over w.trace)) (drop over w.trace) },
       record { now = w.now; spoke = None },
@@ -231,9 +226,9 @@ noise-whole w over bits (m, later, some, old, begun) =
     = λ es. unless ((bits == 0, ZeroTime) ∷ (has_no_room noisy (length w.trace), TraceFull) ∷ []) (record w { trace = es }, record { now = w.now; spoke = None }) in
     ap (step_noise w bits) (noisy-behind w over (m, later, some, old, begun))
     ∙ ap (λ es. ending (with_noise w.now (w.now + bits) noisy es)) (sym (take-append-drop over w.trace))
-    ∙ ap ending (noise-behind m w.now (w.now + bits) noisy (take over w.trace) (drop over w.trace) old later)
+    ∙ ap ending (noise-behind w.params.ttd m w.now (w.now + bits) noisy (take over w.trace) (drop over w.trace) old later)
 
-pub unheard-whole : (w : World) (over tap speaker : ℕ) (at from : Option Tap) → IsCut w.now over w.trace
+pub unheard-whole : (w : World) (over tap speaker : ℕ) (at from : Option Tap) → IsCut w.params.ttd w.now over w.trace
     → step_unheard w tap speaker at from ≡ unless ((is_none at || is_none from, NoSuchTap) ∷ (has_nothing_to_lose tap speaker w.now (drop over w.trace), NothingInAir) ∷ []) (
       record w { trace = take over w.trace ++ change_first (begins_from w.now speaker) (unheard_at tap) (drop over w.trace) },
       record { now = w.now; spoke = None },
@@ -242,7 +237,7 @@ unheard-whole w over tap speaker at from (m, later, some, old, begun) =
     let begins = begins_from w.now speaker in
     let past = take over w.trace in
     let recent = drop over w.trace in
-    let none = over-begun m w.now speaker past old later in
+    let none = over-begun w.params.ttd m w.now speaker past old later in
     let ending : Bool → List Entry → Result (World × Reply) Fault
     = λ b es. unless ((is_none at || is_none from, NoSuchTap) ∷ (tap == speaker || not b, NothingInAir) ∷ []) (record w { trace = es }, record { now = w.now; spoke = None }) in
     ap (λ es. ending (list_any begins es) (change_first begins (unheard_at tap) es)) (sym (take-append-drop over w.trace))

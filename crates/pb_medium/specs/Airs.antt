@@ -5,17 +5,16 @@ use Rattle.pb_model.specs.World as model
 use Rattle.pb_model.specs.Trace as trace
 use Rattle.pb_model.specs.Laws.{AllOver, AllFrom}
 use Rattle.pb_taps.specs.declared.taps.Tap.{Tap}
-use Rattle.pb_medium.specs.Senses.{at_once}
 use Rattle.pb_taps.specs.Taps.{tap_of}
 
--- parameters of a bus without a cable delay; what neither turns a station nor starts it asks for nothing else of them
-abbrev pub plain : Params
-plain = record { tsl = 0; tid1 = 0; tid2 = 0; tsdr = 0; lag = 0; ttr = 0; gap = 0; hsa = 0; retries = 0; ttd = at_once }
+-- parameters of a bus with a cable delay; what neither turns a station nor starts it asks for nothing else of them
+abbrev pub plain : ℕ → Params
+plain delay = record { tsl = 0; tid1 = 0; tid2 = 0; tsdr = 0; lag = 0; ttr = 0; gap = 0; hsa = 0; retries = 0; ttd = delay }
 
--- some entries and taps as a world of the model, at a moment
-abbrev pub air : ℕ → List trace.Entry → List Tap → model.World
-air now entries taps = record { params = plain; now = now; trace = entries; taps = map tap_of taps }
+-- some entries and taps as a world of the model, on a bus with a cable delay, at a moment
+abbrev pub air : ℕ → ℕ → List trace.Entry → List Tap → model.World
+air delay now entries taps = record { params = plain delay; now = now; trace = entries; taps = map tap_of taps }
 
--- some entries have ended by a moment that is not later than the clock, before all others began
-abbrev pub IsCut : ℕ → ℕ → List trace.Entry → Type 0
-IsCut now over entries = (m : ℕ) × (m ≤ now) × (over ≤ length entries) × AllOver m (take over entries) × AllFrom m (drop over entries)
+-- some entries have ended at all taps by a moment that is not later than the clock, before all others began
+abbrev pub IsCut : ℕ → ℕ → ℕ → List trace.Entry → Type 0
+IsCut delay now over entries = (m : ℕ) × (m ≤ now) × (over ≤ length entries) × AllOver delay m (take over entries) × AllFrom m (drop over entries)

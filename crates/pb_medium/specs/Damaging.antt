@@ -5,15 +5,14 @@ use Rattle.pb_model.specs.Trace.{Entry, Hit}
 use Rattle.pb_model.specs.World.{is_in_air_by}
 use Rattle.pb_taps.specs.declared.faults.WorldFault.{WorldFault}
 use Rattle.pb_taps.specs.declared.faults.WorldFault.TheVariants as fault
-use Rattle.pb_medium.specs.Senses.{at_once}
 
 -- another tap than the speaker is hit, at a place of a telegram of the speaker that is in the air
-abbrev pub can_hit : ℕ → ℕ → Hit → List Entry → Bool
-can_hit speaker now hit entries = not (hit.tap == speaker || not (has_place (find (is_in_air_by at_once now speaker) entries) hit.place))
+abbrev pub can_hit : (delay speaker now : ℕ) → Hit → List Entry → Bool
+can_hit delay speaker now hit entries = not (hit.tap == speaker || not (has_place (find (is_in_air_by delay now speaker) entries) hit.place))
 
 -- entries of which the first in the air is damaged
-abbrev pub damaged : ℕ → ℕ → Hit → List Entry → List Entry
-damaged speaker now hit entries = change_first (is_in_air_by at_once now speaker) (with_hit hit) entries
+abbrev pub damaged : (delay speaker now : ℕ) → Hit → List Entry → List Entry
+damaged delay speaker now hit entries = change_first (is_in_air_by delay now speaker) (with_hit hit) entries
 
 -- why nothing is hit
 abbrev pub RefusesHit : Bool → WorldFault → Type 0

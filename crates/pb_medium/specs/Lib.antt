@@ -7,4 +7,3 @@ pub mod Damaging
 pub mod Noising
 pub mod Losing
 pub mod Settling
-pub mod Changing

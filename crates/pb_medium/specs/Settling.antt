@@ -3,7 +3,6 @@ use Rattle.std.specs.Prelude.{ℕ, List, length, map, drop, is_some, if◌then�
 use Rattle.pb_model.specs.Trace.{Heard, Record, Entry, Sent, Noise}
 use Rattle.pb_model.specs.Medium.{Tap, entry_at, is_whole_at, heard_in_the_end}
 use Rattle.pb_model.specs.World.{next_end_of}
-use Rattle.pb_medium.specs.Senses.{at_once}
 
 -- what a telegram that has ended was to the tap at a position, if there is one
 abbrev pub heard_with : ℕ → List Entry → Record → ℕ → Option Tap → Heard → Heard
@@ -21,9 +20,9 @@ settled_as None e = e
 settled_as (Some hs) e = with_heard hs e
 
 -- entries after a pass from one moment to another
-abbrev pub settled : List Tap → ℕ → ℕ → List Entry → List Entry
-settled taps from to entries = map (entry_at at_once taps entries from to) entries
+abbrev pub settled : ℕ → List Tap → ℕ → ℕ → List Entry → List Entry
+settled delay taps from to entries = map (entry_at delay taps entries from to) entries
 
 -- how many entries are over: all of them, where none behind those that were over is in the air
-abbrev pub over_after : ℕ → ℕ → List Entry → ℕ
-over_after now over entries = if is_some (next_end_of at_once now (drop over entries)) then over else length entries
+abbrev pub over_after : ℕ → ℕ → ℕ → List Entry → ℕ
+over_after delay now over entries = if is_some (next_end_of delay now (drop over entries)) then over else length entries

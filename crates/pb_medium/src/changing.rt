@@ -1,32 +1,31 @@
-ghost use Rattle.std.specs.Prelude.{◌≡◌, map};
+ghost use Rattle.std.specs.Prelude.{◌≡◌, ◌+◌, map};
 ghost use Rattle.std.specs.List.{list_any};
-ghost use Rattle.pb_medium.specs.Changing.{begins, lasts};
+ghost use Rattle.std.specs.Option.{option_map};
 ghost use Rattle.pb_medium.specs.Entries.{entry_of};
+ghost use Rattle.pb_runs.specs.Bus.{is_in_air, next_known};
 
 use crate::entries::Entry;
 
-/// Whether something begins at a moment.
-pub fn something_begins(entries: &[Entry], now: u64) -> bool
-    ensures { result ≡ list_any (begins now) (map entry_of entries.now) }
+/// When something reaches the taps next, from a moment on. One bit time later a tap can know of it.
+pub fn next_begin(entries: &[Entry], delay: u32, now: u64) -> Option<u64>
+    ensures { option_map (λ begin. begin + 1) result ≡ next_known delay now (map entry_of entries.now) }
 {
-    entries.iter().any(|entry| begins(entry, now))
+    entries
+        .iter()
+        .map(|entry| entry.reaches_taps(delay).begin())
+        .filter(|begin| now <= *begin)
+        .min()
 }
 
 /// Whether something that began before a moment is in the air at it.
-pub fn something_lasts(entries: &[Entry], now: u64) -> bool
-    ensures { result ≡ list_any (lasts now) (map entry_of entries.now) }
+pub fn something_lasts(entries: &[Entry], delay: u32, now: u64) -> bool
+    ensures { result ≡ list_any (is_in_air delay now) (map entry_of entries.now) }
 {
-    entries.iter().any(|entry| lasts(entry, now))
+    entries.iter().any(|entry| lasts(entry, delay, now))
 }
 
-fn begins(entry: &Entry, now: u64) -> bool
-    ensures { result ≡ begins now (entry_of entry.now) }
+fn lasts(entry: &Entry, delay: u32, now: u64) -> bool
+    ensures { result ≡ is_in_air delay now (entry_of entry.now) }
 {
-    entry.begin() == now
-}
-
-fn lasts(entry: &Entry, now: u64) -> bool
-    ensures { result ≡ lasts now (entry_of entry.now) }
-{
-    entry.begin() < now && now < entry.end()
+    entry.begin() < now && now < entry.reaches_taps(delay).end()
 }

@@ -4,7 +4,6 @@ ghost use Rattle.pb_model.specs.Step.{change_first, with_hit};
 ghost use Rattle.pb_model.specs.World as world;
 ghost use Rattle.pb_medium.specs.Damaging.{can_hit, damaged, IsFirstPlace, RefusesHit, IsNoMemory};
 ghost use Rattle.pb_medium.specs.Entries.{entry_of, hit_of};
-ghost use Rattle.pb_medium.specs.Senses.{at_once};
 
 use crate::entries::{Entry, Hit};
 use crate::senses::is_in_air_by;
@@ -18,35 +17,41 @@ impl Trace {
     ghost use Rattle.pb_medium.specs.Entries.{hit_of};
     ghost use Rattle.pb_medium.specs.Traces.{recent_of, RecentBecomes, StaysAs};
 
-    /// Damages the first telegram of a speaker in the air, at another tap. Faults, the first that applies:
-    /// `NothingInAir`; `NoMemory`.
-    pub fn damage(&mut self, speaker: usize, now: Moment, hit: Hit) -> Result<(), WorldFault>
-        ensures ok { OnOk result (RecentBecomes (damaged speaker now (hit_of hit)) self.old self.new) }
-        ensures found { OnOk result (can_hit speaker now (hit_of hit) (recent_of self.old) ≡ true) }
+    /// Damages the first telegram of a speaker in the air, at another tap: the earliest that has not reached the
+    /// others. Faults, the first that applies: `NothingInAir`; `NoMemory`.
+    pub fn damage(&mut self, delay: u32, speaker: usize, now: Moment, hit: Hit) -> Result<(), WorldFault>
+        ensures ok { OnOk result (RecentBecomes (damaged delay speaker now (hit_of hit)) self.old self.new) }
+        ensures found { OnOk result (can_hit delay speaker now (hit_of hit) (recent_of self.old) ≡ true) }
         ensures err { OnErr result (StaysAs self.old self.new) }
-        ensures fault { IfErr result (RefusesHit (can_hit speaker now (hit_of hit) (recent_of self.old))) }
+        ensures fault { IfErr result (RefusesHit (can_hit delay speaker now (hit_of hit) (recent_of self.old))) }
     {
-        damage(&mut self.entries[self.over..], speaker, now, hit)
+        damage(&mut self.entries[self.over..], delay, speaker, now, hit)
     }
 
     /// Whether a telegram of a speaker is in the air that is hit so.
-    pub fn can_hit(&self, speaker: usize, now: Moment, hit: Hit) -> bool
-        ensures { result ≡ can_hit speaker now (hit_of hit) (recent_of self.entry.now) }
+    pub fn can_hit(&self, delay: u32, speaker: usize, now: Moment, hit: Hit) -> bool
+        ensures { result ≡ can_hit delay speaker now (hit_of hit) (recent_of self.entry.now) }
     {
-        target(self.recent(), speaker, now, hit).is_some()
+        target(self.recent(), delay, speaker, now, hit).is_some()
     }
 }
 
 /// Damages the first telegram of a speaker in the air, at another tap.
-fn damage(entries: &mut [Entry], speaker: usize, now: Moment, hit: Hit) -> Result<(), WorldFault>
+fn damage(
+    entries: &mut [Entry],
+    delay: u32,
+    speaker: usize,
+    now: Moment,
+    hit: Hit,
+) -> Result<(), WorldFault>
     ensures length { length entries.new ≡ length entries.old }
     ensures ok { OnOk result (map entry_of entries.new
-        ≡ damaged speaker now (hit_of hit) (map entry_of entries.old)) }
-    ensures found { OnOk result (can_hit speaker now (hit_of hit) (map entry_of entries.old) ≡ true) }
+        ≡ damaged delay speaker now (hit_of hit) (map entry_of entries.old)) }
+    ensures found { OnOk result (can_hit delay speaker now (hit_of hit) (map entry_of entries.old) ≡ true) }
     ensures err { OnErr result (map entry_of entries.new ≡ map entry_of entries.old) }
-    ensures fault { IfErr result (RefusesHit (can_hit speaker now (hit_of hit) (map entry_of entries.old))) }
+    ensures fault { IfErr result (RefusesHit (can_hit delay speaker now (hit_of hit) (map entry_of entries.old))) }
 {
-    match target(entries, speaker, now, hit) {
+    match target(entries, delay, speaker, now, hit) {
         Some(place) => {
             strike(&mut entries[place], hit)?;
             Ok(())
@@ -56,30 +61,30 @@ fn damage(entries: &mut [Entry], speaker: usize, now: Moment, hit: Hit) -> Resul
 }
 
 /// The telegram that is hit.
-fn target(entries: &[Entry], speaker: usize, now: Moment, hit: Hit) -> Option<usize>
-    ensures none { result ≡ None → can_hit speaker now (hit_of hit) (map entry_of entries.now) ≡ false }
-    ensures some { IfSome result (λ i. can_hit speaker now (hit_of hit) (map entry_of entries.now) ≡ true) }
+fn target(entries: &[Entry], delay: u32, speaker: usize, now: Moment, hit: Hit) -> Option<usize>
+    ensures none { result ≡ None → can_hit delay speaker now (hit_of hit) (map entry_of entries.now) ≡ false }
+    ensures some { IfSome result (λ i. can_hit delay speaker now (hit_of hit) (map entry_of entries.now) ≡ true) }
     ensures place { IfSome result
-        (IsFirstPlace (world.is_in_air_by at_once now speaker) (map entry_of entries.now)) }
+        (IsFirstPlace (world.is_in_air_by delay now speaker) (map entry_of entries.now)) }
 {
     if hit.tap == speaker {
         return None;
     }
-    let place = first_in_air(entries, speaker, now)?;
+    let place = first_in_air(entries, delay, speaker, now)?;
     if !has_place(&entries[place], hit.place) {
         return None;
     }
     Some(place)
 }
 
-fn first_in_air(entries: &[Entry], speaker: usize, now: Moment) -> Option<usize>
-    ensures none { result ≡ None → find (world.is_in_air_by at_once now speaker) (map entry_of entries.now)
+fn first_in_air(entries: &[Entry], delay: u32, speaker: usize, now: Moment) -> Option<usize>
+    ensures none { result ≡ None → find (world.is_in_air_by delay now speaker) (map entry_of entries.now)
         ≡ None }
     ensures place { IfSome result
-        (IsFirstPlace (world.is_in_air_by at_once now speaker) (map entry_of entries.now)) }
+        (IsFirstPlace (world.is_in_air_by delay now speaker) (map entry_of entries.now)) }
 {
     for (place, entry) in entries.iter().enumerate() {
-        if is_in_air_by(entry, speaker, now.get()) {
+        if is_in_air_by(entry, delay, speaker, now.get()) {
             return Some(place);
         }
     }

@@ -1,8 +1,5 @@
-ghost use Rattle.std.specs.Prelude.{◌≡◌, nat_lt, slice_get};
-ghost use Rattle.std.specs.List.{list_any};
-ghost use Rattle.pb_model.specs.Medium.{is_unheard};
-ghost use Rattle.pb_model.specs.Trace.{hits_place, entry_begin, entry_end, rank, goes_before};
-ghost use Rattle.pb_medium.specs.Entries.{entry_of, record_of};
+ghost use Rattle.std.specs.Prelude.{◌≤◌};
+ghost use Rattle.pb_timers.specs.Timers.{last_moment};
 
 use crate::spans::Span;
 use arrayvec::ArrayVec;
@@ -45,6 +42,8 @@ pub struct Record {
     pub heard: ArrayVec<Heard, 32>,
     /// Damage done to it so far.
     pub(crate) hits: Vec<Hit>,
+    ghost begins: { begin ≤ last_moment },
+    ghost ends: { end ≤ last_moment },
 }
 
 /// One entry of the trace.
@@ -62,11 +61,32 @@ pub enum Entry {
 }
 
 impl Record {
+    ghost use Rattle.std.specs.Prelude.{◌≡◌, slice_get};
+    ghost use Rattle.std.specs.List.{list_any};
+    ghost use Rattle.pb_model.specs.Medium.{is_unheard, reaches};
+    ghost use Rattle.pb_model.specs.Trace.{hits_place};
+    ghost use Rattle.pb_medium.specs.Entries.{record_of};
+
     /// When it is on the bus.
-    pub(crate) fn span(&self) -> Span
+    pub fn span(&self) -> Span
         ensures { result ≡ record { begin = self.now.begin; end = self.now.end } }
     {
         Span::new(self.begin, self.end)
+    }
+
+    /// When it is at the taps of others, which it reaches a cable delay later.
+    pub(crate) fn reaches(&self, delay: u32) -> Span
+        ensures { result ≡ reaches delay (record_of self.now) }
+    {
+        let delay = u64::from(delay);
+        Span::new(self.begin + delay, self.end + delay)
+    }
+
+    /// When it has ended at the taps of others.
+    pub(crate) fn reached_end(&self, delay: u32) -> u64
+        ensures { result ≡ (reaches delay (record_of self.now)).end }
+    {
+        self.end + u64::from(delay)
     }
 
     /// Whether it never comes to a tap.
@@ -86,6 +106,10 @@ impl Record {
 }
 
 impl Entry {
+    ghost use Rattle.std.specs.Prelude.{◌≡◌};
+    ghost use Rattle.pb_model.specs.Trace.{entry_end};
+    ghost use Rattle.pb_medium.specs.Entries.{entry_of};
+
     /// When it ends, in bit times.
     pub(crate) fn end(&self) -> u64
         ensures { result ≡ entry_end (entry_of self.now) }
@@ -98,13 +122,28 @@ impl Entry {
 }
 
 impl Entry {
+    ghost use Rattle.std.specs.Prelude.{◌≡◌, nat_lt};
+    ghost use Rattle.pb_model.specs.Trace.{entry_begin, rank, goes_before};
+    ghost use Rattle.pb_model.specs.Medium.{reaches_taps};
+    ghost use Rattle.pb_medium.specs.Entries.{entry_of};
+
     /// When it begins, in bit times.
-    pub(crate) fn begin(&self) -> u64
+    pub fn begin(&self) -> u64
         ensures { result ≡ entry_begin (entry_of self.now) }
     {
         match self {
             Entry::Sent(telegram) => telegram.begin,
             Entry::Noise { begin, .. } => *begin,
+        }
+    }
+
+    /// When it is at the taps of others: a telegram a cable delay later, noise at once.
+    pub fn reaches_taps(&self, delay: u32) -> Span
+        ensures { result ≡ reaches_taps delay (entry_of self.now) }
+    {
+        match self {
+            Entry::Sent(telegram) => telegram.reaches(delay),
+            Entry::Noise { begin, end } => Span::new(*begin, *end),
         }
     }
 

@@ -10,7 +10,7 @@ ghost use Rattle.pb_model.specs.World as world;
 ghost use Rattle.pb_model.specs.Step as step;
 ghost use Rattle.pb_model.specs.Trace as trace;
 ghost use Rattle.pb_medium.specs.Entries.{entry_of, record_of};
-ghost use Rattle.pb_medium.specs.Senses.{at_once, is_alone, is_undamaged};
+ghost use Rattle.pb_medium.specs.Senses.{begin_between, end_between, is_alone, is_undamaged};
 ghost use Rattle.pb_taps.specs.Taps.{tap_of};
 
 use crate::entries::{Entry, Record};
@@ -20,128 +20,218 @@ use pb_taps::Tap;
 use pb_telegram::RxChar;
 use pb_timers::CHARACTER_BITS;
 
-/// Whether a burst begins at a tap, which has sensed since a moment.
-pub fn burst_begins(entries: &[Entry], tap: usize, since: u64, moment: u64) -> bool
-    ensures { result ≡ model.burst_begins (sensed at_once tap since (map entry_of entries.now)) moment }
+/// When a burst begins at a tap, which has sensed since a moment, from one moment on and before another.
+pub fn begin_between(
+    entries: &[Entry],
+    delay: u32,
+    tap: usize,
+    since: u64,
+    from: u64,
+    to: u64,
+) -> Option<u64>
+    ensures { result ≡ begin_between (sensed delay tap since (map entry_of entries.now)) from to }
 {
-    begins_at(entries, tap, since, moment) && !lasts_through(entries, tap, since, moment)
+    let first = entries
+        .iter()
+        .filter_map(|entry| sensed(entry, delay, tap, since))
+        .find(|span| {
+            from <= span.begin()
+                && span.begin() < to
+                && burst_begins(entries, delay, tap, since, span.begin())
+        })?;
+    Some(first.begin())
 }
 
-/// Whether a burst ends at a tap, which has sensed since a moment.
-pub fn burst_ends(entries: &[Entry], tap: usize, since: u64, moment: u64) -> bool
-    ensures { result ≡ model.burst_ends (sensed at_once tap since (map entry_of entries.now)) moment }
+/// When a burst ends at a tap, which has sensed since a moment, after one moment, at another at the latest.
+pub fn end_between(
+    entries: &[Entry],
+    delay: u32,
+    tap: usize,
+    since: u64,
+    from: u64,
+    to: u64,
+) -> Option<u64>
+    ensures { result ≡ end_between (sensed delay tap since (map entry_of entries.now)) from to }
 {
-    ends_at(entries, tap, since, moment) && !lasts_through(entries, tap, since, moment)
+    let first = entries
+        .iter()
+        .filter_map(|entry| sensed(entry, delay, tap, since))
+        .find(|span| {
+            from < span.end()
+                && span.end() <= to
+                && burst_ends(entries, delay, tap, since, span.end())
+        })?;
+    Some(first.end())
 }
 
 /// Whether a telegram fills a burst of the tap at a position alone.
-pub(crate) fn fills_burst(entries: &[Entry], position: usize, tap: &Tap, telegram: &Record) -> bool
+pub(crate) fn fills_burst(
+    entries: &[Entry],
+    delay: u32,
+    position: usize,
+    tap: &Tap,
+    telegram: &Record,
+) -> bool
     ensures { result
-        ≡ model.fills_burst at_once position (tap_of tap.now) (map entry_of entries.now)
+        ≡ model.fills_burst delay position (tap_of tap.now) (map entry_of entries.now)
         (record_of telegram.now) }
 {
-    tap.hears_from(telegram.begin) && is_alone(entries, position, tap.since, telegram)
+    tap.hears_from(telegram.reaches(delay).begin())
+        && is_alone(entries, delay, position, tap.since, telegram)
 }
 
 /// The characters of the burst of a tap that ends at a moment.
 pub fn burst_characters(
     entries: &[Entry],
+    delay: u32,
     position: usize,
     tap: &Tap,
     moment: u64,
 ) -> ArrayVec<RxChar, 255>
     ensures { result.items
-        ≡ model.burst_characters at_once position (tap_of tap.now) (map entry_of entries.now) moment }
+        ≡ model.burst_characters delay position (tap_of tap.now) (map entry_of entries.now) moment }
 {
     let filling = entries.iter().find(|entry| fills_burst_to(
-        entries, position, tap, moment, entry,
+        entries, delay, position, tap, moment, entry,
     ));
     entry_characters(filling, position)
 }
 
 /// Whether a telegram of the entries came whole to the tap at a position.
-pub fn is_whole_at(entries: &[Entry], position: usize, tap: &Tap, telegram: &Record) -> bool
+pub fn is_whole_at(
+    entries: &[Entry],
+    delay: u32,
+    position: usize,
+    tap: &Tap,
+    telegram: &Record,
+) -> bool
     ensures { result
-        ≡ model.is_whole_at at_once position (tap_of tap.now) (map entry_of entries.now)
+        ≡ model.is_whole_at delay position (tap_of tap.now) (map entry_of entries.now)
         (record_of telegram.now) }
 {
     if !tap.running {
         return false;
     }
-    fills_burst(entries, position, tap, telegram) && is_undamaged_at(telegram, position)
+    fills_burst(entries, delay, position, tap, telegram) && is_undamaged_at(telegram, position)
 }
 
-/// The next end in the air.
-pub fn next_end(entries: &[Entry], now: u64) -> Option<u64>
-    ensures { result ≡ world.next_end_of at_once now (map entry_of entries.now) }
+/// The next end in the air, at a speaker or at the taps of others.
+pub fn next_end(entries: &[Entry], delay: u32, now: u64) -> Option<u64>
+    ensures { result ≡ world.next_end_of delay now (map entry_of entries.now) }
 {
     entries
         .iter()
-        .map(Entry::end)
-        .filter(|end| now < *end)
+        .filter_map(|entry| entry_next_end(entry, delay, now))
         .min()
 }
 
 /// Whether something is reaching a tap now.
-pub fn is_reached(entries: &[Entry], tap: usize, now: u64) -> bool
-    ensures { result ≡ list_any (step.reaches_now at_once tap now) (map entry_of entries.now) }
+pub fn is_reached(entries: &[Entry], delay: u32, tap: usize, now: u64) -> bool
+    ensures { result ≡ list_any (step.reaches_now delay tap now) (map entry_of entries.now) }
 {
-    entries.iter().any(|entry| at_tap(entry, tap).is_some_and(|span| span.contains(now)))
+    entries.iter().any(|entry| at_tap(entry, delay, tap).is_some_and(|span| span.contains(now)))
 }
 
-/// Whether an entry is a telegram of a speaker that is in the air.
-pub fn is_in_air_by(entry: &Entry, speaker: usize, now: u64) -> bool
-    ensures { result ≡ world.is_in_air_by at_once now speaker (entry_of entry.now) }
+/// Whether an entry is a telegram of a speaker that is in the air: it has not reached the others yet.
+pub fn is_in_air_by(entry: &Entry, delay: u32, speaker: usize, now: u64) -> bool
+    ensures { result ≡ world.is_in_air_by delay now speaker (entry_of entry.now) }
 {
-    matches!(entry, Entry::Sent(telegram) if telegram.tap == speaker && now < telegram.end)
+    matches!(entry, Entry::Sent(telegram) if telegram.tap == speaker && now < telegram.reached_end(delay))
 }
 
-fn begins_at(entries: &[Entry], tap: usize, since: u64, moment: u64) -> bool
-    ensures { result ≡ list_any (begins_at moment) (sensed at_once tap since (map entry_of entries.now)) }
+/// The next end of an entry, which a telegram has at its speaker before it has it at the taps of others.
+fn entry_next_end(entry: &Entry, delay: u32, now: u64) -> Option<u64>
+    ensures { result ≡ world.entry_next_end delay now (entry_of entry.now) }
+{
+    match entry {
+        Entry::Noise { end, .. } => later_end(now, *end),
+        Entry::Sent(telegram) if now < telegram.end => Some(telegram.end),
+        Entry::Sent(telegram) => later_end(now, telegram.reached_end(delay)),
+    }
+}
+
+/// An end that lies after a moment.
+fn later_end(now: u64, end: u64) -> Option<u64>
+    ensures { result ≡ world.later_end now end }
+{
+    (now < end).then_some(end)
+}
+
+/// Whether a burst begins at a tap, which has sensed since a moment.
+fn burst_begins(entries: &[Entry], delay: u32, tap: usize, since: u64, moment: u64) -> bool
+    ensures { result ≡ model.burst_begins (sensed delay tap since (map entry_of entries.now)) moment }
+{
+    begins_at(entries, delay, tap, since, moment)
+        && !lasts_through(entries, delay, tap, since, moment)
+}
+
+/// Whether a burst ends at a tap, which has sensed since a moment.
+fn burst_ends(entries: &[Entry], delay: u32, tap: usize, since: u64, moment: u64) -> bool
+    ensures { result ≡ model.burst_ends (sensed delay tap since (map entry_of entries.now)) moment }
+{
+    ends_at(entries, delay, tap, since, moment)
+        && !lasts_through(entries, delay, tap, since, moment)
+}
+
+fn begins_at(entries: &[Entry], delay: u32, tap: usize, since: u64, moment: u64) -> bool
+    ensures { result ≡ list_any (begins_at moment) (sensed delay tap since (map entry_of entries.now)) }
 {
     entries
         .iter()
-        .filter_map(|entry| sensed(entry, tap, since))
+        .filter_map(|entry| sensed(entry, delay, tap, since))
         .any(|span| span.begin() == moment)
 }
 
-fn lasts_through(entries: &[Entry], tap: usize, since: u64, moment: u64) -> bool
-    ensures { result ≡ list_any (lasts_through moment) (sensed at_once tap since (map entry_of entries.now)) }
+fn lasts_through(entries: &[Entry], delay: u32, tap: usize, since: u64, moment: u64) -> bool
+    ensures { result ≡ list_any (lasts_through moment) (sensed delay tap since (map entry_of entries.now)) }
 {
     entries
         .iter()
-        .filter_map(|entry| sensed(entry, tap, since))
+        .filter_map(|entry| sensed(entry, delay, tap, since))
         .any(|span| span.lasts_through(moment))
 }
 
-fn ends_at(entries: &[Entry], tap: usize, since: u64, moment: u64) -> bool
-    ensures { result ≡ list_any (ends_at moment) (sensed at_once tap since (map entry_of entries.now)) }
+fn ends_at(entries: &[Entry], delay: u32, tap: usize, since: u64, moment: u64) -> bool
+    ensures { result ≡ list_any (ends_at moment) (sensed delay tap since (map entry_of entries.now)) }
 {
     entries
         .iter()
-        .filter_map(|entry| sensed(entry, tap, since))
+        .filter_map(|entry| sensed(entry, delay, tap, since))
         .any(|span| span.end() == moment)
 }
 
 /// Whether a telegram comes to the tap at a position with nothing else, while that tap sends nothing.
-fn is_alone(entries: &[Entry], position: usize, since: u64, telegram: &Record) -> bool
-    ensures { result ≡ is_alone position since (map entry_of entries.now) (record_of telegram.now) }
+fn is_alone(
+    entries: &[Entry],
+    delay: u32,
+    position: usize,
+    since: u64,
+    telegram: &Record,
+) -> bool
+    ensures { result ≡ is_alone delay position since (map entry_of entries.now) (record_of telegram.now) }
 {
-    let span = telegram.span();
+    let span = telegram.reaches(delay);
     !(telegram.tap == position || telegram.is_unheard(position))
-        && count_overlapping(entries, position, since, span) == 1
+        && count_overlapping(entries, delay, position, since, span) == 1
         && !sends_in(entries, position, span)
 }
 
-/// Whether an entry is a telegram that ends at a moment and fills a burst alone.
-fn fills_burst_to(entries: &[Entry], position: usize, tap: &Tap, moment: u64, entry: &Entry) -> bool
-    ensures { result ≡ model.fills_burst_to at_once position (tap_of tap.now) (map entry_of entries.now)
+/// Whether an entry is a telegram whose end reaches the taps at a moment, and that fills a burst alone.
+fn fills_burst_to(
+    entries: &[Entry],
+    delay: u32,
+    position: usize,
+    tap: &Tap,
+    moment: u64,
+    entry: &Entry,
+) -> bool
+    ensures { result ≡ model.fills_burst_to delay position (tap_of tap.now) (map entry_of entries.now)
         moment (entry_of entry.now) }
 {
     match entry {
         Entry::Noise { .. } => false,
-        Entry::Sent(telegram) => telegram.end == moment
-            && fills_burst(entries, position, tap, telegram),
+        Entry::Sent(telegram) => telegram.reached_end(delay) == moment
+            && fills_burst(entries, delay, position, tap, telegram),
     }
 }
 
@@ -169,30 +259,36 @@ fn is_undamaged_at(telegram: &Record, position: usize) -> bool
 }
 
 /// An entry at a tap: noise, and what other taps send, save what is unheard there.
-fn at_tap(entry: &Entry, tap: usize) -> Option<Span>
-    ensures { result ≡ at_tap at_once tap (entry_of entry.now) }
+fn at_tap(entry: &Entry, delay: u32, tap: usize) -> Option<Span>
+    ensures { result ≡ at_tap delay tap (entry_of entry.now) }
 {
     match entry {
         Entry::Noise { begin, end } => Some(Span::new(*begin, *end)),
         Entry::Sent(telegram) if telegram.tap == tap || telegram.is_unheard(tap) => None,
-        Entry::Sent(telegram) => Some(telegram.span()),
+        Entry::Sent(telegram) => Some(telegram.reaches(delay)),
     }
 }
 
 /// What of an entry a tap has sensed since a moment.
-fn sensed(entry: &Entry, tap: usize, since: u64) -> Option<Span>
-    ensures { result ≡ option_and_then (part_after since) (at_tap at_once tap (entry_of entry.now)) }
+fn sensed(entry: &Entry, delay: u32, tap: usize, since: u64) -> Option<Span>
+    ensures { result ≡ option_and_then (part_after since) (at_tap delay tap (entry_of entry.now)) }
 {
-    at_tap(entry, tap).and_then(|span| span.part_after(since))
+    at_tap(entry, delay, tap).and_then(|span| span.part_after(since))
 }
 
 /// How many stretches that a tap has sensed overlap a stretch.
-fn count_overlapping(entries: &[Entry], tap: usize, since: u64, span: Span) -> usize
-    ensures { result ≡ count_by (overlaps span) (sensed at_once tap since (map entry_of entries.now)) }
+fn count_overlapping(
+    entries: &[Entry],
+    delay: u32,
+    tap: usize,
+    since: u64,
+    span: Span,
+) -> usize
+    ensures { result ≡ count_by (overlaps span) (sensed delay tap since (map entry_of entries.now)) }
 {
     entries
         .iter()
-        .filter_map(|entry| sensed(entry, tap, since))
+        .filter_map(|entry| sensed(entry, delay, tap, since))
         .filter(|other| span.overlaps(*other))
         .count()
 }

@@ -1,8 +1,7 @@
 ghost use Rattle.std.specs.Prelude.{◌≡◌, length, map, slice_get};
 ghost use Rattle.std.specs.Option.{option_map};
-ghost use Rattle.pb_model.specs.Medium.{entry_at, heard_by};
+ghost use Rattle.pb_model.specs.Medium.{ends_between, entry_at, heard_by, reaches};
 ghost use Rattle.pb_medium.specs.Entries.{entry_of, heard_of, record_of};
-ghost use Rattle.pb_medium.specs.Senses.{at_once};
 ghost use Rattle.pb_medium.specs.Settling.{heard_with, settled, settled_as};
 ghost use Rattle.pb_taps.specs.Taps.{tap_of};
 
@@ -22,34 +21,34 @@ impl Trace {
     ghost use Rattle.pb_taps.specs.Taps.{tap_of};
 
     /// Time has passed: telegrams that have reached the taps in the meantime are no longer pending.
-    pub fn settle(&mut self, taps: &[Tap], from: Moment, to: Moment)
-        ensures { RecentBecomes (settled (map tap_of taps.now) from to) self.old self.new }
+    pub fn settle(&mut self, delay: u32, taps: &[Tap], from: Moment, to: Moment)
+        ensures { RecentBecomes (settled delay (map tap_of taps.now) from to) self.old self.new }
     {
-        settle(&mut self.entries[self.over..], taps, from, to);
+        settle(&mut self.entries[self.over..], delay, taps, from, to);
     }
 
     /// All entries are over, where nothing is in the air.
-    pub fn close(&mut self, now: Moment)
+    pub fn close(&mut self, delay: u32, now: Moment)
         ensures entries { entries_of self.new ≡ entries_of self.old }
-        ensures over { over_of self.new ≡ over_after now (over_of self.old) (entries_of self.old) }
-        ensures cut { (before : ℕ) → before ≤ now → IsCut before (over_of self.old) (entries_of self.old)
-            → AllBegun now (entries_of self.old) → IsCut now (over_of self.new) (entries_of self.new) }
+        ensures over { over_of self.new ≡ over_after delay now (over_of self.old) (entries_of self.old) }
+        ensures cut { (before : ℕ) → before ≤ now → IsCut delay before (over_of self.old) (entries_of self.old)
+            → AllBegun now (entries_of self.old) → IsCut delay now (over_of self.new) (entries_of self.new) }
     {
-        if next_end(self.recent(), now.get()).is_none() {
+        if next_end(self.recent(), delay, now.get()).is_none() {
             self.over = self.entries.len();
         }
     }
 }
 
 /// Telegrams that have reached the taps in the meantime are no longer pending.
-fn settle(entries: &mut [Entry], taps: &[Tap], from: Moment, to: Moment)
+fn settle(entries: &mut [Entry], delay: u32, taps: &[Tap], from: Moment, to: Moment)
     ensures length { length entries.new ≡ length entries.old }
     ensures settled { map entry_of entries.new
-        ≡ settled (map tap_of taps.now) from to (map entry_of entries.old) }
+        ≡ settled delay (map tap_of taps.now) from to (map entry_of entries.old) }
 {
     for place in 0..entries.len() {
         let known = &entries[..];
-        let heard = outcome(known, &known[place], taps, from, to);
+        let heard = outcome(known, delay, &known[place], taps, from, to);
         settle_entry(&mut entries[place], heard);
     }
 }
@@ -67,31 +66,45 @@ fn settle_entry(entry: &mut Entry, heard: Option<ArrayVec<Heard, 32>>)
 /// What a telegram of the entries was to each tap, if it has reached them in the meantime.
 fn outcome(
     entries: &[Entry],
+    delay: u32,
     entry: &Entry,
     taps: &[Tap],
     from: Moment,
     to: Moment,
 ) -> Option<ArrayVec<Heard, 32>>
     ensures { settled_as (option_map (λ heard. map heard_of heard.items) result) (entry_of entry.now)
-        ≡ entry_at at_once (map tap_of taps.now) (map entry_of entries.now) from to (entry_of entry.now) }
+        ≡ entry_at delay (map tap_of taps.now) (map entry_of entries.now) from to (entry_of entry.now) }
 {
     match entry {
-        Entry::Sent(telegram) if from.get() < telegram.end && telegram.end <= to.get() => {
-            Some(heard_in_the_end(entries, telegram, taps))
+        Entry::Sent(telegram) if is_reached_between(telegram, delay, from, to) => {
+            Some(heard_in_the_end(entries, delay, telegram, taps))
         }
         _ => None,
     }
 }
 
+/// Whether the end of a telegram reaches the taps after a moment, at another at the latest.
+fn is_reached_between(telegram: &Record, delay: u32, from: Moment, to: Moment) -> bool
+    ensures { result ≡ ends_between from to (reaches delay (record_of telegram.now)) }
+{
+    let end = telegram.reached_end(delay);
+    from.get() < end && end <= to.get()
+}
+
 /// What a telegram of the entries was to each tap, once it has ended.
-fn heard_in_the_end(entries: &[Entry], telegram: &Record, taps: &[Tap]) -> ArrayVec<Heard, 32>
+fn heard_in_the_end(
+    entries: &[Entry],
+    delay: u32,
+    telegram: &Record,
+    taps: &[Tap],
+) -> ArrayVec<Heard, 32>
     ensures { map heard_of result.items
-        ≡ heard_by at_once (map entry_of entries.now) (record_of telegram.now) 0
+        ≡ heard_by delay (map entry_of entries.now) (record_of telegram.now) 0
         (map tap_of taps.now) (record_of telegram.now).heard }
 {
     let mut heard = ArrayVec::new();
     for (position, before) in telegram.heard.iter().enumerate() {
-        heard.push(heard_at(entries, telegram, taps, position, *before));
+        heard.push(heard_at(entries, delay, telegram, taps, position, *before));
     }
     heard
 }
@@ -99,20 +112,21 @@ fn heard_in_the_end(entries: &[Entry], telegram: &Record, taps: &[Tap]) -> Array
 /// What a telegram of the entries was to the tap at a position, if there is one, once it has ended.
 fn heard_at(
     entries: &[Entry],
+    delay: u32,
     telegram: &Record,
     taps: &[Tap],
     position: usize,
     before: Heard,
 ) -> Heard
     ensures { heard_of result
-        ≡ heard_with at_once (map entry_of entries.now) (record_of telegram.now) position
+        ≡ heard_with delay (map entry_of entries.now) (record_of telegram.now) position
         (slice_get (map tap_of taps.now) position) (heard_of before) }
 {
     let Some(tap) = taps.get(position) else {
         return before;
     };
     match before {
-        Heard::Pending if is_whole_at(entries, position, tap, telegram) => Heard::Whole,
+        Heard::Pending if is_whole_at(entries, delay, position, tap, telegram) => Heard::Whole,
         Heard::Pending => Heard::Damaged,
         settled => settled,
     }

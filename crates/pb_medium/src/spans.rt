@@ -2,7 +2,7 @@ use std::marker::Model;
 
 /// A stretch of time, in bit times: `begin` is in it, `end` is not.
 #[derive(Clone, Copy, Debug)]
-pub(crate) struct Span {
+pub struct Span {
     begin: u64,
     end: u64,
 }
@@ -29,13 +29,15 @@ impl Span {
         Span { begin, end }
     }
 
-    pub(crate) fn begin(self) -> u64
+    /// When it begins.
+    pub fn begin(self) -> u64
         ensures { result ≡ self.begin }
     {
         self.begin
     }
 
-    pub(crate) fn end(self) -> u64
+    /// When it ends.
+    pub fn end(self) -> u64
         ensures { result ≡ self.end }
     {
         self.end

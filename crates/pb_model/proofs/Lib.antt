@@ -1,4 +1,5 @@
 pub mod Cases
+pub mod Window
 pub mod Bursts
 pub mod Sensed
 pub mod Marked

@@ -9,8 +9,8 @@ use Rattle.pb_model.specs.Medium.{Tap, sensed, marks_between, new_marks, entry_a
 use Rattle.pb_model.specs.World.{World, Reply}
 use Rattle.pb_model.specs.Step.{told, pass_faults, step_pass}
 use Rattle.pb_model.specs.Laws.{is_open, IsSound, PassTells}
-use Rattle.pb_model.proofs.Bursts.{alternates-spans, marks_between-exact, begins-none, ends-none}
-use Rattle.pb_model.proofs.Sensed.{ready-sensed}
+use Rattle.pb_model.proofs.Bursts.{alternates-spans, marks_between-exact, begin_in, begins-in, one-begins, begins-none, ends-none}
+use Rattle.pb_model.proofs.Sensed.{solid-sensed, soon-sensed}
 use Rattle.pb_model.proofs.Worlds.{unless-Ok, started-at}
 
 -- a tap that was there has its new marks behind those it had
@@ -38,15 +38,19 @@ pass_tells w next reply d i t sound ok here running =
     let some : d ≡ 0 → ⊥ = eqb-false d 0 both.0.0 in
     let later : w.now < to = grind (arith, some) in
     let spans = sensed w.params.ttd i t.since w.trace in
-    let ready = ready-sensed w.params.ttd i w.now to t.since w.trace sound.no_delay (started-at w.now w.taps i t sound.in_order here) sound.begun both.0.1.0 in
+    let solid = solid-sensed w.params.ttd i w.now to t.since w.trace sound.begun both.0.1.0 in
+    let soon = soon-sensed w.params.ttd i w.now t.since w.trace (started-at w.now w.taps i t sound.in_order here) sound.begun in
     let runs : new_marks w.params.ttd i t w.trace w.now to ≡ marks_between w.params.ttd i t w.trace w.now to =
     ap (λ (b : Bool). if b then marks_between w.params.ttd i t w.trace w.now to else []) running in
-    let exact = marks_between-exact w.params.ttd i t w.trace w.now to later ready in
+    let exact = marks_between-exact w.params.ttd i t w.trace w.now to later solid in
     subst (λ (x : World). PassTells w x i t) same (record {
+      begin = begin_in spans w.now to;
+      begins = begins-in w.now to spans solid;
+      no_other = one-begins w.now to spans solid;
       delivered = told-at w.params.ttd w.trace w.now to 0 w.taps i t here
           ∙ ap (λ (n : ℕ). Some (record t { marks = t.marks ++ new_marks w.params.ttd n t w.trace w.now to })) (let z : 0 + i ≡ i = omega arith in z)
           ∙ ap (λ (ms : List Mark). Some (record t { marks = t.marks ++ ms })) (runs ∙ exact);
-      begins_none = begins-none w.now to spans ready;
-      ends_none = ends-none w.now to spans ready;
-      alternate = subst (λ (ms : List Mark). Alternates (is_open spans w.now) ms (is_open spans to)) exact (alternates-spans w.params.ttd i t w.trace w.now to spans later ready);
+      none_later = begins-none (w.now + w.params.ttd) spans soon;
+      ends_none = ends-none w.now to spans solid;
+      alternate = subst (λ (ms : List Mark). Alternates (is_open spans w.now) ms (is_open spans to)) exact (alternates-spans w.params.ttd i t w.trace w.now to spans later solid);
     })

@@ -11,12 +11,17 @@ use Rattle.std.proofs.lemmas.Bool.Decides.{nat_tests}
 use Rattle.pb_telegram.specs.Faults.{is_bad}
 use Rattle.pb_turn.specs.Spans.{Span}
 use Rattle.pb_turn.specs.Marks.{Mark, End}
-use Rattle.pb_model.specs.Trace.{Heard, Record, Entry, Sent, Noise, characters_at}
-use Rattle.pb_model.specs.Medium.{Tap, begins_at, ends_at, lasts_through, overlaps, part_after, reaches, is_unheard, at_tap, sensed, burst_begins, burst_ends, hears_from, sends_during, fills_burst, fills_burst_to, entry_characters, begins_in, ends_in, begin_mark, end_mark, marks_between, is_whole_at, heard_in_the_end, heard_by, ends_between, entry_at}
+use Rattle.pb_model.specs.Trace.{Heard, Record, Entry, Sent, Noise, entry_end, characters_at}
+use Rattle.pb_model.specs.Medium.{Tap, begins_at, ends_at, lasts_through, overlaps, part_after, reaches, reaches_taps, is_unheard, at_tap, sensed, burst_begins, burst_ends, hears_from, sends_during, fills_burst, fills_burst_to, entry_characters, begins_in, ends_in, begin_mark, end_mark, marks_between, is_whole_at, heard_in_the_end, heard_by, ends_between, entry_at}
 use Rattle.pb_turn.specs.Stations.{earlier}
 use Rattle.pb_model.specs.World.{later_end, next_end_of}
 use Rattle.pb_model.specs.Laws.{AllOver, AllFrom}
 use Rattle.pb_model.proofs.Cases.{by_test}
+
+-- what has ended at all taps has ended at its speaker
+pub ended-by : (delay m : ℕ) (e : Entry) → (reaches_taps delay e).end ≤ m → entry_end e ≤ m
+ended-by delay m (Noise span) over = over
+ended-by delay m (Sent r) over = omega (arith, over)
 
 -- ---- lists whose front fails a test
 
@@ -56,14 +61,14 @@ ended-part_after m since span rest some over ended =
     by_test (λ (o : Option Span). AllEnded m (cons_option o rest)) (nat_lt since span.end) (Some (record { begin = max span.begin since; end = span.end })) None
     (λ after. (omega (arith, ltb-true since span.end after), over, ended)) (λ _. ended)
 
-ended-sensed : (delay : ℕ) (tap since m : ℕ) (old : List Entry) → delay ≡ 0 → AllOver m old → AllEnded m (sensed delay tap since old)
-ended-sensed delay tap since m [] none over = tt
-ended-sensed delay tap since m (Noise span ∷ es) none over = ended-part_after m since span (sensed delay tap since es) over.0 over.1 (ended-sensed delay tap since m es none over.2)
-ended-sensed delay tap since m (Sent r ∷ es) none over =
+ended-sensed : (delay : ℕ) (tap since m : ℕ) (old : List Entry) → AllOver delay m old → AllEnded m (sensed delay tap since old)
+ended-sensed delay tap since m [] over = tt
+ended-sensed delay tap since m (Noise span ∷ es) over = ended-part_after m since span (sensed delay tap since es) over.0 over.1 (ended-sensed delay tap since m es over.2)
+ended-sensed delay tap since m (Sent r ∷ es) over =
     by_test (λ (o : Option Span). AllEnded m (cons_option (option_and_then (part_after since) o) (sensed delay tap since es)))
     (r.tap == tap || is_unheard (slice_get r.heard tap)) None (Some (reaches delay r))
-    (λ _. ended-sensed delay tap since m es none over.2)
-    (λ _. ended-part_after m since (reaches delay r) (sensed delay tap since es) (omega (arith, none, over.0)) (omega (arith, none, over.1)) (ended-sensed delay tap since m es none over.2))
+    (λ _. ended-sensed delay tap since m es over.2)
+    (λ _. ended-part_after m since (reaches delay r) (sensed delay tap since es) (omega (arith, over.0)) (omega (arith, over.1)) (ended-sensed delay tap since m es over.2))
 
 sensed-append : (delay : ℕ) (tap since : ℕ) (old recent : List Entry) → sensed delay tap since (old ++ recent) ≡ sensed delay tap since old ++ sensed delay tap since recent
 sensed-append delay tap since old recent = filter_map-append (λ e. option_and_then (part_after since) (at_tap delay tap e)) old recent
@@ -117,7 +122,7 @@ find_end-skip m t u xs ys ended later =
     ∙ find-skip m (ends_in ys t u) (λ x some over. not_ended_before t u (burst_ends ys) x.end m over later) xs ys ended
 
 -- what a search finds passes the test
-passes_found : {X : Type 0} (test : X → Bool) (xs : List X) (x : X) → find test xs ≡ Some x → test x ≡ true
+pub passes_found : {X : Type 0} (test : X → Bool) (xs : List X) (x : X) → find test xs ≡ Some x → test x ≡ true
 passes_found {X} test [] x = λ e. absurd cc
 passes_found {X} test (y ∷ xs) x =
     by_test (λ (o : Option X). o ≡ Some x → test x ≡ true) (test y) (Some y) (find test xs)
@@ -125,7 +130,7 @@ passes_found {X} test (y ∷ xs) x =
 
 -- ---- telegrams
 
-sends-skip : (delay : ℕ) (tap m : ℕ) (span : Span) (old recent : List Entry) → AllOver m old → m ≤ span.begin
+sends-skip : (delay : ℕ) (tap m : ℕ) (span : Span) (old recent : List Entry) → AllOver delay m old → m ≤ span.begin
     → list_any (sends_during tap span) (old ++ recent) ≡ list_any (sends_during tap span) recent
 sends-skip delay tap m span [] recent over later = refl
 sends-skip delay tap m span (Noise n ∷ old) recent over later = sends-skip delay tap m span old recent over.2 later
@@ -141,116 +146,116 @@ not_overlapping : (span x : Span) → x.end ≤ span.begin → overlaps span x �
 not_overlapping span x before = grind (arith, nat_tests)
 
 -- a telegram that began later fills a burst as if the past had not been
-fills_burst-skip : (delay : ℕ) (tap m : ℕ) (t : Tap) (old recent : List Entry) (r : Record) → delay ≡ 0 → AllOver m old → m ≤ r.begin
+fills_burst-skip : (delay : ℕ) (tap m : ℕ) (t : Tap) (old recent : List Entry) (r : Record) → AllOver delay m old → m ≤ r.begin
     → fills_burst delay tap t (old ++ recent) r ≡ fills_burst delay tap t recent r
-fills_burst-skip delay tap m t old recent r none over later =
+fills_burst-skip delay tap m t old recent r over later =
     let span = reaches delay r in
     let heard : Bool = not (r.tap == tap || is_unheard (slice_get r.heard tap)) && hears_from t span.begin in
     let from : m ≤ span.begin = omega arith in
     let counted : count_by (overlaps span) (sensed delay tap t.since (old ++ recent)) ≡ count_by (overlaps span) (sensed delay tap t.since recent) =
     ap (count_by (overlaps span)) (sensed-append delay tap t.since old recent)
     ∙ count-skip m (overlaps span) (λ x some ended. not_overlapping span x (omega (arith, from))) (sensed delay tap t.since old) (sensed delay tap t.since recent)
-    (ended-sensed delay tap t.since m old none over) in
+    (ended-sensed delay tap t.since m old over) in
     ap (λ (n : ℕ). (heard && n == 1) && not (list_any (sends_during tap span) (old ++ recent))) counted
     ∙ ap (λ (b : Bool). (heard && count_by (overlaps span) (sensed delay tap t.since recent) == 1) && not b) (sends-skip delay tap m span old recent over from)
 
-find_recent-skip : (delay : ℕ) (tap m e : ℕ) (t : Tap) (old recent es : List Entry) → delay ≡ 0 → AllOver m old → AllFrom m es
+find_recent-skip : (delay : ℕ) (tap m e : ℕ) (t : Tap) (old recent es : List Entry) → AllOver delay m old → AllFrom m es
     → find (fills_burst_to delay tap t (old ++ recent) e) es ≡ find (fills_burst_to delay tap t recent e) es
-find_recent-skip delay tap m e t old recent [] none over from = refl
-find_recent-skip delay tap m e t old recent (Noise n ∷ es) none over from = find_recent-skip delay tap m e t old recent es none over from.1
-find_recent-skip delay tap m e t old recent (Sent r ∷ es) none over from =
+find_recent-skip delay tap m e t old recent [] over from = refl
+find_recent-skip delay tap m e t old recent (Noise n ∷ es) over from = find_recent-skip delay tap m e t old recent es over from.1
+find_recent-skip delay tap m e t old recent (Sent r ∷ es) over from =
     ap (λ (b : Bool). cond ((reaches delay r).end == e && b) (Some (Sent r)) (find (fills_burst_to delay tap t (old ++ recent) e) es))
-    (fills_burst-skip delay tap m t old recent r none over from.0)
+    (fills_burst-skip delay tap m t old recent r over from.0)
     ∙ ap (λ (o : Option Entry). cond ((reaches delay r).end == e && fills_burst delay tap t recent r) (Some (Sent r)) o)
-    (find_recent-skip delay tap m e t old recent es none over from.1)
+    (find_recent-skip delay tap m e t old recent es over from.1)
 
-find_filled-skip : (delay : ℕ) (tap m e : ℕ) (t : Tap) (old past recent : List Entry) → delay ≡ 0 → AllOver m old → AllOver m past → AllFrom m recent → m < e
+find_filled-skip : (delay : ℕ) (tap m e : ℕ) (t : Tap) (old past recent : List Entry) → AllOver delay m old → AllOver delay m past → AllFrom m recent → m < e
     → find (fills_burst_to delay tap t (old ++ recent) e) (past ++ recent) ≡ find (fills_burst_to delay tap t recent e) recent
-find_filled-skip delay tap m e t old [] recent none over past from later = find_recent-skip delay tap m e t old recent recent none over from
-find_filled-skip delay tap m e t old (Noise n ∷ es) recent none over past from later = find_filled-skip delay tap m e t old es recent none over past.2 from later
-find_filled-skip delay tap m e t old (Sent r ∷ es) recent none over past from later =
+find_filled-skip delay tap m e t old [] recent over past from later = find_recent-skip delay tap m e t old recent recent over from
+find_filled-skip delay tap m e t old (Noise n ∷ es) recent over past from later = find_filled-skip delay tap m e t old es recent over past.2 from later
+find_filled-skip delay tap m e t old (Sent r ∷ es) recent over past from later =
     ap (λ (b : Bool). cond (b && fills_burst delay tap t (old ++ recent) r) (Some (Sent r)) (find (fills_burst_to delay tap t (old ++ recent) e) (es ++ recent)))
     (ne_eqb (reaches delay r).end e (λ (same : (reaches delay r).end ≡ e). omega (arith, past.1)))
-    ∙ find_filled-skip delay tap m e t old es recent none over past.2 from later
+    ∙ find_filled-skip delay tap m e t old es recent over past.2 from later
 
 -- ---- marks
 
-end_mark-skip : (delay : ℕ) (tap m from to : ℕ) (t : Tap) (old recent : List Entry) (spans : List Span) → delay ≡ 0 → AllOver m old → AllFrom m recent → m ≤ from
+end_mark-skip : (delay : ℕ) (tap m from to : ℕ) (t : Tap) (old recent : List Entry) (spans : List Span) → AllOver delay m old → AllFrom m recent → m ≤ from
     → (o : Option Span) → find (ends_in spans from to) spans ≡ o → end_mark delay tap t (old ++ recent) to o ≡ end_mark delay tap t recent to o
-end_mark-skip delay tap m from to t old recent spans none over begun later None found = refl
-end_mark-skip delay tap m from to t old recent spans none over begun later (Some x) found =
+end_mark-skip delay tap m from to t old recent spans over begun later None found = refl
+end_mark-skip delay tap m from to t old recent spans over begun later (Some x) found =
     let ends = passes_found (ends_in spans from to) spans x found in
     let both = and_parts (nat_lt from x.end && nat_le x.end to) (burst_ends spans x.end) ends in
     let window = and_parts (nat_lt from x.end) (nat_le x.end to) both.0 in
     ap (λ (e : Option Entry). End x.end to (entry_characters tap e) ∷ [])
-    (find_filled-skip delay tap m x.end t old old recent none over over begun (omega (arith, ltb-true from x.end window.0)))
+    (find_filled-skip delay tap m x.end t old old recent over over begun (omega (arith, ltb-true from x.end window.0)))
 
 -- what has ended before everything recent began, and before the clock, makes no mark and damages none
-pub marks_between-skip : (delay : ℕ) (tap m from to : ℕ) (t : Tap) (old recent : List Entry) → delay ≡ 0 → AllOver m old → AllFrom m recent → m ≤ from
+pub marks_between-skip : (delay : ℕ) (tap m from to : ℕ) (t : Tap) (old recent : List Entry) → AllOver delay m old → AllFrom m recent → m ≤ from
     → marks_between delay tap t (old ++ recent) from to ≡ marks_between delay tap t recent from to
-marks_between-skip delay tap m from to t old recent none over begun later =
+marks_between-skip delay tap m from to t old recent over begun later =
     let xs = sensed delay tap t.since old in
     let ys = sensed delay tap t.since recent in
-    let ended = ended-sensed delay tap t.since m old none over in
+    let ended = ended-sensed delay tap t.since m old over in
     ap (λ (spans : List Span). begin_mark to (find (begins_in spans from to) spans) ++ end_mark delay tap t (old ++ recent) to (find (ends_in spans from to) spans))
     (sensed-append delay tap t.since old recent)
     ∙ ap (λ (o : Option Span). begin_mark to o ++ end_mark delay tap t (old ++ recent) to (find (ends_in (xs ++ ys) from to) (xs ++ ys))) (find_begin-skip m from to xs ys ended later)
     ∙ ap (λ (o : Option Span). begin_mark to (find (begins_in ys from to) ys) ++ end_mark delay tap t (old ++ recent) to o) (find_end-skip m from to xs ys ended later)
     ∙ ap (λ (ms : List Mark). begin_mark to (find (begins_in ys from to) ys) ++ ms)
-    (end_mark-skip delay tap m from to t old recent ys none over begun later (find (ends_in ys from to) ys) refl)
+    (end_mark-skip delay tap m from to t old recent ys over begun later (find (ends_in ys from to) ys) refl)
 
 -- ---- ends, and what telegrams were
 
 -- the next end is one of a recent entry
-pub next_end_of-skip : (delay : ℕ) (m now : ℕ) (old recent : List Entry) → delay ≡ 0 → AllOver m old → m ≤ now
+pub next_end_of-skip : (delay : ℕ) (m now : ℕ) (old recent : List Entry) → AllOver delay m old → m ≤ now
     → next_end_of delay now (old ++ recent) ≡ next_end_of delay now recent
-next_end_of-skip delay m now [] recent none over later = refl
-next_end_of-skip delay m now (Noise span ∷ old) recent none over later =
+next_end_of-skip delay m now [] recent over later = refl
+next_end_of-skip delay m now (Noise span ∷ old) recent over later =
     ap (λ (b : Bool). earlier (if b then Some span.end else None) (next_end_of delay now (old ++ recent))) (le-ltb now span.end (omega (arith, over.1)))
-    ∙ next_end_of-skip delay m now old recent none over.2 later
-next_end_of-skip delay m now (Sent r ∷ old) recent none over later =
+    ∙ next_end_of-skip delay m now old recent over.2 later
+next_end_of-skip delay m now (Sent r ∷ old) recent over later =
     ap (λ (b : Bool). earlier (earlier (if b then Some r.end else None) (later_end now (reaches delay r).end)) (next_end_of delay now (old ++ recent))) (le-ltb now r.end (omega (arith, over.1)))
-    ∙ ap (λ (b : Bool). earlier (earlier None (if b then Some (reaches delay r).end else None)) (next_end_of delay now (old ++ recent))) (le-ltb now (reaches delay r).end (omega (arith, none, over.1)))
-    ∙ next_end_of-skip delay m now old recent none over.2 later
+    ∙ ap (λ (b : Bool). earlier (earlier None (if b then Some (reaches delay r).end else None)) (next_end_of delay now (old ++ recent))) (le-ltb now (reaches delay r).end (omega (arith, over.1)))
+    ∙ next_end_of-skip delay m now old recent over.2 later
 
-is_whole_at-skip : (delay : ℕ) (tap m : ℕ) (t : Tap) (old recent : List Entry) (r : Record) → delay ≡ 0 → AllOver m old → m ≤ r.begin
+is_whole_at-skip : (delay : ℕ) (tap m : ℕ) (t : Tap) (old recent : List Entry) (r : Record) → AllOver delay m old → m ≤ r.begin
     → is_whole_at delay tap t (old ++ recent) r ≡ is_whole_at delay tap t recent r
-is_whole_at-skip delay tap m t old recent r none over later =
+is_whole_at-skip delay tap m t old recent r over later =
     ap (λ (b : Bool). ((t.running && b) && length (characters_at tap r) == length r.octets) && list_all (λ char. not (is_bad char)) (characters_at tap r))
-    (fills_burst-skip delay tap m t old recent r none over later)
+    (fills_burst-skip delay tap m t old recent r over later)
 
-heard_by-skip : (delay : ℕ) (m : ℕ) (old recent : List Entry) (r : Record) (tap : ℕ) (ts : List Tap) (hs : List Heard) → delay ≡ 0 → AllOver m old → m ≤ r.begin
+heard_by-skip : (delay : ℕ) (m : ℕ) (old recent : List Entry) (r : Record) (tap : ℕ) (ts : List Tap) (hs : List Heard) → AllOver delay m old → m ≤ r.begin
     → heard_by delay (old ++ recent) r tap ts hs ≡ heard_by delay recent r tap ts hs
-heard_by-skip delay m old recent r tap [] hs none over later = refl
-heard_by-skip delay m old recent r tap (t ∷ ts) [] none over later = refl
-heard_by-skip delay m old recent r tap (t ∷ ts) (h ∷ hs) none over later =
-    ap (λ (b : Bool). heard_in_the_end b h ∷ heard_by delay (old ++ recent) r (tap + 1) ts hs) (is_whole_at-skip delay tap m t old recent r none over later)
-    ∙ ap (λ (rest : List Heard). heard_in_the_end (is_whole_at delay tap t recent r) h ∷ rest) (heard_by-skip delay m old recent r (tap + 1) ts hs none over later)
+heard_by-skip delay m old recent r tap [] hs over later = refl
+heard_by-skip delay m old recent r tap (t ∷ ts) [] over later = refl
+heard_by-skip delay m old recent r tap (t ∷ ts) (h ∷ hs) over later =
+    ap (λ (b : Bool). heard_in_the_end b h ∷ heard_by delay (old ++ recent) r (tap + 1) ts hs) (is_whole_at-skip delay tap m t old recent r over later)
+    ∙ ap (λ (rest : List Heard). heard_in_the_end (is_whole_at delay tap t recent r) h ∷ rest) (heard_by-skip delay m old recent r (tap + 1) ts hs over later)
 
 -- what recent telegrams were at the taps is told by the recent entries alone
-entries_at-skip : (delay : ℕ) (m from to : ℕ) (taps : List Tap) (old recent es : List Entry) → delay ≡ 0 → AllOver m old → AllFrom m es
+entries_at-skip : (delay : ℕ) (m from to : ℕ) (taps : List Tap) (old recent es : List Entry) → AllOver delay m old → AllFrom m es
     → map (entry_at delay taps (old ++ recent) from to) es ≡ map (entry_at delay taps recent from to) es
-entries_at-skip delay m from to taps old recent [] none over later = refl
-entries_at-skip delay m from to taps old recent (Noise span ∷ es) none over later =
-    ap (λ (rest : List Entry). Noise span ∷ rest) (entries_at-skip delay m from to taps old recent es none over later.1)
-entries_at-skip delay m from to taps old recent (Sent r ∷ es) none over later =
+entries_at-skip delay m from to taps old recent [] over later = refl
+entries_at-skip delay m from to taps old recent (Noise span ∷ es) over later =
+    ap (λ (rest : List Entry). Noise span ∷ rest) (entries_at-skip delay m from to taps old recent es over later.1)
+entries_at-skip delay m from to taps old recent (Sent r ∷ es) over later =
     ap (λ (hs : List Heard). (if ends_between from to (reaches delay r) then Sent (record r { heard = hs }) else Sent r) ∷ map (entry_at delay taps (old ++ recent) from to) es)
-    (heard_by-skip delay m old recent r 0 taps r.heard none over later.0)
-    ∙ ap (λ (rest : List Entry). entry_at delay taps recent from to (Sent r) ∷ rest) (entries_at-skip delay m from to taps old recent es none over later.1)
+    (heard_by-skip delay m old recent r 0 taps r.heard over later.0)
+    ∙ ap (λ (rest : List Entry). entry_at delay taps recent from to (Sent r) ∷ rest) (entries_at-skip delay m from to taps old recent es over later.1)
 
 -- what has ended stays as it is
-over-stays : (delay : ℕ) (m from to : ℕ) (taps : List Tap) (trace es : List Entry) → delay ≡ 0 → AllOver m es → m ≤ from
+over-stays : (delay : ℕ) (m from to : ℕ) (taps : List Tap) (trace es : List Entry) → AllOver delay m es → m ≤ from
     → map (entry_at delay taps trace from to) es ≡ es
-over-stays delay m from to taps trace [] none over later = refl
-over-stays delay m from to taps trace (Noise span ∷ es) none over later = ap (λ (rest : List Entry). Noise span ∷ rest) (over-stays delay m from to taps trace es none over.2 later)
-over-stays delay m from to taps trace (Sent r ∷ es) none over later =
+over-stays delay m from to taps trace [] over later = refl
+over-stays delay m from to taps trace (Noise span ∷ es) over later = ap (λ (rest : List Entry). Noise span ∷ rest) (over-stays delay m from to taps trace es over.2 later)
+over-stays delay m from to taps trace (Sent r ∷ es) over later =
     ap (λ (b : Bool). (if b && nat_le (reaches delay r).end to then Sent (record r { heard = heard_by delay trace r 0 taps r.heard }) else Sent r) ∷ map (entry_at delay taps trace from to) es)
-    (le-ltb from (reaches delay r).end (omega (arith, none, over.1)))
-    ∙ ap (λ (rest : List Entry). Sent r ∷ rest) (over-stays delay m from to taps trace es none over.2 later)
+    (le-ltb from (reaches delay r).end (omega (arith, over.1)))
+    ∙ ap (λ (rest : List Entry). Sent r ∷ rest) (over-stays delay m from to taps trace es over.2 later)
 
-pub trace_at-skip : (delay : ℕ) (m from to : ℕ) (taps : List Tap) (old recent : List Entry) → delay ≡ 0 → AllOver m old → AllFrom m recent → m ≤ from
+pub trace_at-skip : (delay : ℕ) (m from to : ℕ) (taps : List Tap) (old recent : List Entry) → AllOver delay m old → AllFrom m recent → m ≤ from
     → map (entry_at delay taps (old ++ recent) from to) (old ++ recent) ≡ old ++ map (entry_at delay taps recent from to) recent
-trace_at-skip delay m from to taps old recent none over begun later =
+trace_at-skip delay m from to taps old recent over begun later =
     map-append (entry_at delay taps (old ++ recent) from to) old recent
-    ∙ ap (λ (xs : List Entry). xs ++ map (entry_at delay taps (old ++ recent) from to) recent) (over-stays delay m from to taps (old ++ recent) old none over later)
-    ∙ ap (λ (xs : List Entry). old ++ xs) (entries_at-skip delay m from to taps old recent recent none over begun)
+    ∙ ap (λ (xs : List Entry). xs ++ map (entry_at delay taps (old ++ recent) from to) recent) (over-stays delay m from to taps (old ++ recent) old over later)
+    ∙ ap (λ (xs : List Entry). old ++ xs) (entries_at-skip delay m from to taps old recent recent over begun)

@@ -13,18 +13,18 @@ use Rattle.pb_model.specs.World.{later_end, entry_next_end, next_end_of}
 use Rattle.pb_model.specs.Step.{is_past, change_first}
 use Rattle.pb_model.specs.Laws.{AllBegun, is_open}
 use Rattle.pb_model.proofs.Cases.{by_test}
-use Rattle.pb_model.proofs.Bursts.{AllReady}
+use Rattle.pb_model.proofs.Window.{EachSpan, Solid}
 
 -- ---- the next end
 
-is_past-earlier : (a b : Option ℕ) (u : ℕ) → is_past (earlier a b) u ≡ false → (is_past a u ≡ false) × (is_past b u ≡ false)
+pub is_past-earlier : (a b : Option ℕ) (u : ℕ) → is_past (earlier a b) u ≡ false → (is_past a u ≡ false) × (is_past b u ≡ false)
 is_past-earlier None b u e = (refl, e)
 is_past-earlier (Some a) None u e = (e, refl)
 is_past-earlier (Some a) (Some b) u e =
     (le-ltb a u (omega (arith, ltb-false (min a b) u e)), le-ltb b u (omega (arith, ltb-false (min a b) u e)))
 
 -- a pass to u that is not past an end reaches it at most
-later_end-bound : (now m u : ℕ) → is_past (later_end now m) u ≡ false → now < m → u ≤ m
+pub later_end-bound : (now m u : ℕ) → is_past (later_end now m) u ≡ false → now < m → u ≤ m
 later_end-bound now m u =
     by_test (λ (o : Option ℕ). is_past o u ≡ false → now < m → u ≤ m) (nat_lt now m) (Some m) None
     (λ _ e later. ltb-false m u e)
@@ -32,30 +32,46 @@ later_end-bound now m u =
 
 -- ---- spans
 
--- a stretch that a tap senses has begun, and ends at u or later where it is not over
-ready-part_after : (t u since : ℕ) (span : Span) (rest : List Span) → since ≤ t → span.begin ≤ t → span.begin < span.end → (t < span.end → u ≤ span.end)
-    → AllReady t u rest → AllReady t u (cons_option (part_after since span) rest)
-ready-part_after t u since span rest started begun some ends ready =
-    by_test (λ (o : Option Span). AllReady t u (cons_option o rest)) (nat_lt since span.end) (Some (record { begin = max span.begin since; end = span.end })) None
-    (λ after. (omega arith, omega (arith, ltb-true since span.end after), ends, ready))
-    (λ _. ready)
+solid_part : (t u since : ℕ) (span : Span) (rest : List Span) → span.begin < span.end → (t < span.end → u ≤ span.end)
+    → EachSpan (Solid t u) rest → EachSpan (Solid t u) (cons_option (part_after since span) rest)
+solid_part t u since span rest some ends solid =
+    by_test (λ (o : Option Span). EachSpan (Solid t u) (cons_option o rest)) (nat_lt since span.end) (Some (record { begin = max span.begin since; end = span.end })) None
+    (λ after. ((omega (arith, ltb-true since span.end after), ends), solid))
+    (λ _. solid)
 
-pub ready-sensed : (delay : ℕ) (tap t u since : ℕ) (trace : List Entry) → delay ≡ 0 → since ≤ t → AllBegun t trace → is_past (next_end_of delay t trace) u ≡ false
-    → AllReady t u (sensed delay tap since trace)
-ready-sensed delay tap t u since [] none started begun past = tt
-ready-sensed delay tap t u since (Noise span ∷ es) none started begun past =
+-- what a tap senses lasts for some time, and a pass that goes past no end goes past none of it
+pub solid-sensed : (delay tap t u since : ℕ) (trace : List Entry) → AllBegun t trace → is_past (next_end_of delay t trace) u ≡ false
+    → EachSpan (Solid t u) (sensed delay tap since trace)
+solid-sensed delay tap t u since [] begun past = tt
+solid-sensed delay tap t u since (Noise span ∷ es) begun past =
     let ends = is_past-earlier (later_end t span.end) (next_end_of delay t es) u past in
-    ready-part_after t u since span (sensed delay tap since es) started begun.0 begun.1 (later_end-bound t span.end u ends.0)
-    (ready-sensed delay tap t u since es none started begun.2 ends.1)
-ready-sensed delay tap t u since (Sent r ∷ es) none started begun past =
+    solid_part t u since span (sensed delay tap since es) begun.1 (later_end-bound t span.end u ends.0)
+    (solid-sensed delay tap t u since es begun.2 ends.1)
+solid-sensed delay tap t u since (Sent r ∷ es) begun past =
     let ends = is_past-earlier (entry_next_end delay t (Sent r)) (next_end_of delay t es) u past in
     let own = is_past-earlier (later_end t r.end) (later_end t (reaches delay r).end) u ends.0 in
-    let rest : AllReady t u (sensed delay tap since es) = ready-sensed delay tap t u since es none started begun.2 ends.1 in
-    by_test (λ (o : Option Span). AllReady t u (cons_option (option_and_then (part_after since) o) (sensed delay tap since es)))
+    let rest : EachSpan (Solid t u) (sensed delay tap since es) = solid-sensed delay tap t u since es begun.2 ends.1 in
+    by_test (λ (o : Option Span). EachSpan (Solid t u) (cons_option (option_and_then (part_after since) o) (sensed delay tap since es)))
     (r.tap == tap || is_unheard (slice_get r.heard tap)) None (Some (reaches delay r))
     (λ _. rest)
-    (λ _. ready-part_after t u since (reaches delay r) (sensed delay tap since es) started
-    (omega (arith, none, begun.0)) (omega (arith, begun.1)) (later_end-bound t (reaches delay r).end u own.1) rest)
+    (λ _. solid_part t u since (reaches delay r) (sensed delay tap since es) (omega (arith, begun.1)) (later_end-bound t (reaches delay r).end u own.1) rest)
+
+soon_part : (by since : ℕ) (span : Span) (rest : List Span) → since ≤ by → span.begin ≤ by → EachSpan (λ x. x.begin ≤ by) rest → EachSpan (λ x. x.begin ≤ by) (cons_option (part_after since span) rest)
+soon_part by since span rest started begun soon =
+    by_test (λ (o : Option Span). EachSpan (λ x. x.begin ≤ by) (cons_option o rest)) (nat_lt since span.end) (Some (record { begin = max span.begin since; end = span.end })) None
+    (λ _. (omega arith, soon)) (λ _. soon)
+
+-- what has begun reaches a tap a cable delay later at the latest
+pub soon-sensed : (delay tap t since : ℕ) (trace : List Entry) → since ≤ t → AllBegun t trace → EachSpan (λ x. x.begin ≤ t + delay) (sensed delay tap since trace)
+soon-sensed delay tap t since [] started begun = tt
+soon-sensed delay tap t since (Noise span ∷ es) started begun =
+    soon_part (t + delay) since span (sensed delay tap since es) (omega arith) (omega (arith, begun.0)) (soon-sensed delay tap t since es started begun.2)
+soon-sensed delay tap t since (Sent r ∷ es) started begun =
+    let rest : EachSpan (λ x. x.begin ≤ t + delay) (sensed delay tap since es) = soon-sensed delay tap t since es started begun.2 in
+    by_test (λ (o : Option Span). EachSpan (λ x. x.begin ≤ t + delay) (cons_option (option_and_then (part_after since) o) (sensed delay tap since es)))
+    (r.tap == tap || is_unheard (slice_get r.heard tap)) None (Some (reaches delay r))
+    (λ _. rest)
+    (λ _. soon_part (t + delay) since (reaches delay r) (sensed delay tap since es) (omega arith) (omega (arith, begun.0)) rest)
 
 -- ---- the own telegram
 
@@ -80,26 +96,26 @@ open-part_after now since span rest late =
     (λ _. refl)
 
 -- an entry that begins now opens no burst yet
-open-entry : (delay : ℕ) (tap since now : ℕ) (e : Entry) (rest : List Span) → delay ≡ 0 → entry_begin e ≡ now
+open-entry : (delay : ℕ) (tap since now : ℕ) (e : Entry) (rest : List Span) → entry_begin e ≡ now
     → is_open (cons_option (option_and_then (part_after since) (at_tap delay tap e)) rest) now ≡ is_open rest now
-open-entry delay tap since now (Noise span) rest none begun = open-part_after now since span rest (omega arith)
-open-entry delay tap since now (Sent r) rest none begun =
+open-entry delay tap since now (Noise span) rest begun = open-part_after now since span rest (omega arith)
+open-entry delay tap since now (Sent r) rest begun =
     by_test (λ (o : Option Span). is_open (cons_option (option_and_then (part_after since) o) rest) now ≡ is_open rest now)
     (r.tap == tap || is_unheard (slice_get r.heard tap)) None (Some (reaches delay r))
-    (λ _. refl) (λ _. open-part_after now since (reaches delay r) rest (omega (arith, none, begun)))
+    (λ _. refl) (λ _. open-part_after now since (reaches delay r) rest (omega (arith, begun)))
 
 open-behind : (now : ℕ) (o : Option Span) (xs ys : List Span) → is_open xs now ≡ is_open ys now → is_open (cons_option o xs) now ≡ is_open (cons_option o ys) now
 open-behind now None xs ys same = same
 open-behind now (Some span) xs ys same = ap (λ (b : Bool). lasts_through now span || b) same
 
-pub open-with_entry : (delay : ℕ) (tap since now : ℕ) (e : Entry) (trace : List Entry) → delay ≡ 0 → entry_begin e ≡ now
+pub open-with_entry : (delay : ℕ) (tap since now : ℕ) (e : Entry) (trace : List Entry) → entry_begin e ≡ now
     → is_open (sensed delay tap since (with_entry e trace)) now ≡ is_open (sensed delay tap since trace) now
-open-with_entry delay tap since now e [] none begun = open-entry delay tap since now e [] none begun
-open-with_entry delay tap since now e (x ∷ xs) none begun =
+open-with_entry delay tap since now e [] begun = open-entry delay tap since now e [] begun
+open-with_entry delay tap since now e (x ∷ xs) begun =
     by_test (λ (es : List Entry). is_open (sensed delay tap since es) now ≡ is_open (sensed delay tap since (x ∷ xs)) now) (goes_before e x) (e ∷ x ∷ xs) (x ∷ with_entry e xs)
-    (λ _. open-entry delay tap since now e (sensed delay tap since (x ∷ xs)) none begun)
+    (λ _. open-entry delay tap since now e (sensed delay tap since (x ∷ xs)) begun)
     (λ _. open-behind now (option_and_then (part_after since) (at_tap delay tap x)) (sensed delay tap since (with_entry e xs)) (sensed delay tap since xs)
-    (open-with_entry delay tap since now e xs none begun))
+    (open-with_entry delay tap since now e xs begun))
 
 -- at its start nothing is open at a tap
 pub open-started : (delay : ℕ) (tap now : ℕ) (trace : List Entry) → is_open (sensed delay tap now trace) now ≡ false
@@ -131,40 +147,36 @@ open-part now since span rest =
         (λ _. refl)
 
 -- a telegram that is cut at a moment goes on after it exactly where it did before
-cut-later : (now : ℕ) (r : Record) → nat_lt now (cut_end now r) ≡ nat_lt now r.end
-cut-later now r =
+cut-later : (delay now : ℕ) (r : Record) → nat_lt now (cut_end now r + delay) ≡ nat_lt now (r.end + delay)
+cut-later delay now r =
     let next : now < r.begin + bits ((now - r.begin) / bits 1 + 1) = omega arith in
-    by_answer (λ b. nat_lt now (cut_end now r) ≡ b) (nat_lt now r.end)
-    (λ later. lt-ltb now (cut_end now r) (omega (arith, next, ltb-true now r.end later)))
-    (λ over. le-ltb now (cut_end now r) (omega (arith, ltb-false now r.end over)))
+    by_answer (λ b. nat_lt now (cut_end now r + delay) ≡ b) (nat_lt now (r.end + delay))
+    (λ later. lt-ltb now (cut_end now r + delay) (omega (arith, next, ltb-true now (r.end + delay) later)))
+    (λ over. le-ltb now (cut_end now r + delay) (omega (arith, ltb-false now (r.end + delay) over)))
 
-cut-part : (delay : ℕ) (since now : ℕ) (r : Record) (rest : List Span) → delay ≡ 0
+cut-part : (delay : ℕ) (since now : ℕ) (r : Record) (rest : List Span)
     → is_open (cons_option (part_after since (reaches delay (record r { end = cut_end now r }))) rest) now ≡ is_open (cons_option (part_after since (reaches delay r)) rest) now
-cut-part delay since now r rest none =
-    let begun = nat_lt (max (r.begin + delay) since) now in
-    let still : ℕ → ℕ → Bool = λ end d. (begun && nat_lt now (end + d)) || is_open rest now in
-    let at_once : (end : ℕ) → still end delay ≡ ((begun && nat_lt now end) || is_open rest now)
-    = λ end. ap (still end) none ∙ ap (λ (n : ℕ). (begun && nat_lt now n) || is_open rest now) (let same : end + 0 ≡ end = omega arith in same) in
+cut-part delay since now r rest =
     open-part now since (reaches delay (record r { end = cut_end now r })) rest
-    ∙ at_once (cut_end now r) ∙ ap (λ (b : Bool). (begun && b) || is_open rest now) (cut-later now r) ∙ sym (at_once r.end)
+    ∙ ap (λ (b : Bool). (nat_lt (max (r.begin + delay) since) now && b) || is_open rest now) (cut-later delay now r)
     ∙ sym (open-part now since (reaches delay r) rest)
 
 -- a telegram whose speaker stops closes no burst yet
-pub open-cut : (delay : ℕ) (tap since now speaker : ℕ) (trace : List Entry) → delay ≡ 0
+pub open-cut : (delay : ℕ) (tap since now speaker : ℕ) (trace : List Entry) 
     → is_open (sensed delay tap since (map (cut_at now speaker) trace)) now ≡ is_open (sensed delay tap since trace) now
-open-cut delay tap since now speaker [] none = refl
-open-cut delay tap since now speaker (Noise span ∷ es) none =
-    open-behind now (part_after since span) (sensed delay tap since (map (cut_at now speaker) es)) (sensed delay tap since es) (open-cut delay tap since now speaker es none)
-open-cut delay tap since now speaker (Sent r ∷ es) none =
+open-cut delay tap since now speaker [] = refl
+open-cut delay tap since now speaker (Noise span ∷ es) =
+    open-behind now (part_after since span) (sensed delay tap since (map (cut_at now speaker) es)) (sensed delay tap since es) (open-cut delay tap since now speaker es)
+open-cut delay tap since now speaker (Sent r ∷ es) =
     let before = sensed delay tap since es in
     let after = sensed delay tap since (map (cut_at now speaker) es) in
     let seen : List Span → Record → List Span = λ rest x. cons_option (option_and_then (part_after since) (at_tap delay tap (Sent x))) rest in
     open-behind now (option_and_then (part_after since) (at_tap delay tap (Sent (if r.tap == speaker then record r { end = cut_end now r } else r)))) after before
-    (open-cut delay tap since now speaker es none)
+    (open-cut delay tap since now speaker es)
     ∙ by_test (λ (x : Record). is_open (seen before x) now ≡ is_open (seen before r) now) (r.tap == speaker) (record r { end = cut_end now r }) r
     (λ _. by_answer (λ b. is_open (cons_option (option_and_then (part_after since) (if b then None else Some (reaches delay (record r { end = cut_end now r })))) before) now
     ≡ is_open (cons_option (option_and_then (part_after since) (if b then None else Some (reaches delay r))) before) now) (r.tap == tap || is_unheard (slice_get r.heard tap))
-    (λ _. refl) (λ _. cut-part delay since now r before none))
+    (λ _. refl) (λ _. cut-part delay since now r before))
     (λ _. refl)
 
 -- a change of the first entry that passes a test changes nothing that is open, where it changes nothing of such an entry

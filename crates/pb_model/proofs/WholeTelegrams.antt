@@ -115,9 +115,9 @@ fills_burst-sending delay tap t trace before after q r in_trace own overlap = by
     by_case false e = refl
     by_case true e = absurd (both_ways (list_any (sends_during tap (reaches delay r)) trace) (fills_alone delay tap t trace r e).silent sends)
 
-pub fills_burst-one_instant : (delay : ℕ) (tap : ℕ) (t : Tap) (trace before after : List Entry) (q r : Record) → delay ≡ 0 → trace ≡ before ++ Sent q ∷ after → q.tap ≡ tap
-    → q.begin ≡ r.begin → q.begin < q.end → r.begin < r.end → fills_burst delay tap t trace r ≡ false
-fills_burst-one_instant delay tap t trace before after q r none in_trace own same some some' =
+pub fills_burst-one_instant : (delay : ℕ) (tap : ℕ) (t : Tap) (trace before after : List Entry) (q r : Record) → trace ≡ before ++ Sent q ∷ after → q.tap ≡ tap
+    → q.begin ≡ r.begin → r.begin + delay < q.end → r.begin < r.end → fills_burst delay tap t trace r ≡ false
+fills_burst-one_instant delay tap t trace before after q r in_trace own same some some' =
     fills_burst-sending delay tap t trace before after q r in_trace own
     (ap (λ (b : Bool). b && nat_lt (r.begin + delay) q.end) (lt-ltb q.begin (r.end + delay) (omega arith)) ∙ lt-ltb (r.begin + delay) q.end (omega arith))
 

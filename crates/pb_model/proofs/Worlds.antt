@@ -125,7 +125,6 @@ sound-turn w tap (Some t) e sound =
     ((not t.running, NotRunning) ∷ (is_some turn.1 && nat_le trace_limit (length w.trace), TraceFull) ∷ [])
     sound
     (λ _. record {
-      no_delay = sound.no_delay;
       begun = begun-with_said w tap turn.1 (fits-turn_of w.params t.station t.marks w.now has) sound.begun;
       sayable = sayable-set w.taps tap (record t { station = turn.0; marks = [] }) (reply-turn_of w.params t.station t.marks w.now has) sound.sayable;
       in_order = in_order-set w.now w.taps tap (record t { station = turn.0; marks = [] }) (started-at w.now w.taps tap t sound.in_order e) (omega arith) sound.in_order;
@@ -140,9 +139,8 @@ sound-pass w d sound =
     world_after-unless IsSound w (record w { now = now; taps = taps; trace = map (entry_at w.params.ttd w.taps w.trace w.now now) w.trace }) (record { now = now; spoke = None })
     (pass_faults w d taps) sound
     (λ none. record {
-      no_delay = sound.no_delay;
       begun = begun-entry_at w.params.ttd w.taps w.trace w.now now w.trace (omega arith) sound.begun;
-      in_order = in_order-told w.params.ttd w.trace w.now now 0 w.taps sound.no_delay
+      in_order = in_order-told w.params.ttd w.trace w.now now 0 w.taps
           (let some : d ≡ 0 → ⊥ = eqb-false d 0 none.0 in grind (arith, some)) sound.begun none.1.0 sound.in_order;
       sayable = sayable-told w.params.ttd w.trace w.now now 0 w.taps sound.sayable;
     })
@@ -156,7 +154,7 @@ sound-damage w tap speaker place at from sound =
     world_after-unless IsSound w (record w { trace = change_first in_air (with_hit hit) w.trace }) (record { now = w.now; spoke = None })
     ((is_none at || is_none from, NoSuchTap) ∷ (tap == speaker || not (has_place (find in_air w.trace) place), NothingInAir) ∷ [])
     sound
-    (λ _. record { no_delay = sound.no_delay; begun = begun-change_first w.now in_air (with_hit hit) w.trace (lengthens-with_hit hit) sound.begun; in_order = sound.in_order; sayable = sound.sayable })
+    (λ _. record { begun = begun-change_first w.now in_air (with_hit hit) w.trace (lengthens-with_hit hit) sound.begun; in_order = sound.in_order; sayable = sound.sayable })
 
 sound-start : (w : World) (tap : ℕ) (o : Option Tap) → slice_get w.taps tap ≡ o → IsSound w → IsSound (world_after w (step_start w tap o))
 sound-start w tap None e sound = sound
@@ -165,7 +163,6 @@ sound-start w tap (Some t) e sound =
     ((t.running || list_any (is_in_air_by w.params.ttd w.now tap) w.trace, Running) ∷ [])
     sound
     (λ _. record {
-      no_delay = sound.no_delay;
       begun = sound.begun;
       in_order = in_order-set w.now w.taps tap (started_tap w tap t) (omega arith) (omega arith) sound.in_order;
       sayable = sayable-set w.taps tap (started_tap w tap t) (tt, cycles-started w.params t.station t.spec.master w.now (sayable-at w.taps tap t sound.sayable e).1) sound.sayable;
@@ -180,7 +177,6 @@ sound-stop w tap (Some t) e sound =
     ((not t.running, NotRunning) ∷ [])
     sound
     (λ _. record {
-      no_delay = sound.no_delay;
       begun = begun-cut_at w.now tap w.trace sound.begun;
       in_order = in_order-set w.now w.taps tap (halted t) (started-at w.now w.taps tap t sound.in_order e) (omega arith) sound.in_order;
       sayable = sayable-set w.taps tap (halted t) (tt, (sayable-at w.taps tap t sound.sayable e).1) sound.sayable;
@@ -198,7 +194,6 @@ sound-queue w tap r (Some t) e is sound =
     ((not (t.running && t.spec.master), NotRunning) ∷ (nat_le queue_limit (length (list_for t.station.cycles.queue r)), QueueFull) ∷ [])
     sound
     (λ _. record {
-      no_delay = sound.no_delay;
       begun = sound.begun;
       in_order = in_order-set w.now w.taps tap (record t { station = pushed t.station r }) (started-at w.now w.taps tap t sound.in_order e) (order-at w.now w.taps tap t sound.in_order e) sound.in_order;
       sayable = let has = sayable-at w.taps tap t sound.sayable e in
@@ -217,7 +212,6 @@ sound-noise w bits noisy sound =
     ((bits == 0, ZeroTime) ∷ (not noisy && nat_le trace_limit (length w.trace), TraceFull) ∷ [])
     sound
     (λ none. record {
-      no_delay = sound.no_delay;
       begun = begun-with_noise w bits noisy (let some : bits ≡ 0 → ⊥ = eqb-false bits 0 none.0 in grind (arith, some)) sound.begun;
       in_order = sound.in_order;
       sayable = sound.sayable;
@@ -230,7 +224,6 @@ sound-unheard w tap speaker at from sound =
     ((is_none at || is_none from, NoSuchTap) ∷ (tap == speaker || not (list_any begins w.trace), NothingInAir) ∷ [])
     sound
     (λ _. record {
-      no_delay = sound.no_delay;
       begun = begun-change_first w.now begins (unheard_at tap) w.trace (lengthens-unheard_at tap) sound.begun;
       in_order = sound.in_order;
       sayable = sound.sayable;
@@ -270,11 +263,11 @@ unless-Ok {F} {X} tests x y = by_fault (first_fault tests) refl
     by_fault None e ok = (none_holds tests e, cc)
     by_fault (Some fault) e ok = absurd cc
 
-pub sound-new_world : (p : Params) (specs : List TapSpec) (w : World) → p.ttd ≡ 0 → AllFit specs → new_world p specs ≡ Ok w → IsSound w
-sound-new_world p specs w none fit new =
+pub sound-new_world : (p : Params) (specs : List TapSpec) (w : World) → AllFit specs → new_world p specs ≡ Ok w → IsSound w
+sound-new_world p specs w fit new =
     let made : World = record { params = p; now = 0; trace = []; taps = map (stopped_tap p) specs } in
     let same = unless-Ok (new_faults p specs) made w new in
-    subst IsSound same.1 (record { no_delay = none; begun = tt; in_order = sound-stopped_taps p specs; sayable = sayable-stopped_taps p specs fit })
+    subst IsSound same.1 (record { begun = tt; in_order = sound-stopped_taps p specs; sayable = sayable-stopped_taps p specs fit })
 
 -- ---- the clock
 

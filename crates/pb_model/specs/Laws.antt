@@ -1,12 +1,12 @@
 -- What the laws speak of.
-use Rattle.std.specs.Prelude.{◌≡◌, ℕ, ◌<◌, ◌≤◌, Bool, true, false, List, [], ◌∷◌, ◌++◌, if◌then◌else◌, slice_get, count_by, Some}
+use Rattle.std.specs.Prelude.{◌≡◌, ℕ, ◌+◌, ◌<◌, ◌≤◌, Bool, true, false, List, [], ◌∷◌, ◌++◌, if◌then◌else◌, slice_get, count_by, Option, Some, None, IfSome}
 use Rattle.std.specs.List.{list_any}
 use Rattle.pb_telegram.specs.declared.chars.RxChar.{RxChar}
 use Rattle.pb_turn.specs.Spans.{Span}
 use Rattle.pb_turn.specs.Marks.{Mark, Begin, End, moment_of, Alternates}
 use Rattle.pb_turn.specs.Laws.{HasReply, HasCycles, IsRequest, Fits}
 use Rattle.pb_model.specs.Trace.{Record, Entry, Sent, entry_begin, entry_end, characters_at}
-use Rattle.pb_model.specs.Medium.{TapSpec, Tap, lasts_through, overlaps, hears_from, sends_during, reaches, is_unheard, burst_begins, burst_ends, burst_characters, fills_burst, sensed}
+use Rattle.pb_model.specs.Medium.{TapSpec, Tap, lasts_through, overlaps, hears_from, sends_during, reaches, reaches_taps, is_unheard, burst_begins, burst_ends, burst_characters, fills_burst, sensed}
 use Rattle.pb_model.specs.World.{World, Event, Turn, Pass, Damage, Start, Stop, Queue, Noise, Unheard}
 
 -- ---- bursts
@@ -75,32 +75,38 @@ abbrev pub AllFit : List TapSpec → Type 0
 AllFit [] = Unit {0}
 AllFit (spec ∷ specs) = Fits spec.reply × AllFit specs
 
--- what holds of a world that events have led to from a new one, on a bus without delay
+-- what holds of a world that events have led to from a new one
 pub record IsSound (w : World) : Type 0 where
-  pub no_delay : w.params.ttd ≡ 0
   pub begun : AllBegun w.now w.trace
   pub in_order : AllInOrder w.now w.taps
   pub sayable : AllSayable w.taps
 
--- the marks of a pass: a Begin exactly where a burst begins at the clock, and an End, with the burst's characters, exactly where one ends at the new clock
-abbrev pub marks_of_pass : ℕ → ℕ → Tap → List Entry → ℕ → ℕ → List Mark
-marks_of_pass delay tap t trace from to =
-    let spans = sensed delay tap t.since trace in
-    (if burst_begins spans from then Begin from to ∷ [] else [])
-    ++ (if burst_ends spans to then End to to (burst_characters delay tap t trace to) ∷ [] else [])
+-- that a burst began at a moment, if one did
+abbrev pub begin_of : ℕ → Option ℕ → List Mark
+begin_of seen None = []
+begin_of seen (Some m) = Begin m seen ∷ []
 
--- What a pass does to a running tap: the marks of the pass stand behind its unread ones. No burst begins or ends between the two clocks, and Begins and Ends alternate.
+-- the marks of a pass: a Begin, if a burst begins in it, and an End, with the burst's characters, exactly where one ends at the new clock
+abbrev pub marks_of_pass : ℕ → ℕ → Tap → List Entry → Option ℕ → ℕ → List Mark
+marks_of_pass delay tap t trace begin to =
+    begin_of to begin ++ (if burst_ends (sensed delay tap t.since trace) to then End to to (burst_characters delay tap t trace to) ∷ [] else [])
+
+-- What a pass does to a running tap: the marks of the pass stand behind its unread ones. From the old clock on, one burst begins at most before the new clock, and none later than
+-- a cable delay after the old one; none ends between the two; and Begins and Ends alternate.
 pub record PassTells (w next : World) (tap : ℕ) (t : Tap) : Type 0 where
-  pub delivered : slice_get next.taps tap ≡ Some (record t { marks = t.marks ++ marks_of_pass w.params.ttd tap t w.trace w.now next.now })
-  pub begins_none : (m : ℕ) → w.now < m → burst_begins (sensed w.params.ttd tap t.since w.trace) m ≡ false
+  pub begin : Option ℕ
+  pub begins : IfSome begin (λ m. (w.now ≤ m) × (m < next.now) × (burst_begins (sensed w.params.ttd tap t.since w.trace) m ≡ true))
+  pub no_other : (m : ℕ) → w.now ≤ m → m < next.now → burst_begins (sensed w.params.ttd tap t.since w.trace) m ≡ true → begin ≡ Some m
+  pub none_later : (m : ℕ) → w.now + w.params.ttd < m → burst_begins (sensed w.params.ttd tap t.since w.trace) m ≡ false
+  pub delivered : slice_get next.taps tap ≡ Some (record t { marks = t.marks ++ marks_of_pass w.params.ttd tap t w.trace begin next.now })
   pub ends_none : (m : ℕ) → w.now < m → m < next.now → burst_ends (sensed w.params.ttd tap t.since w.trace) m ≡ false
-  pub alternate : Alternates (is_open (sensed w.params.ttd tap t.since w.trace) w.now) (marks_of_pass w.params.ttd tap t w.trace w.now next.now)
+  pub alternate : Alternates (is_open (sensed w.params.ttd tap t.since w.trace) w.now) (marks_of_pass w.params.ttd tap t w.trace begin next.now)
       (is_open (sensed w.params.ttd tap t.since w.trace) next.now)
 
--- every entry lasts for some time, and has ended by a moment
-abbrev pub AllOver : ℕ → List Entry → Type 0
-AllOver m [] = Unit {0}
-AllOver m (e ∷ es) = (entry_begin e < entry_end e) × (entry_end e ≤ m) × AllOver m es
+-- every entry lasts for some time, and has ended at all taps by a moment
+abbrev pub AllOver : ℕ → ℕ → List Entry → Type 0
+AllOver delay m [] = Unit {0}
+AllOver delay m (e ∷ es) = (entry_begin e < entry_end e) × ((reaches_taps delay e).end ≤ m) × AllOver delay m es
 
 -- no entry begins before a moment
 abbrev pub AllFrom : ℕ → List Entry → Type 0

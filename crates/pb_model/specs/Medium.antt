@@ -55,6 +55,11 @@ part_after m span = if nat_lt m span.end then Some (record { begin = max span.be
 abbrev pub reaches : ℕ → Record → Span
 reaches delay r = record { begin = r.begin + delay; end = r.end + delay }
 
+-- when an entry is at the taps of others
+abbrev pub reaches_taps : ℕ → Entry → Span
+reaches_taps delay (Noise span) = span
+reaches_taps delay (Sent r) = reaches delay r
+
 abbrev pub is_unheard : Option Heard → Bool
 is_unheard (Some Unheard) = true
 is_unheard h = false

@@ -1,4 +1,4 @@
-ghost use Rattle.std.specs.Prelude.{◌≡◌, ◌≢◌, ◌≤◌, ◌<◌, ℕ, true, false, List, [], ◌∷◌, ◌++◌, map};
+ghost use Rattle.std.specs.Prelude.{◌≡◌, ◌+◌, ◌≢◌, ◌≤◌, ◌<◌, ℕ, true, false, List, [], ◌∷◌, ◌++◌, map};
 ghost use Rattle.pb_telegram.specs.declared.chars.RxChar.{RxChar};
 ghost use Rattle.pb_telegram.specs.declared.chars.RxChar.TheVariants.{Bad};
 ghost use Rattle.pb_turn.specs.Spans.{Span};
@@ -44,12 +44,12 @@ pub fn whole_telegrams_fill_their_bursts_alone()
         → FillsAlone delay tap t trace r → fills_burst delay tap t trace r ≡ true }
 {}
 
-/// Two telegrams that begin in one instant don't hear each other: neither fills a burst at the tap
-/// that sends the other.
+/// Two telegrams that begin in one instant don't hear each other, where they last for longer than the
+/// cable delay: neither fills a burst at the tap that sends the other.
 pub fn telegrams_of_one_instant_are_not_heard()
-    ensures { (delay : ℕ) (tap : ℕ) (t : Tap) (trace before after : List Entry) (q r : Record) → delay ≡ 0
-        → trace ≡ before ++ Sent q ∷ after → q.tap ≡ tap → q.begin ≡ r.begin → q.begin < q.end
-        → r.begin < r.end
+    ensures { (delay : ℕ) (tap : ℕ) (t : Tap) (trace before after : List Entry) (q r : Record)
+        → trace ≡ before ++ Sent q ∷ after → q.tap ≡ tap → q.begin ≡ r.begin
+        → r.begin + delay < q.end → r.begin < r.end
         → fills_burst delay tap t trace r ≡ false }
 {}
 
@@ -59,11 +59,11 @@ pub fn telegrams_of_one_instant_are_not_heard()
 pub fn only_a_pass_opens_a_burst()
     ensures started { (delay : ℕ) (tap now : ℕ) (trace : List Entry)
         → is_open (sensed delay tap now trace) now ≡ false }
-    ensures begun { (delay : ℕ) (tap since now : ℕ) (e : Entry) (trace : List Entry) → delay ≡ 0
+    ensures begun { (delay : ℕ) (tap since now : ℕ) (e : Entry) (trace : List Entry)
         → entry_begin e ≡ now
         → is_open (sensed delay tap since (with_entry e trace)) now
         ≡ is_open (sensed delay tap since trace) now }
-    ensures stopped { (delay : ℕ) (tap since now speaker : ℕ) (trace : List Entry) → delay ≡ 0
+    ensures stopped { (delay : ℕ) (tap since now speaker : ℕ) (trace : List Entry)
         → is_open (sensed delay tap since (map (cut_at now speaker) trace)) now
         ≡ is_open (sensed delay tap since trace) now }
     ensures longer { (delay : ℕ) (tap since now end : ℕ) (trace : List Entry) → now < end
@@ -74,16 +74,16 @@ pub fn only_a_pass_opens_a_burst()
         ≡ is_open (sensed delay tap since trace) now }
 {}
 
-/// What has ended before everything recent began, and before the clock, matters no more: a tap's
+/// What has ended at all taps before everything recent began, and before the clock, matters no more: a tap's
 /// marks, the next end, and what recent telegrams are at the taps come from the recent entries alone.
 pub fn what_has_ended_matters_no_more()
-    ensures ends { (delay : ℕ) (m now : ℕ) (old recent : List Entry) → delay ≡ 0 → AllOver m old → m ≤ now
+    ensures ends { (delay : ℕ) (m now : ℕ) (old recent : List Entry) → AllOver delay m old → m ≤ now
         → next_end_of delay now (old ++ recent) ≡ next_end_of delay now recent }
-    ensures telegrams { (delay : ℕ) (m from to : ℕ) (taps : List Tap) (old recent : List Entry) → delay ≡ 0
-        → AllOver m old → AllFrom m recent → m ≤ from
+    ensures telegrams { (delay : ℕ) (m from to : ℕ) (taps : List Tap) (old recent : List Entry)
+        → AllOver delay m old → AllFrom m recent → m ≤ from
         → map (entry_at delay taps (old ++ recent) from to) (old ++ recent)
         ≡ old ++ map (entry_at delay taps recent from to) recent }
-    ensures marks { (delay : ℕ) (tap m from to : ℕ) (t : Tap) (old recent : List Entry) → delay ≡ 0
-        → AllOver m old → AllFrom m recent → m ≤ from
+    ensures marks { (delay : ℕ) (tap m from to : ℕ) (t : Tap) (old recent : List Entry)
+        → AllOver delay m old → AllFrom m recent → m ≤ from
         → marks_between delay tap t (old ++ recent) from to ≡ marks_between delay tap t recent from to }
 {}

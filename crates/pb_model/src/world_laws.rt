@@ -18,7 +18,7 @@ pub fn a_refused_event_changes_nothing()
 
 /// The unread marks of every tap stand in order of time, up to the clock.
 pub fn marks_stand_in_order_of_time()
-    ensures { (p : Params) (specs : List TapSpec) (w : World) (events : List Event) → p.ttd ≡ 0
+    ensures { (p : Params) (specs : List TapSpec) (w : World) (events : List Event)
         → AllFit specs → AreEvents events → new_world p specs ≡ Ok w
         → AllInOrder (replay w events).now (replay w events).taps }
 {}
@@ -28,7 +28,7 @@ pub fn marks_stand_in_order_of_time()
 pub fn what_a_pass_tells_a_tap()
     ensures { (p : Params) (specs : List TapSpec) (w : World) (events : List Event) (d tap : ℕ)
         (next : World) (reply : Reply) (t : Tap)
-        → p.ttd ≡ 0 → AllFit specs → AreEvents events → new_world p specs ≡ Ok w
+        → AllFit specs → AreEvents events → new_world p specs ≡ Ok w
         → step (replay w events) (Pass d) ≡ Ok (next, reply)
         → slice_get (replay w events).taps tap ≡ Some t → t.running ≡ true
         → PassTells (replay w events) next tap t }

@@ -8,7 +8,8 @@ use Rattle.pb_model.specs.Trace.{Entry, Sent, Noise}
 use Rattle.pb_model.specs.Medium.{reaches}
 use Rattle.pb_model.specs.World.{World, later_end, entry_next_end, next_end_of}
 use Rattle.pb_runs.specs.Runs.{Plan, after, comes, next_turn, onward, next}
-use Rattle.pb_runs.specs.Bus.{reaches_taps, next_known, is_started_amid, next_change}
+use Rattle.pb_model.specs.Medium.{reaches_taps}
+use Rattle.pb_runs.specs.Bus.{next_known, is_started_amid, next_change}
 use Rattle.pb_runs.specs.Scenarios.{Planned, next_step}
 
 -- a moment, where there is one, lies after another

@@ -2,10 +2,8 @@
 use Rattle.std.specs.Prelude.{ℕ, ◌+◌, Bool, ◌==◌, nat_lt, ◌&&◌, List, [], ◌∷◌, map, Option, Some, None, if◌then◌else◌}
 use Rattle.std.specs.List.{list_any}
 use Rattle.pb_turn.specs.Stations.{due_of, earlier}
-use Rattle.pb_turn.specs.Spans.{Span}
-use Rattle.pb_model.specs.Trace as trace
-use Rattle.pb_model.specs.Trace.{Entry, Sent, entry_begin}
-use Rattle.pb_model.specs.Medium.{Tap, reaches}
+use Rattle.pb_model.specs.Trace.{Entry, entry_begin}
+use Rattle.pb_model.specs.Medium.{Tap, reaches_taps}
 use Rattle.pb_model.specs.World.{World, Event, Turn, Pass, Reply, Fault, later_end, next_end}
 use Rattle.pb_model.specs.Step.{step}
 use Rattle.pb_runs.specs.Runs.{Machine}
@@ -17,11 +15,6 @@ due_in w t = if t.running then due_of w.params t.station t.marks else None
 -- when each tap is due
 abbrev pub dues : World → List (Option ℕ)
 dues w = map (due_in w) w.taps
-
--- when an entry is at the taps of others
-abbrev pub reaches_taps : ℕ → Entry → Span
-reaches_taps delay (trace.Noise span) = span
-reaches_taps delay (Sent r) = reaches delay r
 
 -- the next moment of some entries at which a tap can know that something has begun: one bit time after it has reached the taps
 abbrev pub next_known : ℕ → ℕ → List Entry → Option ℕ

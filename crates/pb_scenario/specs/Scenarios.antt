@@ -1,5 +1,6 @@
 -- A scenario with the names of its taps.
 use Rattle.std.specs.Prelude.{ℕ, List, length, map, String}
+use Rattle.pb_timers.specs.Timers.{Params}
 use Rattle.pb_plan.specs.Walks.{WalkView, new_walk}
 use Rattle.std.specs.String.{string_bytes}
 use Rattle.pb_runs.specs.Scenarios as runs
@@ -19,3 +20,11 @@ until_limit = 10000000
 
 abbrev pub names_of : {Z : Type 0} → List (String Z) → List (List ℕ)
 names_of names = map string_bytes names
+
+-- parameters with another cable delay
+abbrev pub params_with : Params → ℕ → Params
+params_with p ttd = record p { ttd = ttd }
+
+-- a scenario on a bus with another cable delay
+abbrev pub delayed : ScenarioView → ℕ → ScenarioView
+delayed s ttd = record s { scenario = record s.scenario { params = params_with s.scenario.params ttd } }

@@ -123,6 +123,7 @@ fn params_in(alloc: Global, bus: Fields<'_>) -> Result<BusParams, ScenarioFault>
         parameter(bus, Key::Gap)?,
         parameter(bus, Key::Hsa)?,
         parameter(bus, Key::Retries)?,
+        0,
     );
     match made {
         Ok(params) => Ok(params),

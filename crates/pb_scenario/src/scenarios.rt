@@ -1,10 +1,12 @@
-ghost use Rattle.std.specs.Prelude.{◌≡◌, ◌<◌, length, slice_get, Some};
-ghost use Rattle.pb_scenario.specs.Scenarios.{names_of};
+ghost use Rattle.std.specs.Prelude.{◌≡◌, ◌<◌, IfOk, IfErr, length, slice_get, Some, None};
+ghost use Rattle.pb_refusals.specs.FirstFault.{first_fault};
+ghost use Rattle.pb_timers.specs.ParamRules.{param_faults};
+ghost use Rattle.pb_scenario.specs.Scenarios.{names_of, params_with};
 
 use indexmap::IndexSet;
 use pb_plan::{Step, Walk};
 use pb_taps::TapSpec;
-use pb_timers::BusParams;
+use pb_timers::{BusParams, ParamFault};
 use std::alloc::{AllocError, Global};
 use std::marker::Model;
 
@@ -32,12 +34,14 @@ impl Model for Scenario {
 }
 
 impl Scenario {
-    ghost use Rattle.std.specs.Prelude.{◌≡◌, ◌≤◌, ◌<◌, IfOk, length, map, slice_get, Some};
+    ghost use Rattle.std.specs.Prelude.{◌≡◌, ◌≤◌, ◌<◌, IfOk, IfErr, length, map, slice_get, Some, None};
+    ghost use Rattle.pb_refusals.specs.FirstFault.{first_fault};
+    ghost use Rattle.pb_timers.specs.ParamRules.{param_faults};
     ghost use Rattle.pb_taps.specs.Taps.{spec_of};
     ghost use Rattle.pb_runs.specs.Laws.{AreFromOutside};
     ghost use Rattle.pb_plan.specs.Steps.{steps_of};
     ghost use Rattle.pb_plan.specs.Walks.{AreFrom};
-    ghost use Rattle.pb_scenario.specs.Scenarios.{names_of, until_limit, walk_of};
+    ghost use Rattle.pb_scenario.specs.Scenarios.{delayed, names_of, params_with, until_limit, walk_of};
 
     /// A scenario of taps with as many names, of steps that stand in order of time and are neither turns nor
     /// passes of time, up to a moment in bit times.
@@ -107,6 +111,26 @@ impl Scenario {
         self.until
     }
 
+    /// The same scenario on a bus whose telegrams are at the taps of others so many bit times later.
+    ///
+    /// Where the parameters of the bus refuse that cable delay, the scenario comes back as it was, with the first rule
+    /// that they would break.
+    pub fn with_ttd(mut self, ttd: u32) -> Result<Scenario, (Scenario, ParamFault)>
+        ensures ok { IfOk result (λ s. s ≡ delayed self ttd) }
+        ensures valid { IfOk result (λ _. first_fault (param_faults (params_with self.scenario.params ttd)) ≡ None) }
+        ensures err { IfErr result (λ e. e.0 ≡ self) }
+        ensures fault { IfErr result
+            (λ e. first_fault (param_faults (params_with self.scenario.params ttd)) ≡ Some e.1) }
+    {
+        match with_delay(&self.params, ttd) {
+            Ok(params) => {
+                self.params = params;
+                Ok(self)
+            }
+            Err(fault) => Err((self, fault)),
+        }
+    }
+
     /// A walk at 0 through the scenario's steps. Its fault: memory was refused.
     pub fn walk(&self, alloc: Global) -> Result<Walk<'_>, AllocError>
         ensures walk { IfOk result (λ walk. walk ≡ walk_of self.now) }
@@ -114,6 +138,27 @@ impl Scenario {
     {
         Walk::new(alloc, self.steps(), self.taps().len(), self.until())
     }
+}
+
+/// Parameters with another cable delay, or the first rule that they would break.
+fn with_delay(params: &BusParams, ttd: u32) -> Result<BusParams, ParamFault>
+    ensures ok { IfOk result (λ p. p ≡ params_with params.now ttd) }
+    ensures valid { IfOk result (λ _. first_fault (param_faults (params_with params.now ttd)) ≡ None) }
+    ensures fault { IfErr result
+        (λ fault. first_fault (param_faults (params_with params.now ttd)) ≡ Some fault) }
+{
+    BusParams::new(
+        params.tsl(),
+        params.tid1(),
+        params.tid2(),
+        params.tsdr(),
+        params.lag(),
+        params.ttr(),
+        params.gap(),
+        params.hsa(),
+        params.retries(),
+        ttd,
+    )
 }
 
 /// The name of a tap among names.

@@ -5,7 +5,7 @@ use pb_cycles::Service;
 use pb_medium::Entry;
 use pb_plan::Deed;
 use pb_taps::{Event, Kind, NewFault, WorldFault};
-use pb_timers::Moment;
+use pb_timers::{Moment, ParamFault};
 use pb_world::{World, run};
 use std::alloc::{AllocError, AllocGlobal, Global};
 use std::process::Abort;
@@ -238,6 +238,35 @@ fn plays_noise(rt: HostRuntime) {
     };
     let shown = trace_text(alloc, &scenario, &[noise]).expect(&rt, "memory");
     assert!(rt; shown.as_slice() == b"100 150 ~ noise\n".as_slice());
+}
+
+/// Two masters form a ring on a bus with a cable delay; one that is too long is refused.
+#[test]
+fn plays_with_a_cable_delay(rt: HostRuntime) {
+    let alloc = rt.alloc();
+    let second = "name = \"b\"\nkind = \"master\"\naddress = 2";
+    let steps = "[[step]]\nat = 0\ndo = \"start\"\ntap = \"a\"\n[[step]]\nat = 0\ndo = \"start\"\ntap = \"b\"";
+    let text = file(alloc, "version = 1\nuntil = 1450", second, steps).expect(&rt, "memory");
+    let scenario = read(alloc, text.as_bytes()).expect(&rt, "a scenario");
+    let (scenario, fault) = scenario.with_ttd(20).expect_err(&rt, "too long a delay");
+    assert_eq!(rt; fault, ParamFault::TakeLate);
+    assert_eq!(rt; scenario.params().ttd(), 0);
+    let Ok(scenario) = scenario.with_ttd(15) else {
+        return;
+    };
+    let events = events_of(alloc, &scenario).expect(&rt, "a run");
+    let mut world = World::new(alloc, *scenario.params(), scenario.taps()).expect(&rt, "a world");
+    run(alloc, &mut world, &events).expect(&rt, "events");
+    let shown = trace_text(alloc, &scenario, world.trace()).expect(&rt, "memory");
+    let expected = "800 833 a dc0101 -w
+870 903 a dc0101 -w
+940 1006 a 100201494c16 -w
+1032 1098 b 100102202316 w-
+1150 1183 a dc0201 -w
+1235 1301 b 100302494e16 w-
+1401 1434 b dc0102 w-
+";
+    assert!(rt; shown.as_slice() == expected.as_bytes());
 }
 
 /// A run ends where a step is refused, and where there is no new world.

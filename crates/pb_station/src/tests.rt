@@ -25,7 +25,7 @@ fn at(bits: u64) -> Result<Moment, Fail>
 /// A slot of 100, idle times 37 and 60, reply delay 11, no lag, rotation 10,000, GAP factor 10, highest
 /// address 5, one retry.
 fn usual() -> Result<BusParams, Fail> {
-    Ok(BusParams::new(100, 37, 60, 11, 0, 10_000, 10, 5, 1)?)
+    Ok(BusParams::new(100, 37, 60, 11, 0, 10_000, 10, 5, 1, 0)?)
 }
 
 /// A master with address 1 at tap 0, without data.

@@ -184,7 +184,7 @@ pub leads-in-order : (p : Params) (specs : List TapSpec) (events : List Event) (
 leads-in-order p specs events new w made leads = stands-after events new w leads (stands-new p specs new made)
 
 -- where their requests are proper, its trace is in order
-pub is-ordered-after : (p : Params) (specs : List TapSpec) (events : List Event) (new w : World) → p.ttd ≡ 0 → AllFit specs → AreEvents events
+pub is-ordered-after : (p : Params) (specs : List TapSpec) (events : List Event) (new w : World) → AllFit specs → AreEvents events
     → new_world p specs ≡ Ok new → RunsTo new events w → IsOrdered w.trace
-is-ordered-after p specs events new w none fit are made leads =
-    is-ordered w (sound-after events new w are leads (sound-new_world p specs new none fit made)) (leads-in-order p specs events new w made leads)
+is-ordered-after p specs events new w fit are made leads =
+    is-ordered w (sound-after events new w are leads (sound-new_world p specs new fit made)) (leads-in-order p specs events new w made leads)

@@ -4,97 +4,99 @@ use Rattle.std.specs.Prelude.{slice_get, slice_set, is_some, is_none, find, IfSo
 use Rattle.std.specs.List.{list_any}
 use Rattle.std.proofs.Math.Bool.{or-false}
 use Rattle.std.proofs.lemmas.Bool.{eqb-false}
+use Rattle.std.proofs.lemmas.List.{length-set}
+use Rattle.pb_timers.specs.Timers.{Params}
 use Rattle.std.proofs.lemmas.Bool.Decides.{nat_tests}
 use Rattle.pb_messages.specs.RequestFields.{RequestFields}
 use Rattle.pb_turn.specs.Stations.{list_for, pushed}
 use Rattle.pb_turn.specs.Turns.{turn_of}
-use Rattle.pb_model.specs.Trace.{cut_at, begins_from, unheard_at}
+use Rattle.pb_model.specs.Trace.{Hit, Entry, cut_at, is_noise_at, noisy_until, begins_from, unheard_at}
 use Rattle.pb_model.specs.Medium.{Tap, entry_at}
-use Rattle.pb_model.specs.World.{World, Event, Turn, Pass, Damage, Start, Stop, Queue, Noise, Unheard, Reply, Fault, NoSuchTap, Running, NotRunning, NothingInAir, ZeroTime, QueueFull, TraceFull, trace_limit, next_end, is_in_air_by, queue_limit}
+use Rattle.pb_model.specs.World.{World, Event, Turn, Pass, Damage, Start, Stop, Queue, Noise, Unheard, Reply, Fault, NoSuchTap, Running, NotRunning, NothingInAir, ZeroTime, QueueFull, TraceFull, trace_limit, is_in_air_by, queue_limit}
 use Rattle.pb_model.specs.Step.{sending, with_said, step_turn, told, pass_faults, step_pass, with_hit, change_first, has_place, step_damage, started_tap, step_start, halted, step_stop, step_queue, with_noise, is_noisy, step_noise, step_unheard, step, world_after}
 use Rattle.pb_model.specs.Laws.{IsSound}
 use Rattle.pb_model.proofs.Cases.{by_test}
-use Rattle.pb_model.proofs.Worlds.{unless-Ok, later-replay}
+use Rattle.pb_model.proofs.Worlds.{world_after-unless, unless-Ok, later-replay}
 use Rattle.pb_theorem.specs.Premises.{Waited, Broken, Course, has_waited, waited_by, meets, two_have_waited, has_namesakes, loses, comes_late, first_number, broken_by, broken_or, followed}
-use Rattle.pb_theorem.specs.Quiet.{quiet_at}
-use Rattle.pb_theorem.specs.Watching.{Watched, passes_busy, meets_last, new_meet, last_waited, watched_after, StandsFor}
+use Rattle.pb_theorem.specs.Quiet.{quiet_at, quiet_in, quiet_after}
+use Rattle.pb_theorem.specs.Watching.{Watched, meets_last, new_meet, last_waited, watched_after, StandsFor}
 use Rattle.pb_theorem.proofs.Quiets.{quiet-speech, quiet-damaged, quiet-unheard, quiet-cut, quiet-noise, quiet-passed}
 use Rattle.std.proofs.Math.Bool.{or-true}
 
 -- ---- the silence
 
--- the bus is as silent after an event as before
+-- each tap is in silence after an event since when it was before
 abbrev AsQuiet : World → World × Reply → Type 0
-AsQuiet w x = quiet_at x.0.now x.0.trace ≡ quiet_at w.now w.trace
+AsQuiet w x = (tap : ℕ) → quiet_in x.0 tap ≡ quiet_in w tap
 
-quiet-spoken : (w : World) (tap : ℕ) (o : Option (List ℕ)) → quiet_at w.now (with_said tap o w.now w.taps w.trace) ≡ quiet_at w.now w.trace
-quiet-spoken w tap None = refl
-quiet-spoken w tap (Some octets) = quiet-speech w.now (sending tap octets w.now w.taps) w.trace refl
+quiet-spoken : (w : World) (tap : ℕ) (o : Option (List ℕ)) (k : ℕ) → quiet_at w.params.ttd k w.now (with_said tap o w.now w.taps w.trace) ≡ quiet_at w.params.ttd k w.now w.trace
+quiet-spoken w tap None k = refl
+quiet-spoken w tap (Some octets) k = quiet-speech w.params.ttd k w.now (sending tap octets w.now w.taps) w.trace refl
 
 quiet-turn : (w next : World) (tap : ℕ) (reply : Reply) (o : Option Tap) → step_turn w tap o ≡ Ok (next, reply) → AsQuiet w (next, reply)
 quiet-turn w next tap reply None ok = absurd cc
 quiet-turn w next tap reply (Some t) ok =
     let turn = turn_of w.params t.station t.marks w.now in
-    let made : World × Reply = (record w { trace = with_said tap turn.1 w.now w.taps w.trace; taps = slice_set w.taps tap (record t { station = turn.0; marks = [] }) }, record { now = w.now; spoke = turn.1 }) in
+    let y : Tap = record t { station = turn.0; marks = [] } in
+    let made : World × Reply = (record w { trace = with_said tap turn.1 w.now w.taps w.trace; taps = slice_set w.taps tap y }, record { now = w.now; spoke = turn.1 }) in
     let is = unless-Ok ((not t.running, NotRunning) ∷ (is_some turn.1 && nat_le trace_limit (length w.trace), TraceFull) ∷ []) made (next, reply) ok in
     subst (AsQuiet w) is.1 (quiet-spoken w tap turn.1)
 
-quiet-pass : (w next : World) (bits : ℕ) (reply : Reply) → IsSound w → step_pass w bits ≡ Ok (next, reply)
-    → quiet_at next.now next.trace ≡ (if is_some (next_end w) then next.now else quiet_at w.now w.trace)
-quiet-pass w next bits reply sound ok =
+quiet-pass : (w next : World) (bits : ℕ) (reply : Reply) → IsSound w → step_pass w bits ≡ Ok (next, reply) → (tap : ℕ) → quiet_in next tap ≡ quiet_after w (Pass bits) tap (quiet_in w tap)
+quiet-pass w next bits reply sound ok tap =
     let to = w.now + bits in
     let taps = told w.params.ttd w.trace w.now to 0 w.taps in
     let made : World × Reply = (record w { now = to; taps = taps; trace = map (entry_at w.params.ttd w.taps w.trace w.now to) w.trace }, record { now = to; spoke = None }) in
     let is = unless-Ok (pass_faults w bits taps) made (next, reply) ok in
     let some : bits ≡ 0 → ⊥ = eqb-false bits 0 is.0.0 in
     let later : w.now < to = grind (arith, some) in
-    subst (λ (x : World × Reply). quiet_at x.0.now x.0.trace ≡ (if is_some (next_end w) then x.0.now else quiet_at w.now w.trace)) is.1
-    (quiet-passed w.params.ttd w.now to w.taps w.trace sound.no_delay later sound.begun is.0.1.0)
+    subst (λ (x : World × Reply). quiet_in x.0 tap ≡ quiet_after w (Pass bits) tap (quiet_in w tap)) is.1
+    (quiet-passed w.params.ttd tap w.now to w.taps w.trace later sound.begun is.0.1.0)
 
 quiet-damage : (w next : World) (tap speaker : ℕ) (place : Option ℕ) (reply : Reply) (at from : Option Tap) → step_damage w tap speaker place at from ≡ Ok (next, reply) → AsQuiet w (next, reply)
 quiet-damage w next tap speaker place reply at from ok =
     let in_air = is_in_air_by w.params.ttd w.now speaker in
     let made : World × Reply = (record w { trace = change_first in_air (with_hit (record { tap = tap; place = place })) w.trace }, record { now = w.now; spoke = None }) in
     let is = unless-Ok ((is_none at || is_none from, NoSuchTap) ∷ (tap == speaker || not (has_place (find in_air w.trace) place), NothingInAir) ∷ []) made (next, reply) ok in
-    subst (AsQuiet w) is.1 (quiet-damaged w.now in_air (record { tap = tap; place = place }) w.trace)
+    subst (AsQuiet w) is.1 (λ k. quiet-damaged w.params.ttd k w.now in_air (record { tap = tap; place = place }) w.trace)
 
 quiet-start : (w next : World) (tap : ℕ) (reply : Reply) (o : Option Tap) → step_start w tap o ≡ Ok (next, reply) → AsQuiet w (next, reply)
 quiet-start w next tap reply None ok = absurd cc
 quiet-start w next tap reply (Some t) ok =
     let made : World × Reply = (record w { taps = slice_set w.taps tap (started_tap w tap t) }, record { now = w.now; spoke = None }) in
     let is = unless-Ok ((t.running || list_any (is_in_air_by w.params.ttd w.now tap) w.trace, Running) ∷ []) made (next, reply) ok in
-    subst (AsQuiet w) is.1 refl
+    subst (AsQuiet w) is.1 (λ k. refl)
 
 quiet-stop : (w next : World) (tap : ℕ) (reply : Reply) (o : Option Tap) → step_stop w tap o ≡ Ok (next, reply) → AsQuiet w (next, reply)
 quiet-stop w next tap reply None ok = absurd cc
 quiet-stop w next tap reply (Some t) ok =
     let made : World × Reply = (record w { trace = map (cut_at w.now tap) w.trace; taps = slice_set w.taps tap (halted t) }, record { now = w.now; spoke = None }) in
     let is = unless-Ok ((not t.running, NotRunning) ∷ []) made (next, reply) ok in
-    subst (AsQuiet w) is.1 (quiet-cut w.now tap w.trace)
+    subst (AsQuiet w) is.1 (λ k. quiet-cut w.params.ttd k w.now tap w.trace)
 
 quiet-queue : (w next : World) (tap : ℕ) (r : RequestFields) (reply : Reply) (o : Option Tap) → step_queue w tap r o ≡ Ok (next, reply) → AsQuiet w (next, reply)
 quiet-queue w next tap r reply None ok = absurd cc
 quiet-queue w next tap r reply (Some t) ok =
     let made : World × Reply = (record w { taps = slice_set w.taps tap (record t { station = pushed t.station r }) }, record { now = w.now; spoke = None }) in
     let is = unless-Ok ((not (t.running && t.spec.master), NotRunning) ∷ (nat_le queue_limit (length (list_for t.station.cycles.queue r)), QueueFull) ∷ []) made (next, reply) ok in
-    subst (AsQuiet w) is.1 refl
+    let y : Tap = record t { station = pushed t.station r } in
+    subst (AsQuiet w) is.1 (λ k. refl)
 
 quiet-noisy : (w next : World) (bits : ℕ) (noisy : Bool) (reply : Reply) → step_noise w bits noisy ≡ Ok (next, reply) → AsQuiet w (next, reply)
 quiet-noisy w next bits noisy reply ok =
     let made : World × Reply = (record w { trace = with_noise w.now (w.now + bits) noisy w.trace }, record { now = w.now; spoke = None }) in
     let is = unless-Ok ((bits == 0, ZeroTime) ∷ (not noisy && nat_le trace_limit (length w.trace), TraceFull) ∷ []) made (next, reply) ok in
-    subst (AsQuiet w) is.1 (quiet-noise w.now (w.now + bits) noisy w.trace (omega arith))
+    subst (AsQuiet w) is.1 (λ k. quiet-noise w.params.ttd k w.now (w.now + bits) noisy w.trace (omega arith))
 
 quiet-lost : (w next : World) (tap speaker : ℕ) (reply : Reply) (at from : Option Tap) → step_unheard w tap speaker at from ≡ Ok (next, reply) → AsQuiet w (next, reply)
 quiet-lost w next tap speaker reply at from ok =
     let begins = begins_from w.now speaker in
     let made : World × Reply = (record w { trace = change_first begins (unheard_at tap) w.trace }, record { now = w.now; spoke = None }) in
     let is = unless-Ok ((is_none at || is_none from, NoSuchTap) ∷ (tap == speaker || not (list_any begins w.trace), NothingInAir) ∷ []) made (next, reply) ok in
-    subst (AsQuiet w) is.1 (quiet-unheard w.now tap begins w.trace)
+    subst (AsQuiet w) is.1 (λ k. quiet-unheard w.params.ttd k w.now tap begins w.trace)
 
--- only where time passes while something is in the air, the silence begins anew
-pub quiet-step : (w next : World) (e : Event) (reply : Reply) → IsSound w → step w e ≡ Ok (next, reply)
-    → quiet_at next.now next.trace ≡ (if passes_busy w e then next.now else quiet_at w.now w.trace)
+-- only where time passes while something is active at a tap, its silence begins anew
+pub quiet-step : (w next : World) (e : Event) (reply : Reply) → IsSound w → step w e ≡ Ok (next, reply) → (tap : ℕ) → quiet_in next tap ≡ quiet_after w e tap (quiet_in w tap)
 quiet-step w next (Turn tap) reply sound ok = quiet-turn w next tap reply (slice_get w.taps tap) ok
 quiet-step w next (Pass bits) reply sound ok = quiet-pass w next bits reply sound ok
 quiet-step w next (Damage tap speaker place) reply sound ok = quiet-damage w next tap speaker place reply (slice_get w.taps tap) (slice_get w.taps speaker) ok
@@ -190,51 +192,197 @@ last-before now next (one ∷ more) last later all before = omega (arith, all.1)
 last-next : (now next : ℕ) (last : Option Waited) → now ≤ next → IfSome last (λ l. l.moment ≤ now) → IfSome last (λ l. l.moment ≤ next)
 last-next now next last later before = last-before now next [] last later tt before
 
-last-decides : (now next : ℕ) (new old : List Waited) (last : Option Waited) → now ≤ next → AllNew next 0 new → IfSome last (λ l. l.moment ≤ now)
-    → new_meet 0 new last ≡ false
-    → ((one : Waited) → now ≤ one.moment → list_any (meets 0 one) old ≡ meets_last 0 one last)
-    → (one : Waited) → next ≤ one.moment → list_any (meets 0 one) (new ++ old) ≡ meets_last 0 one (last_waited new last)
-last-decides now next [] old last later all before apart decides one from = decides one (omega arith)
-last-decides now next (new ∷ []) old last later all before apart decides one from =
-    next-decides 0 new last old (last-next now new.moment last (omega (arith, all.1)) before) apart (λ x at. decides x (omega (arith, all.1))) one (omega (arith, all.1))
-last-decides now next (new ∷ other ∷ more) old last later all before apart decides one from = absurd cc
+last-decides : (delay now next : ℕ) (new old : List Waited) (last : Option Waited) → now ≤ next → AllNew next 0 new → IfSome last (λ l. l.moment ≤ now)
+    → new_meet delay new last ≡ false
+    → ((one : Waited) → now ≤ one.moment → list_any (meets delay one) old ≡ meets_last delay one last)
+    → (one : Waited) → next ≤ one.moment → list_any (meets delay one) (new ++ old) ≡ meets_last delay one (last_waited new last)
+last-decides delay now next [] old last later all before apart decides one from = decides one (omega arith)
+last-decides delay now next (new ∷ []) old last later all before apart decides one from =
+    next-decides delay new last old (last-next now new.moment last (omega (arith, all.1)) before) apart (λ x at. decides x (omega (arith, all.1))) one (omega (arith, all.1))
+last-decides delay now next (new ∷ other ∷ more) old last later all before apart decides one from = absurd cc
 
 later-world : (w next : World) (e : Event) (reply : Reply) → step w e ≡ Ok (next, reply) → w.now ≤ next.now
 later-world w next e reply ok = subst (λ (r : Result (World × Reply) Fault). w.now ≤ (world_after w r).now) ok (later-replay w (e ∷ []))
 
-stands-next : (v : Watched) (c : Course) (next : World) (e : Event) (reply : Reply) → IsSound c.world → IsSound next → step c.world e ≡ Ok (next, reply) → StandsFor v c
+-- the parameters stay
+
+bus-turn : (w : World) (tap : ℕ) (o : Option Tap) → (world_after w (step_turn w tap o)).params ≡ w.params
+bus-turn w tap None = refl
+bus-turn w tap (Some t) =
+    let turn = turn_of w.params t.station t.marks w.now in
+    world_after-unless (λ (x : World). x.params ≡ w.params) w
+    (record w { trace = with_said tap turn.1 w.now w.taps w.trace; taps = slice_set w.taps tap (record t { station = turn.0; marks = [] }) })
+    (record { now = w.now; spoke = turn.1 })
+    ((not t.running, NotRunning) ∷ (is_some turn.1 && nat_le trace_limit (length w.trace), TraceFull) ∷ [])
+    refl (λ _. refl)
+
+bus-pass : (w : World) (d : ℕ) → (world_after w (step_pass w d)).params ≡ w.params
+bus-pass w d =
+    let now = w.now + d in
+    let taps = told w.params.ttd w.trace w.now now 0 w.taps in
+    world_after-unless (λ (x : World). x.params ≡ w.params) w (record w { now = now; taps = taps; trace = map (entry_at w.params.ttd w.taps w.trace w.now now) w.trace })
+    (record { now = now; spoke = None }) (pass_faults w d taps) refl (λ _. refl)
+
+bus-damage : (w : World) (tap speaker : ℕ) (place : Option ℕ) (at from : Option Tap) → (world_after w (step_damage w tap speaker place at from)).params ≡ w.params
+bus-damage w tap speaker place at from =
+    let in_air = is_in_air_by w.params.ttd w.now speaker in
+    let hit : Hit = record { tap = tap; place = place } in
+    world_after-unless (λ (x : World). x.params ≡ w.params) w (record w { trace = change_first in_air (with_hit hit) w.trace }) (record { now = w.now; spoke = None })
+    ((is_none at || is_none from, NoSuchTap) ∷ (tap == speaker || not (has_place (find in_air w.trace) place), NothingInAir) ∷ [])
+    refl (λ _. refl)
+
+bus-start : (w : World) (tap : ℕ) (o : Option Tap) → (world_after w (step_start w tap o)).params ≡ w.params
+bus-start w tap None = refl
+bus-start w tap (Some t) =
+    world_after-unless (λ (x : World). x.params ≡ w.params) w (record w { taps = slice_set w.taps tap (started_tap w tap t) }) (record { now = w.now; spoke = None })
+    ((t.running || list_any (is_in_air_by w.params.ttd w.now tap) w.trace, Running) ∷ [])
+    refl (λ _. refl)
+
+bus-stop : (w : World) (tap : ℕ) (o : Option Tap) → (world_after w (step_stop w tap o)).params ≡ w.params
+bus-stop w tap None = refl
+bus-stop w tap (Some t) =
+    world_after-unless (λ (x : World). x.params ≡ w.params) w (record w { trace = map (cut_at w.now tap) w.trace; taps = slice_set w.taps tap (halted t) }) (record { now = w.now; spoke = None })
+    ((not t.running, NotRunning) ∷ []) refl (λ _. refl)
+
+bus-queue : (w : World) (tap : ℕ) (r : RequestFields) (o : Option Tap) → (world_after w (step_queue w tap r o)).params ≡ w.params
+bus-queue w tap r None = refl
+bus-queue w tap r (Some t) =
+    world_after-unless (λ (x : World). x.params ≡ w.params) w (record w { taps = slice_set w.taps tap (record t { station = pushed t.station r }) }) (record { now = w.now; spoke = None })
+    ((not (t.running && t.spec.master), NotRunning) ∷ (nat_le queue_limit (length (list_for t.station.cycles.queue r)), QueueFull) ∷ [])
+    refl (λ _. refl)
+
+bus-noise : (w : World) (bits : ℕ) (noisy : Bool) → (world_after w (step_noise w bits noisy)).params ≡ w.params
+bus-noise w bits noisy =
+    world_after-unless (λ (x : World). x.params ≡ w.params) w (record w { trace = with_noise w.now (w.now + bits) noisy w.trace }) (record { now = w.now; spoke = None })
+    ((bits == 0, ZeroTime) ∷ (not noisy && nat_le trace_limit (length w.trace), TraceFull) ∷ []) refl (λ _. refl)
+
+bus-unheard : (w : World) (tap speaker : ℕ) (at from : Option Tap) → (world_after w (step_unheard w tap speaker at from)).params ≡ w.params
+bus-unheard w tap speaker at from =
+    let begins = begins_from w.now speaker in
+    world_after-unless (λ (x : World). x.params ≡ w.params) w (record w { trace = change_first begins (unheard_at tap) w.trace }) (record { now = w.now; spoke = None })
+    ((is_none at || is_none from, NoSuchTap) ∷ (tap == speaker || not (list_any begins w.trace), NothingInAir) ∷ [])
+    refl (λ _. refl)
+
+bus-step : (w : World) (e : Event) → (world_after w (step w e)).params ≡ w.params
+bus-step w (Turn tap) = bus-turn w tap (slice_get w.taps tap)
+bus-step w (Pass d) = bus-pass w d
+bus-step w (Damage tap speaker place) = bus-damage w tap speaker place (slice_get w.taps tap) (slice_get w.taps speaker)
+bus-step w (Start tap) = bus-start w tap (slice_get w.taps tap)
+bus-step w (Stop tap) = bus-stop w tap (slice_get w.taps tap)
+bus-step w (Queue tap r) = bus-queue w tap r (slice_get w.taps tap)
+bus-step w (Noise bits) = bus-noise w bits (is_noisy w)
+bus-step w (Unheard tap speaker) = bus-unheard w tap speaker (slice_get w.taps tap) (slice_get w.taps speaker)
+
+same-params : (w next : World) (e : Event) (reply : Reply) → step w e ≡ Ok (next, reply) → next.params ≡ w.params
+same-params w next e reply ok = subst (λ (r : Result (World × Reply) Fault). (world_after w r).params ≡ w.params) ok (bus-step w e)
+
+-- as many taps stay
+
+told-length : (delay : ℕ) (trace : List Entry) (from to tap : ℕ) (ts : List Tap) → length (told delay trace from to tap ts) ≡ length ts
+told-length delay trace from to tap [] = refl
+told-length delay trace from to tap (t ∷ ts) = omega (arith, told-length delay trace from to (tap + 1) ts)
+
+taps-turn : (w : World) (tap : ℕ) (o : Option Tap) → length ((world_after w (step_turn w tap o)).taps) ≡ length w.taps
+taps-turn w tap None = refl
+taps-turn w tap (Some t) =
+    let turn = turn_of w.params t.station t.marks w.now in
+    world_after-unless (λ (x : World). length x.taps ≡ length w.taps) w
+    (record w { trace = with_said tap turn.1 w.now w.taps w.trace; taps = slice_set w.taps tap (record t { station = turn.0; marks = [] }) })
+    (record { now = w.now; spoke = turn.1 })
+    ((not t.running, NotRunning) ∷ (is_some turn.1 && nat_le trace_limit (length w.trace), TraceFull) ∷ [])
+    refl (λ _. length-set w.taps tap (record t { station = turn.0; marks = [] }))
+
+taps-pass : (w : World) (d : ℕ) → length ((world_after w (step_pass w d)).taps) ≡ length w.taps
+taps-pass w d =
+    let now = w.now + d in
+    let taps = told w.params.ttd w.trace w.now now 0 w.taps in
+    world_after-unless (λ (x : World). length x.taps ≡ length w.taps) w (record w { now = now; taps = taps; trace = map (entry_at w.params.ttd w.taps w.trace w.now now) w.trace })
+    (record { now = now; spoke = None }) (pass_faults w d taps) refl (λ _. told-length w.params.ttd w.trace w.now now 0 w.taps)
+
+taps-damage : (w : World) (tap speaker : ℕ) (place : Option ℕ) (at from : Option Tap) → length ((world_after w (step_damage w tap speaker place at from)).taps) ≡ length w.taps
+taps-damage w tap speaker place at from =
+    let in_air = is_in_air_by w.params.ttd w.now speaker in
+    let hit : Hit = record { tap = tap; place = place } in
+    world_after-unless (λ (x : World). length x.taps ≡ length w.taps) w (record w { trace = change_first in_air (with_hit hit) w.trace }) (record { now = w.now; spoke = None })
+    ((is_none at || is_none from, NoSuchTap) ∷ (tap == speaker || not (has_place (find in_air w.trace) place), NothingInAir) ∷ [])
+    refl (λ _. refl)
+
+taps-start : (w : World) (tap : ℕ) (o : Option Tap) → length ((world_after w (step_start w tap o)).taps) ≡ length w.taps
+taps-start w tap None = refl
+taps-start w tap (Some t) =
+    world_after-unless (λ (x : World). length x.taps ≡ length w.taps) w (record w { taps = slice_set w.taps tap (started_tap w tap t) }) (record { now = w.now; spoke = None })
+    ((t.running || list_any (is_in_air_by w.params.ttd w.now tap) w.trace, Running) ∷ [])
+    refl (λ _. length-set w.taps tap (started_tap w tap t))
+
+taps-stop : (w : World) (tap : ℕ) (o : Option Tap) → length ((world_after w (step_stop w tap o)).taps) ≡ length w.taps
+taps-stop w tap None = refl
+taps-stop w tap (Some t) =
+    world_after-unless (λ (x : World). length x.taps ≡ length w.taps) w (record w { trace = map (cut_at w.now tap) w.trace; taps = slice_set w.taps tap (halted t) }) (record { now = w.now; spoke = None })
+    ((not t.running, NotRunning) ∷ []) refl (λ _. length-set w.taps tap (halted t))
+
+taps-queue : (w : World) (tap : ℕ) (r : RequestFields) (o : Option Tap) → length ((world_after w (step_queue w tap r o)).taps) ≡ length w.taps
+taps-queue w tap r None = refl
+taps-queue w tap r (Some t) =
+    world_after-unless (λ (x : World). length x.taps ≡ length w.taps) w (record w { taps = slice_set w.taps tap (record t { station = pushed t.station r }) }) (record { now = w.now; spoke = None })
+    ((not (t.running && t.spec.master), NotRunning) ∷ (nat_le queue_limit (length (list_for t.station.cycles.queue r)), QueueFull) ∷ [])
+    refl (λ _. length-set w.taps tap (record t { station = pushed t.station r }))
+
+taps-noise : (w : World) (bits : ℕ) (noisy : Bool) → length ((world_after w (step_noise w bits noisy)).taps) ≡ length w.taps
+taps-noise w bits noisy =
+    world_after-unless (λ (x : World). length x.taps ≡ length w.taps) w (record w { trace = with_noise w.now (w.now + bits) noisy w.trace }) (record { now = w.now; spoke = None })
+    ((bits == 0, ZeroTime) ∷ (not noisy && nat_le trace_limit (length w.trace), TraceFull) ∷ []) refl (λ _. refl)
+
+taps-unheard : (w : World) (tap speaker : ℕ) (at from : Option Tap) → length ((world_after w (step_unheard w tap speaker at from)).taps) ≡ length w.taps
+taps-unheard w tap speaker at from =
+    let begins = begins_from w.now speaker in
+    world_after-unless (λ (x : World). length x.taps ≡ length w.taps) w (record w { trace = change_first begins (unheard_at tap) w.trace }) (record { now = w.now; spoke = None })
+    ((is_none at || is_none from, NoSuchTap) ∷ (tap == speaker || not (list_any begins w.trace), NothingInAir) ∷ [])
+    refl (λ _. refl)
+
+taps-step : (w : World) (e : Event) → length ((world_after w (step w e)).taps) ≡ length w.taps
+taps-step w (Turn tap) = taps-turn w tap (slice_get w.taps tap)
+taps-step w (Pass d) = taps-pass w d
+taps-step w (Damage tap speaker place) = taps-damage w tap speaker place (slice_get w.taps tap) (slice_get w.taps speaker)
+taps-step w (Start tap) = taps-start w tap (slice_get w.taps tap)
+taps-step w (Stop tap) = taps-stop w tap (slice_get w.taps tap)
+taps-step w (Queue tap r) = taps-queue w tap r (slice_get w.taps tap)
+taps-step w (Noise bits) = taps-noise w bits (is_noisy w)
+taps-step w (Unheard tap speaker) = taps-unheard w tap speaker (slice_get w.taps tap) (slice_get w.taps speaker)
+
+pub many-taps : (w next : World) (e : Event) (reply : Reply) → step w e ≡ Ok (next, reply) → length next.taps ≡ length w.taps
+many-taps w next e reply ok = subst (λ (r : Result (World × Reply) Fault). length (world_after w r).taps ≡ length w.taps) ok (taps-step w e)
+
+stands-next : (v : Watched) (c : Course) (next : World) (e : Event) (reply : Reply) → step c.world e ≡ Ok (next, reply) → StandsFor v c
     → StandsFor (watched_after v c.world e next) (followed c e (Ok (next, reply)))
-stands-next v c next e reply sound kept ok stands =
+stands-next v c next e reply ok stands =
     let new = waited_by next 0 next.taps in
     let all = new-waited next 0 next.taps in
     let later = later-world c.world next e reply ok in
     let delay = next.params.ttd in
-    let zero : delay ≡ 0 = kept.no_delay in
+    let bus : c.world.params.ttd ≡ delay = sym (ap (λ (p : Params). p.ttd) (same-params c.world next e reply ok)) in
+    let decides : c.broken ≡ None → (one : Waited) → c.world.now ≤ one.moment → list_any (meets delay one) c.waited ≡ meets_last delay one v.waited =
+    λ none one at. subst (λ (d : ℕ). list_any (meets d one) c.waited ≡ meets_last d one v.waited) bus (stands.decides none one at) in
     let same : c.broken ≡ None → two_have_waited delay new (new ++ c.waited) ≡ new_meet delay new v.waited =
-    λ none. subst (λ (d : ℕ). two_have_waited d new (new ++ c.waited) ≡ new_meet d new v.waited) (sym zero)
-    (two-meet 0 next.now new c.waited v.waited all (λ one at. stands.decides none one (omega (arith, later)))) in
+    λ none. two-meet delay next.now new c.waited v.waited all (λ one at. decides none one (omega (arith, later))) in
     record {
-      quiet = ap (λ (n : ℕ). if passes_busy c.world e then next.now else n) stands.quiet ∙ sym (quiet-step c.world next e reply sound ok);
       broken = ap (λ (o : Option Broken). broken_or o next.now (first_number (has_namesakes next.taps) (loses e) (comes_late c.world e) (new_meet delay new v.waited))) stands.broken
           ∙ sym (broken-same c.broken next.now (has_namesakes next.taps) (loses e) (comes_late c.world e) (two_have_waited delay new (new ++ c.waited)) (new_meet delay new v.waited) same);
       before = last-before c.world.now next.now new v.waited later all stands.before;
       decides = λ none one from.
           let parts = broken-none c.broken next.now (broken_by c.world e next new (new ++ c.waited)) none in
           let unmet = none-met (has_namesakes next.taps) (loses e) (comes_late c.world e) (two_have_waited delay new (new ++ c.waited)) parts.1 in
-          let apart = subst (λ (d : ℕ). new_meet d new v.waited ≡ false) zero (sym (same parts.0) ∙ unmet) in
-          last-decides c.world.now next.now new c.waited v.waited later all stands.before apart (λ x at. stands.decides parts.0 x at) one from;
+          last-decides delay c.world.now next.now new c.waited v.waited later all stands.before (sym (same parts.0) ∙ unmet) (λ x at. decides parts.0 x at) one from;
     }
 
 -- an event that is accepted leads to what stands for it
-pub stands-followed : (v : Watched) (c : Course) (next : World) (e : Event) (reply : Reply) → IsSound c.world → IsSound next → step c.world e ≡ Ok (next, reply) → StandsFor v c
+pub stands-followed : (v : Watched) (c : Course) (next : World) (e : Event) (reply : Reply) → step c.world e ≡ Ok (next, reply) → StandsFor v c
     → StandsFor (watched_after v c.world e next) (followed c e (step c.world e))
-stands-followed v c next e reply sound kept ok stands =
-    subst (λ (r : Result (World × Reply) Fault). StandsFor (watched_after v c.world e next) (followed c e r)) (sym ok) (stands-next v c next e reply sound kept ok stands)
+stands-followed v c next e reply ok stands =
+    subst (λ (r : Result (World × Reply) Fault). StandsFor (watched_after v c.world e next) (followed c e r)) (sym ok) (stands-next v c next e reply ok stands)
 
--- before the first event nothing has been active, and no tap has waited
-pub stands-new : (w : World) → w.now ≡ 0 → w.trace ≡ [] → StandsFor (record { quiet = w.now; waited = None; broken = None }) (record { world = w; waited = []; broken = None })
-stands-new w start empty = record {
-  quiet = start ∙ ap (quiet_at w.now) (sym empty);
+-- before the first event no tap has waited
+pub stands-new : (w : World) → StandsFor (record { waited = None; broken = None }) (record { world = w; waited = []; broken = None })
+stands-new w = record {
   broken = refl;
   before = tt;
   decides = λ none one from. refl;

@@ -1,9 +1,10 @@
--- The first illegal initiator record in one pass over a trace: what has to be known of the entries before the next. On a bus without a cable delay, for a trace that stands by begin.
-use Rattle.std.specs.Prelude.{ℕ, ◌+◌, ◌-◌, ◌≤◌, ◌<◌, Bool, true, if◌then◌else◌, ◌==◌, nat_lt, nat_le, ◌&&◌, ◌||◌, not, max, List, [], ◌∷◌, slice_get, Option, Some, None}
+-- The first illegal initiator record in one pass over a trace that stands by begin: each record is judged by the entries before it.
+use Rattle.std.specs.Prelude.{ℕ, ◌+◌, ◌-◌, ◌≤◌, ◌<◌, Bool, true, if◌then◌else◌, ◌==◌, nat_lt, nat_le, ◌&&◌, ◌||◌, not, max, List, [], ◌∷◌, ◌++◌, slice_get, Option, Some, None}
 use Rattle.pb_timers.specs.Timers.{Params, tto}
 use Rattle.pb_model.specs.Trace.{Record, Entry, Sent, Noise, entry_begin, entry_end}
-use Rattle.pb_model.specs.Medium.{TapSpec}
+use Rattle.pb_model.specs.Medium.{TapSpec, reaches_taps}
 use Rattle.pb_model.specs.World.{World}
+use Rattle.pb_theorem.specs.Activity.{active_at, is_within, is_silent}
 use Rattle.pb_theorem.specs.Initiators.{telegram_of, is_initiator, offered_to, claims_for}
 use Rattle.pb_theorem.specs.Legality.{is_whole, address_at}
 
@@ -24,47 +25,41 @@ StandsFrom from (e ∷ es) = (from ≤ entry_begin e) × StandsFrom (entry_begin
 abbrev pub Stands : World → Type 0
 Stands w = StandsFrom 0 w.trace
 
--- the ends of some entries: when the newest began, the latest end of those that began before it, and the latest end of all
-pub record Ends : Type 0 where
-  pub newest : ℕ
-  pub before : ℕ
-  pub latest : ℕ
+-- the latest end of some entries at a tap
+abbrev pub latest_end : (delay tap : ℕ) → List Entry → ℕ
+latest_end delay tap [] = 0
+latest_end delay tap (e ∷ es) = max (active_at delay tap e).end (latest_end delay tap es)
 
-abbrev pub no_ends : Ends
-no_ends = record { newest = 0; before = 0; latest = 0 }
+-- some entries have begun at all taps before a moment
+abbrev pub AllReached : (delay moment : ℕ) → List Entry → Type 0
+AllReached delay moment [] = Unit {0}
+AllReached delay moment (e ∷ es) = ((reaches_taps delay e).begin < moment) × AllReached delay moment es
 
--- the latest end of the entries that began before the next one
-abbrev pub end_before : Ends → ℕ → ℕ
-end_before ends begin = if nat_lt ends.newest begin then ends.latest else ends.before
-
--- the ends with one entry more
-abbrev pub with_end : Ends → Entry → Ends
-with_end ends e = record { newest = entry_begin e; before = end_before ends (entry_begin e); latest = max ends.latest (entry_end e) }
-
--- the last initiator record, and whether nothing was in the slot behind it so far
+-- the last initiator record, and whether nothing was active at its speaker in the slot behind it so far
 pub record LastInitiator : Type 0 where
   pub telegram : Record
   pub silent : Bool
 
--- an entry is there before a moment, and after another
-abbrev pub is_between : ℕ → ℕ → Entry → Bool
-is_between from to e = nat_lt (entry_begin e) to && nat_lt from (entry_end e)
+-- an entry is active at the speaker of a telegram in the slot behind it
+abbrev pub is_in_slot : (delay tsl : ℕ) → Record → Entry → Bool
+is_in_slot delay tsl r e = is_within r.end (r.end + tsl) (active_at delay r.tap e)
 
 -- the last initiator record behind an entry that is none
-abbrev pub slot_after : ℕ → Entry → Option LastInitiator → Option LastInitiator
-slot_after tsl e None = None
-slot_after tsl e (Some last) = Some (record last { silent = last.silent && not (is_between last.telegram.end (last.telegram.end + tsl) e) })
+abbrev pub slot_after : (delay tsl : ℕ) → Entry → Option LastInitiator → Option LastInitiator
+slot_after delay tsl e None = None
+slot_after delay tsl e (Some last) = Some (record last { silent = last.silent && not (is_in_slot delay tsl last.telegram e) })
 
--- the last initiator record behind an entry, with the ends behind it
-abbrev pub last_after : ℕ → Ends → Option LastInitiator → Entry → Option LastInitiator
-last_after tsl ends last (Noise span) = slot_after tsl (Noise span) last
-last_after tsl ends last (Sent r) = if is_initiator r then Some (record { telegram = r; silent = nat_le ends.latest r.end }) else slot_after tsl (Sent r) last
+-- the last initiator record behind an entry, which has those before it
+abbrev pub last_after : (delay tsl : ℕ) → List Entry → Option LastInitiator → Entry → Option LastInitiator
+last_after delay tsl earlier last (Noise span) = slot_after delay tsl (Noise span) last
+last_after delay tsl earlier last (Sent r) =
+    if is_initiator r then Some (record { telegram = r; silent = is_silent delay r.tap earlier r.end (r.end + tsl) }) else slot_after delay tsl (Sent r) last
 
--- a claim, where the entries before it have these ends
-abbrev pub claims_after : Params → List TapSpec → Ends → Record → Bool
-claims_after p specs ends r =
+-- a claim, by the entries before it
+abbrev pub claims_after : Params → List TapSpec → List Entry → Record → Bool
+claims_after p specs earlier r =
     let address = address_at specs r.tap in
-    claims_for address (telegram_of r) && nat_le (end_before ends r.begin) (r.begin - tto p address)
+    claims_for address (telegram_of r) && is_silent p.ttd r.tap earlier (r.begin - tto p address) r.begin
 
 abbrev pub takes_after : Params → List TapSpec → LastInitiator → ℕ → Record → Bool
 takes_after p specs last to r =
@@ -75,19 +70,19 @@ abbrev pub goes_on_after : Params → List TapSpec → LastInitiator → Option 
 goes_on_after p specs last None r = last.telegram.tap == r.tap
 goes_on_after p specs last (Some to) r = takes_after p specs last to r
 
-abbrev pub may_follow : Params → List TapSpec → Ends → Option LastInitiator → Record → Bool
-may_follow p specs ends None r = claims_after p specs ends r
-may_follow p specs ends (Some last) r =
-    nat_le last.telegram.end r.begin && (goes_on_after p specs last (offered_to last.telegram) r || claims_after p specs ends r)
+abbrev pub may_follow : Params → List TapSpec → List Entry → Option LastInitiator → Record → Bool
+may_follow p specs earlier None r = claims_after p specs earlier r
+may_follow p specs earlier (Some last) r =
+    nat_le last.telegram.end r.begin && (goes_on_after p specs last (offered_to last.telegram) r || claims_after p specs earlier r)
 
 -- whether an entry is no illegal initiator record
-abbrev pub may_come : Params → List TapSpec → Ends → Option LastInitiator → Entry → Bool
-may_come p specs ends last (Noise span) = true
-may_come p specs ends last (Sent r) = not (is_initiator r) || may_follow p specs ends last r
+abbrev pub may_come : Params → List TapSpec → List Entry → Option LastInitiator → Entry → Bool
+may_come p specs earlier last (Noise span) = true
+may_come p specs earlier last (Sent r) = not (is_initiator r) || may_follow p specs earlier last r
 
--- the position of the first entry that may not come, the first of them at a position
-abbrev pub judged_from : Params → List TapSpec → Ends → Option LastInitiator → ℕ → List Entry → Option ℕ
-judged_from p specs ends last place [] = None
-judged_from p specs ends last place (e ∷ es) =
-    if may_come p specs ends last e then judged_from p specs (with_end ends e) (last_after p.tsl (with_end ends e) last e) (place + 1) es
+-- the position of the first entry that may not come behind some, the first of them at a position
+abbrev pub judged_from : Params → List TapSpec → List Entry → Option LastInitiator → ℕ → List Entry → Option ℕ
+judged_from p specs earlier last place [] = None
+judged_from p specs earlier last place (e ∷ es) =
+    if may_come p specs earlier last e then judged_from p specs (earlier ++ e ∷ []) (last_after p.ttd p.tsl earlier last e) (place + 1) es
     else Some place

@@ -1,5 +1,5 @@
 -- The rules of the bus parameters: each fault with the test of its condition, in order.
-use Rattle.std.specs.Prelude.{◌≡◌, ℕ, ◌+◌, ◌≤◌, ◌<◌, Bool, nat_lt, nat_le, not, ◌&&◌, List, [], ◌∷◌}
+use Rattle.std.specs.Prelude.{◌≡◌, ℕ, ◌+◌, ◌*◌, ◌≤◌, ◌<◌, Bool, nat_lt, nat_le, not, ◌&&◌, List, [], ◌∷◌}
 use Rattle.pb_timers.specs.Timers.{Params}
 use Rattle.pb_timers.specs.declared.params.ParamFault.{ParamFault}
 use Rattle.pb_timers.specs.declared.params.ParamFault.TheVariants.{Slot, IdleShort, IdleOrder, ReplyShort, Rotation, GapFactor, Highest, Retries, TakeLate, ReplyLate}
@@ -8,9 +8,9 @@ use Rattle.pb_timers.specs.declared.params.ParamFault.TheVariants.{Slot, IdleSho
 abbrev pub is_outside : ℕ → ℕ → ℕ → Bool
 is_outside low high n = not (nat_le low n && nat_le n high)
 
--- a take, and a reply, come after the slot
-abbrev pub late_faults : (tsl tid2 tsdr lag : ℕ) → List (Bool × ParamFault)
-late_faults tsl tid2 tsdr lag = (nat_le tsl (tid2 + lag), TakeLate) ∷ (nat_le tsl (tsdr + lag), ReplyLate) ∷ []
+-- a take, and a reply, come after the slot: what asks for them has taken a cable delay to get there, and they take one back
+abbrev pub late_faults : (tsl tid2 tsdr lag ttd : ℕ) → List (Bool × ParamFault)
+late_faults tsl tid2 tsdr lag ttd = (nat_le tsl (tid2 + lag + 2 * ttd), TakeLate) ∷ (nat_le tsl (tsdr + lag + 2 * ttd), ReplyLate) ∷ []
 
 abbrev pub param_faults : Params → List (Bool × ParamFault)
 param_faults p =
@@ -22,9 +22,9 @@ param_faults p =
     ∷ (is_outside 1 100 p.gap, GapFactor)
     ∷ (is_outside 2 126 p.hsa, Highest)
     ∷ (nat_lt 7 p.retries, Retries)
-    ∷ late_faults p.tsl p.tid2 p.tsdr p.lag
+    ∷ late_faults p.tsl p.tid2 p.tsdr p.lag p.ttd
 
--- parameters that meet all ten rules, without a cable delay
+-- parameters that meet all ten rules
 pub record IsValid (p : Params) : Type 0 where
   pub slot_long : 100 ≤ p.tsl
   pub slot_short : p.tsl ≤ 16383
@@ -38,6 +38,5 @@ pub record IsValid (p : Params) : Type 0 where
   pub highest_some : 2 ≤ p.hsa
   pub highest_station : p.hsa ≤ 126
   pub retries_bound : p.retries ≤ 7
-  pub take_in_time : p.tid2 + p.lag < p.tsl
-  pub reply_in_time : p.tsdr + p.lag < p.tsl
-  pub no_delay : p.ttd ≡ 0
+  pub take_in_time : p.tid2 + p.lag + 2 * p.ttd < p.tsl
+  pub reply_in_time : p.tsdr + p.lag + 2 * p.ttd < p.tsl

@@ -13,7 +13,7 @@ params_of b = record {
   gap = b.gap;
   hsa = b.hsa;
   retries = b.retries;
-  ttd = 0;
+  ttd = b.ttd;
 }
 
 abbrev pub params_inside : Params → Inside
@@ -27,4 +27,5 @@ params_inside p = record {
   gap = p.gap;
   hsa = p.hsa;
   retries = p.retries;
+  ttd = p.ttd;
 }

@@ -11,7 +11,7 @@ pub record Params : Type 0 where
   pub gap : ℕ  -- GAP factor
   pub hsa : ℕ  -- highest station address
   pub retries : ℕ  -- retries of a message cycle
-  pub ttd : ℕ  -- how long a telegram takes to the other taps; 0 until there is a cable delay
+  pub ttd : ℕ  -- cable delay: how long a telegram takes to the other taps
 
 -- the time-out of a station: how long it waits in silence before it claims the token
 abbrev pub tto : Params → ℕ → ℕ

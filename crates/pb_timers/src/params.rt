@@ -34,10 +34,10 @@ pub enum ParamFault {
     /// 8: there are more than 7 retries.
     #[error("Retries")]
     Retries,
-    /// 9: idle time 2 and the lag reach the slot time.
+    /// 9: idle time 2, the lag and twice the cable delay reach the slot time.
     #[error("TakeLate")]
     TakeLate,
-    /// 10: the reply delay and the lag reach the slot time.
+    /// 10: the reply delay, the lag and twice the cable delay reach the slot time.
     #[error("ReplyLate")]
     ReplyLate,
 }
@@ -77,6 +77,7 @@ pub struct BusParams {
     gap: u32,
     hsa: u32,
     retries: u32,
+    ttd: u32,
 }
 
 impl Model for BusParams {
@@ -101,15 +102,17 @@ fn is_outside(low: u32, high: u32, number: u32) -> bool
     number < low || number > high
 }
 
-/// Refuses a take or a reply that may come after a slot: the idle time 2, and the reply delay, with the lag.
-fn refuse_late(tsl: u32, tid2: u32, tsdr: u32, lag: u32) -> Result<(), ParamFault>
-    ensures in_time { IfOk result (λ _. first_fault (late_faults tsl tid2 tsdr lag) ≡ None) }
-    ensures fault { IfErr result (λ fault. first_fault (late_faults tsl tid2 tsdr lag) ≡ Some fault) }
+/// Refuses a take or a reply that may come after a slot: the idle time 2, and the reply delay, with the lag and the
+/// cable delay there and back.
+fn refuse_late(tsl: u32, tid2: u32, tsdr: u32, lag: u32, ttd: u32) -> Result<(), ParamFault>
+    ensures in_time { IfOk result (λ _. first_fault (late_faults tsl tid2 tsdr lag ttd) ≡ None) }
+    ensures fault { IfErr result (λ fault. first_fault (late_faults tsl tid2 tsdr lag ttd) ≡ Some fault) }
 {
-    if u64::from(tid2) + u64::from(lag) >= u64::from(tsl) {
+    let (tsl, lag, there_and_back) = (u64::from(tsl), u64::from(lag), 2 * u64::from(ttd));
+    if u64::from(tid2) + lag + there_and_back >= tsl {
         return Err(ParamFault::TakeLate);
     }
-    if u64::from(tsdr) + u64::from(lag) >= u64::from(tsl) {
+    if u64::from(tsdr) + lag + there_and_back >= tsl {
         return Err(ParamFault::ReplyLate);
     }
     Ok(())
@@ -121,8 +124,8 @@ impl BusParams {
     /// Parameters that meet all ten rules, or the least fault that applies.
     ///
     /// The arguments are the slot time, idle times 1 and 2, the reply delay, the take lag and the
-    /// target rotation time in bit times, the GAP factor, the highest station address, and the
-    /// retries of a cycle.
+    /// target rotation time in bit times, the GAP factor, the highest station address, the retries of
+    /// a cycle, and the cable delay in bit times: how much later a telegram is at the taps of others.
     #[expect(clippy::too_many_arguments)]
     pub fn new(
         tsl: u32,
@@ -134,6 +137,7 @@ impl BusParams {
         gap: u32,
         hsa: u32,
         retries: u32,
+        ttd: u32,
     ) -> Result<BusParams, ParamFault>
         ensures value { IfOk result (λ p. p ≡ record {
           tsl = tsl;
@@ -145,7 +149,7 @@ impl BusParams {
           gap = gap;
           hsa = hsa;
           retries = retries;
-          ttd = 0;
+          ttd = ttd;
         }) }
         ensures valid { IfOk result (λ p. first_fault (param_faults p) ≡ None) }
         ensures fault { IfErr result (λ fault. first_fault (param_faults (record {
@@ -158,7 +162,7 @@ impl BusParams {
           gap = gap;
           hsa = hsa;
           retries = retries;
-          ttd = 0;
+          ttd = ttd;
         })) ≡ Some fault) }
     {
         if is_outside(100, 16_383, tsl) {
@@ -185,7 +189,7 @@ impl BusParams {
         if retries > 7 {
             return Err(ParamFault::Retries);
         }
-        refuse_late(tsl, tid2, tsdr, lag)?;
+        refuse_late(tsl, tid2, tsdr, lag, ttd)?;
         Ok(BusParams {
             tsl,
             tid1,
@@ -196,6 +200,7 @@ impl BusParams {
             gap,
             hsa,
             retries,
+            ttd,
         })
     }
 
@@ -212,6 +217,7 @@ impl BusParams {
             && other.gap == self.gap
             && other.hsa == self.hsa
             && other.retries == self.retries
+            && other.ttd == self.ttd
     }
 
     /// The slot time, in bit times.
@@ -277,6 +283,13 @@ impl BusParams {
         ensures valid { IsValid self.now }
     {
         self.retries
+    }
+
+    /// The cable delay, in bit times: how much later a telegram is at the taps of others.
+    pub fn ttd(&self) -> u32
+        ensures { result ≡ self.now.ttd }
+    {
+        self.ttd
     }
 
     /// The time-out of a station: how long it waits in silence before it claims the token,

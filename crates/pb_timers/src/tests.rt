@@ -1,10 +1,10 @@
 use super::*;
 use std::test::Fail;
 
-/// Slot time, idle times 1 and 2, reply delay, lag, rotation, GAP factor, highest address, retries.
-type Numbers = [u32; 9];
+/// Slot time, idle times 1 and 2, reply delay, lag, rotation, GAP factor, highest address, retries, cable delay.
+type Numbers = [u32; 10];
 
-const USUAL: Numbers = [100, 37, 60, 11, 0, 10_000, 10, 5, 1];
+const USUAL: Numbers = [100, 37, 60, 11, 0, 10_000, 10, 5, 1, 0];
 
 /// The usual numbers with one other.
 fn with(place: usize, number: u32) -> Numbers {
@@ -16,8 +16,8 @@ fn with(place: usize, number: u32) -> Numbers {
 }
 
 fn params(numbers: Numbers) -> Result<BusParams, ParamFault> {
-    let [tsl, tid1, tid2, tsdr, lag, ttr, gap, hsa, retries] = numbers;
-    BusParams::new(tsl, tid1, tid2, tsdr, lag, ttr, gap, hsa, retries)
+    let [tsl, tid1, tid2, tsdr, lag, ttr, gap, hsa, retries, ttd] = numbers;
+    BusParams::new(tsl, tid1, tid2, tsdr, lag, ttr, gap, hsa, retries, ttd)
 }
 
 #[test]
@@ -37,6 +37,8 @@ fn each_rule_has_its_fault(rt: HostRuntime) {
         (8, 8, ParamFault::Retries),
         (4, 40, ParamFault::TakeLate),
         (4, 4_294_967_295, ParamFault::TakeLate),
+        (9, 20, ParamFault::TakeLate),
+        (9, 4_294_967_295, ParamFault::TakeLate),
     ] {
         assert_eq!(rt;
             params(with(place, number)).err(),
@@ -44,9 +46,11 @@ fn each_rule_has_its_fault(rt: HostRuntime) {
             "{place}: {number}"
         );
     }
-    let late_reply = [100, 37, 60, 61, 39, 10_000, 10, 5, 1];
+    let late_reply = [100, 37, 60, 61, 39, 10_000, 10, 5, 1, 0];
     assert_eq!(rt; params(late_reply).err(), Some(ParamFault::ReplyLate));
-    let short_slot = [99, 37, 60, 11, 40, 10_000, 10, 5, 1];
+    let far_reply = [100, 33, 37, 60, 0, 10_000, 10, 5, 1, 20];
+    assert_eq!(rt; params(far_reply).err(), Some(ParamFault::ReplyLate));
+    let short_slot = [99, 37, 60, 11, 40, 10_000, 10, 5, 1, 0];
     assert_eq!(rt; params(short_slot).err(), Some(ParamFault::Slot));
 }
 
@@ -61,6 +65,8 @@ fn parameters_are_read_back(rt: HostRuntime) -> Result<(), Fail> {
         [bus.ttr(), bus.gap(), bus.hsa(), bus.retries()],
         [10_000, 10, 5, 1]
     );
+    assert_eq!(rt; bus.ttd(), 0);
+    assert_eq!(rt; params(with(9, 19))?.ttd(), 19);
     assert_eq!(rt; bus.tto(1), 800);
     assert_eq!(rt; bus.tto(2), 1000);
     assert_eq!(rt; params(with(0, 16_383))?.tto(126), 4_226_814);

@@ -24,7 +24,8 @@ use Rattle.pb_token.specs.Places.{LeavesTime, heard_span, IsOver, Place, Over}
 use Rattle.pb_token.specs.Views.{SeenBy, view, place, IsOn}
 use Rattle.pb_token.proofs.Lists.{each_map, each_both, each_without}
 use Rattle.pb_token.proofs.Live.{InTime, first_in_time, second_in_time, offline_marks, on_or_off, view_on}
-use Rattle.pb_token.proofs.Window.{EachSpan, from_spans, Solid, WindowOf, SensesS, window, SolidO}
+use Rattle.pb_model.proofs.Window.{EachSpan, Solid, WindowOf, SensesS, window, SolidO}
+use Rattle.pb_token.proofs.Spans.{from_spans}
 use Rattle.pb_token.proofs.Reading.{at_state, later, over_from}
 use Rattle.pb_token.proofs.Passing.{over_to, over_of, over_in, none_in, append_marks, due_new, seen_at_window, overdue, seen_new}
 use Rattle.pb_token.proofs.Speaking.{NewAt, new_sent, over_new, over_old}

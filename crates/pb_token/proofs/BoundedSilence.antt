@@ -22,7 +22,7 @@ use Rattle.pb_token.proofs.Live.{on_or_off}
 use Rattle.pb_token.proofs.Keeping.{fits_valid}
 use Rattle.pb_token.proofs.Alert.{IsApart}
 use Rattle.pb_token.proofs.Watching.{Watch, event_watches, new_watches}
-use Rattle.pb_token.proofs.Window.{not_false}
+use Rattle.pb_model.proofs.Window.{not_false}
 
 -- ---- silence, entry by entry
 

@@ -23,7 +23,8 @@ use Rattle.pb_token.proofs.Lists.{each_in}
 use Rattle.pb_theorem.specs.Initiators.{telegram_of, initiates, is_initiator, offered_by, offered_to}
 use Rattle.pb_theorem.specs.Legality.{is_whole}
 use Rattle.pb_token.proofs.Reading.{Brings}
-use Rattle.pb_token.proofs.Window.{EachSpan, Solid, to_spans, SolidO, not_false}
+use Rattle.pb_model.proofs.Window.{EachSpan, Solid, SolidO, not_false}
+use Rattle.pb_token.proofs.Spans.{to_spans}
 
 -- ---- no end is passed
 

@@ -20,7 +20,7 @@ fits_valid p v = record {
   slot = v.slot_long;
   idle = v.idle;
   idle_order = v.idle_order;
-  take = omega (arith, v.take_in_time, v.no_delay);
+  take = v.take_in_time;
   highest = (let h = v.highest_station in omega (arith, h));
 }
 

@@ -3,7 +3,7 @@ pub mod Pairs
 pub mod Speaking
 pub mod Live
 pub mod Turning
-pub mod Window
+pub mod Spans
 pub mod Reading
 pub mod Passing
 pub mod Alike

@@ -26,7 +26,8 @@ use Rattle.pb_token.specs.Places.{LeavesTime, heard_span, Place, IsSplit}
 use Rattle.pb_token.specs.Views.{Knows, IsOn}
 use Rattle.pb_token.specs.Entries.{TakesNone, JoinsNot, IsFreshIn, IsFresh}
 use Rattle.pb_token.proofs.Lists.{each_in}
-use Rattle.pb_token.proofs.Window.{EachSpan, from_spans, Solid, WindowOf, window, begin_found, end_found}
+use Rattle.pb_model.proofs.Window.{EachSpan, Solid, WindowOf, window, begin_found, end_found}
+use Rattle.pb_token.proofs.Spans.{from_spans}
 use Rattle.pb_token.proofs.Passing.{phase_at, senses_of}
 
 -- ---- marks leave a fresh station fresh

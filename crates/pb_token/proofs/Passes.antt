@@ -25,7 +25,7 @@ use Rattle.pb_token.specs.Views.{TapOk, view, place}
 use Rattle.pb_token.specs.Entries.{RecordOk, EntryOk, SpeakerOk, SpeaksOk, IsFresh, ComesBefore}
 use Rattle.pb_token.specs.Invariant.{Inv, Keeps}
 use Rattle.pb_token.proofs.Lists.{each_inside, each_in, each_map, each_both, each_mapped}
-use Rattle.pb_token.proofs.Window.{EachSpan, Solid}
+use Rattle.pb_model.proofs.Window.{EachSpan, Solid}
 use Rattle.pb_token.proofs.Passing.{knows_on, append_marks}
 use Rattle.pb_token.proofs.Brings.{HasLength, solid_sensed, is_past-earlier, later_end-bound, sent_same, relabel, relabelled, filling, Telling, Tells}
 use Rattle.pb_token.proofs.Passed.{phase_then, pass_taps, told_at}

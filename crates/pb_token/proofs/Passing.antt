@@ -23,7 +23,8 @@ use Rattle.pb_token.specs.Tokens.{Offers, Doomed}
 use Rattle.pb_token.specs.Views.{Waits, Armed, Awaits, ViewOf, Senses, Knows, KnowsIn, SeenBy, view, place, TapOk, IsOn}
 use Rattle.pb_token.proofs.Lists.{each_map, each_both}
 use Rattle.pb_token.proofs.Live.{offline_marks, on_or_off}
-use Rattle.pb_token.proofs.Window.{EachSpan, to_spans, from_spans, Solid, OverS, NoBegin, SensesS, WindowOf, window}
+use Rattle.pb_model.proofs.Window.{EachSpan, Solid, OverS, NoBegin, SensesS, WindowOf, window}
+use Rattle.pb_token.proofs.Spans.{to_spans, from_spans}
 use Rattle.pb_token.proofs.Reading.{later, recent_from, over_from, Reads, begin_reads, end_reads, Brings, Ends, BeginOk, at_state}
 
 -- ---- nothing is told

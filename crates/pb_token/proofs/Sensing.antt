@@ -34,7 +34,7 @@ use Rattle.pb_token.proofs.Starting.{span_new}
 use Rattle.pb_token.proofs.Queueing.{marks_queue}
 use Rattle.pb_token.proofs.Brings.{solid_sensed}
 use Rattle.pb_token.proofs.Passed.{told_at}
-use Rattle.pb_token.proofs.Window.{EachSpan, Solid, WindowOf, window}
+use Rattle.pb_model.proofs.Window.{EachSpan, Solid, WindowOf, window}
 use Rattle.pb_token.proofs.Reading.{later}
 use Rattle.pb_token.proofs.Passing.{over_to, over_of, over_in, none_in, append_marks, then_busy, alternate_in, offline_after}
 use Rattle.pb_token.proofs.Turning.{over_later}

@@ -26,7 +26,7 @@ use Rattle.pb_token.proofs.Pairs.{Public, Reaches, public_one, Lives, Speaks, Go
 use Rattle.pb_token.proofs.Speaking.{IsChecking}
 use Rattle.pb_token.proofs.Live.{holding_view}
 use Rattle.pb_token.proofs.Acting.{MayClaim, Grounds, ByToken, BySlot, BySilence}
-use Rattle.pb_token.proofs.Window.{or_right, both_true}
+use Rattle.pb_model.proofs.Window.{or_right, both_true}
 
 -- ---- what is over is public
 

@@ -125,7 +125,7 @@ const SHORT_ROTATION: &str = "\
 #[test]
 fn low_priority_waits_for_time(rt: HostRuntime) -> Result<(), Fail> {
     let alloc = rt.alloc();
-    let params = BusParams::new(100, 37, 60, 11, 0, 256, 10, 5, 1)?;
+    let params = BusParams::new(100, 37, 60, 11, 0, 256, 10, 5, 1, 0)?;
     let mut station = Station::new(alloc, 0, params, 1, true, ArrayVec::new())?;
     station.start(at(0)?);
     let station = play(alloc, station, CLAIMS)?;

@@ -17,7 +17,7 @@ returns-then-has_waited c =
     let left = left-at tap_of taps i t there c.index.ensures in (
       c.loop-tap.invariant.behind,
       omega (arith, there, length-map taps tap_of),
-      c.loop-tap.invariant.none ∙ waits-here w i (drop i w.taps) (drop (i + 1) w.taps) (tap_of t) left (sym (c.has_waited.ensures i) ∙ c.if-has_waited.true),
+      c.loop-tap.invariant.none ∙ waits-here w i (drop i w.taps) (drop (i + 1) w.taps) (tap_of t) left (sym c.has_waited.ensures ∙ c.if-has_waited.true),
     )
 
 pub loop-tap-preserved : goal.loop-tap-preserved
@@ -30,5 +30,5 @@ loop-tap-preserved c =
     let left = left-at tap_of taps i t there c.index.ensures in
     record {
       behind = omega (arith, c.loop-tap.invariant.behind);
-      none = c.loop-tap.invariant.none ∙ waits-later w i (drop i w.taps) (drop (i + 1) w.taps) (tap_of t) left (sym (c.has_waited.ensures i) ∙ c.if-has_waited.false);
+      none = c.loop-tap.invariant.none ∙ waits-later w i (drop i w.taps) (drop (i + 1) w.taps) (tap_of t) left (sym c.has_waited.ensures ∙ c.if-has_waited.false);
     }

@@ -6,11 +6,11 @@ use Rattle.pb_audit.proofs.Premising.{waited-is}
 use Rattle.pb_audit.proofs.premises.has_waited.Goals as goal
 
 pub returns : goal.returns
-returns c = λ position.
+returns c =
     let w = world_of c.args.bus.now in
     let t = tap_of c.args.tap.now in
     let timeout = c.tto-timeout.result in
     let is = c.tto-timeout.ensures.value ∙ ap (λ (n : ℕ). tto w.params n) c.address.ensures.value in
     c.has_waited_since.ensures
-    ∙ ap (λ (n : ℕ). t.running && t.spec.master && nat_le timeout (n - t.since) && nat_le timeout (n - c.get.result)) c.get-2.ensures.value
-    ∙ waited-is w position t c.get.result timeout c.requires.kept.sound.no_delay c.tto-timeout.ensures.valid is (c.get.ensures.value ∙ c.requires.silent)
+    ∙ ap (λ (n : ℕ). t.running && t.spec.master && nat_le timeout (n - t.since) && nat_le timeout (n - c.args.quiet)) c.get.ensures.value
+    ∙ waited-is w c.args.position t c.args.quiet timeout c.tto-timeout.ensures.valid is c.requires.silent

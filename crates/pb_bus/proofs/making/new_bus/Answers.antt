@@ -25,7 +25,7 @@ returns-clause-kept c =
     ∙ ap (λ es. Ok (made c.beginning.result es (map (stopped_tap p) specs))) (sym none)
     ∙ ap (λ ts. Ok (made c.beginning.result (entries_of c.new.result) ts)) (sym there) in
     record {
-      sound = sound-new_world p specs _ c.in_ok-check_taps.ensures.valid.no_delay c.in_ok-taps.ensures.fit new;
+      sound = sound-new_world p specs _ c.in_ok-taps.ensures.fit new;
       clock = omega (arith, c.beginning.ensures);
       room = omega (
         arith,
@@ -36,6 +36,6 @@ returns-clause-kept c =
         c.in_ok-check_taps.ensures.stations.0,
       );
       seats = c.in_ok-taps.ensures.seats;
-      cut = subst (λ over. IsCut c.beginning.result over (entries_of c.new.result)) (sym c.new.ensures.over) (0, omega arith, omega arith, tt, subst (AllFrom 0) (sym none) tt);
+      cut = subst (λ over. IsCut p.ttd c.beginning.result over (entries_of c.new.result)) (sym c.new.ensures.over) (0, omega arith, omega arith, tt, subst (AllFrom 0) (sym none) tt);
       ends = subst (AllBy last_end) (sym none) tt;
     }

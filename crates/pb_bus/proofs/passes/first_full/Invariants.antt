@@ -2,12 +2,11 @@
 use Rattle.std.proofs.Common.{◌≡◌, map, drop}
 use Rattle.pb_model.specs.Step as step
 use Rattle.pb_medium.specs.Entries.{entry_of}
-use Rattle.pb_bus.specs.Passes.{told_news}
-use Rattle.pb_medium.specs.Senses.{at_once}
+use Rattle.pb_model.specs.Step.{told}
 use Rattle.pb_taps.specs.Taps.{tap_of}
 use Rattle.pb_bus.proofs.passes.first_full.Given as goal
 
 abbrev pub invariant-loop-position : goal.invariant-loop-position
 invariant-loop-position l =
-    step.first_full 0 (told_news at_once (map entry_of l.entries) l.from l.to 0 (map tap_of l.taps))
-    ≡ step.first_full l.position (told_news at_once (map entry_of l.entries) l.from l.to l.position (map tap_of (drop l.position l.taps)))
+    step.first_full 0 (told l.delay (map entry_of l.entries) l.from l.to 0 (map tap_of l.taps))
+    ≡ step.first_full l.position (told l.delay (map entry_of l.entries) l.from l.to l.position (map tap_of (drop l.position l.taps)))

@@ -5,8 +5,9 @@ use Rattle.std.proofs.lemmas.List.{length-map}
 use Rattle.pb_model.specs.World.{mark_limit}
 use Rattle.pb_model.specs.Medium as model
 use Rattle.pb_medium.specs.Entries.{entry_of}
-use Rattle.pb_bus.specs.Passes.{news, with_news, told_news}
-use Rattle.pb_medium.specs.Senses.{at_once}
+use Rattle.pb_model.specs.Medium.{new_marks}
+use Rattle.pb_model.specs.Step.{told}
+use Rattle.pb_bus.specs.Passes.{with_news}
 use Rattle.pb_taps.specs.Taps.{seat_of, tap_of}
 use Rattle.pb_taps.proofs.Replacing.{changed-more, changed-at, changed-all}
 use Rattle.pb_bus.proofs.Passing.{told-length, told-at, room-for-news}
@@ -18,13 +19,13 @@ tell-requires c =
     let at = c.loop-position.position in
     let x = c.index-taps-position.result in
     let taps = map tap_of c.args.taps.now in
-    let new = told_news at_once trace c.args.from c.args.to 0 taps in
+    let new = told c.args.delay trace c.args.from c.args.to 0 taps in
     let long : length taps ≡ length c.args.taps.now = length-map c.args.taps.now tap_of in
     let is : tap_of (get_or c.loop-position.taps at x) ≡ get_or taps at (tap_of x) =
     changed-at tap_of new c.args.taps.now c.loop-position.taps at x c.loop-position.invariant.told
-    (told-length at_once trace c.args.from c.args.to 0 taps ∙ long) c.loop-position-test.true in
-    subst (λ (t : model.Tap). length t.marks + length (news at_once at t trace c.args.from c.args.to) ≤ mark_limit) (sym is)
-    (room-for-news at_once trace c.args.from c.args.to taps at (tap_of x) c.requires (omega (arith, long, c.loop-position-test.true)))
+    (told-length c.args.delay trace c.args.from c.args.to 0 taps ∙ long) c.loop-position-test.true in
+    subst (λ (t : model.Tap). length t.marks + length (new_marks c.args.delay at t trace c.args.from c.args.to) ≤ mark_limit) (sym is)
+    (room-for-news c.args.delay trace c.args.from c.args.to taps at (tap_of x) c.requires (omega (arith, long, c.loop-position-test.true)))
 
 pub loop-position-preserved : goal.loop-position-preserved
 loop-position-preserved c =
@@ -32,17 +33,17 @@ loop-position-preserved c =
     let at = c.loop-position.position in
     let x = c.index-taps-position.result in
     let taps = map tap_of c.args.taps.now in
-    let new = told_news at_once trace c.args.from c.args.to 0 taps in
+    let new = told c.args.delay trace c.args.from c.args.to 0 taps in
     let long : length taps ≡ length c.args.taps.now = length-map c.args.taps.now tap_of in
-    let same : length new ≡ length c.args.taps.now = told-length at_once trace c.args.from c.args.to 0 taps ∙ long in
+    let same : length new ≡ length c.args.taps.now = told-length c.args.delay trace c.args.from c.args.to 0 taps ∙ long in
     let is : tap_of (get_or c.loop-position.taps at x) ≡ get_or taps at (tap_of x) =
     changed-at tap_of new c.args.taps.now c.loop-position.taps at x c.loop-position.invariant.told same c.loop-position-test.true in
     let none : 0 + at ≡ at = omega arith in
     record {
       told = changed-more tap_of new c.args.taps.now c.loop-position.taps at c.tell.new.tap (tap_of x) c.loop-position.invariant.told same c.loop-position-test.true
           (c.tell.ensures.told
-          ∙ ap (λ (t : model.Tap). with_news at_once at t trace c.args.from c.args.to) is
-          ∙ sym (told-at at_once trace c.args.from c.args.to 0 taps at at (tap_of x) none (omega (arith, long, c.loop-position-test.true))));
+          ∙ ap (λ (t : model.Tap). with_news c.args.delay at t trace c.args.from c.args.to) is
+          ∙ sym (told-at c.args.delay trace c.args.from c.args.to 0 taps at at (tap_of x) none (omega (arith, long, c.loop-position-test.true))));
       seats = map-set_same seat_of c.loop-position.taps at c.tell.new.tap x c.tell.ensures.seat ∙ c.loop-position.invariant.seats;
     }
 
@@ -50,5 +51,5 @@ pub returns-clause-told : goal.returns-clause-told
 returns-clause-told c =
     let trace = map entry_of c.args.entries.now in
     let taps = map tap_of c.args.taps.now in
-    changed-all tap_of (told_news at_once trace c.args.from c.args.to 0 taps) c.args.taps.now c.loop-position.taps c.loop-position.position c.loop-position.invariant.told
-    (told-length at_once trace c.args.from c.args.to 0 taps ∙ length-map c.args.taps.now tap_of) (omega arith)
+    changed-all tap_of (told c.args.delay trace c.args.from c.args.to 0 taps) c.args.taps.now c.loop-position.taps c.loop-position.position c.loop-position.invariant.told
+    (told-length c.args.delay trace c.args.from c.args.to 0 taps ∙ length-map c.args.taps.now tap_of) (omega arith)

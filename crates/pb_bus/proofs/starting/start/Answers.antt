@@ -5,7 +5,6 @@ use Rattle.std.proofs.lemmas.Option.{same_Some, slice_get_within}
 use Rattle.pb_model.specs.Step.{reaches_now}
 use Rattle.pb_taps.specs.declared.taps.Tap.{Tap}
 use Rattle.pb_medium.specs.Entries.{entry_of}
-use Rattle.pb_medium.specs.Senses.{at_once}
 use Rattle.pb_bus.specs.Starting.{fresh_tap}
 use Rattle.pb_taps.proofs.Items.{found-at}
 use Rattle.pb_bus.proofs.starting.start.Goals as goal
@@ -23,5 +22,5 @@ returns-clause-ok c =
       can.2,
       ap (slice_set taps i)
           (c.start_tap.ensures ∙ ap (λ (y : Tap). fresh_tap y c.is_reached-amid.result c.args.now) (sym here.is ∙ same)
-          ∙ ap (λ (b : Bool). fresh_tap x b c.args.now) (c.is_reached-amid.ensures ∙ ap (λ n. list_any (reaches_now at_once i n) (map entry_of c.args.entries.now)) c.get.ensures.value)),
+          ∙ ap (λ (b : Bool). fresh_tap x b c.args.now) (c.is_reached-amid.ensures ∙ ap (λ n. list_any (reaches_now c.args.delay i n) (map entry_of c.args.entries.now)) c.get.ensures.value)),
     )

@@ -6,7 +6,6 @@ use Rattle.pb_model.specs.Step.{with_hit}
 use Rattle.pb_model.specs.Trace as trace
 use Rattle.pb_model.specs.World.{is_in_air_by}
 use Rattle.pb_medium.specs.Entries.{entry_of, hit_of}
-use Rattle.pb_medium.specs.Senses.{at_once}
 use Rattle.pb_medium.proofs.Hitting.{first-found, set-at}
 use Rattle.pb_taps.proofs.Items.{at-err}
 use Rattle.pb_medium.proofs.damaging.damage.Goals as goal
@@ -22,7 +21,7 @@ returns-in_ok-strike-in-Some-clause-ok c =
     let change = with_hit (hit_of c.args.hit) in
     let first = c.in-Some.ensures.place in
     let there : i < length xs = omega (arith, first.1, length-map xs entry_of) in
-    let here = first-found (is_in_air_by at_once c.args.now c.args.speaker) entry_of xs i c.index-entries-place.result first there c.index-entries-place.is in
+    let here = first-found (is_in_air_by c.args.delay c.args.now c.args.speaker) entry_of xs i c.index-entries-place.result first there c.index-entries-place.is in
     set-at entry_of xs i c.strike.new.entry there
     ∙ ap (λ (e : trace.Entry). take i (map entry_of xs) ++ e ∷ drop (i + 1) (map entry_of xs))
     (c.in_ok-strike-in-Some.ensures.ok ∙ ap (λ e. change (entry_of e)) (sym c.index-entries-place.is))

@@ -1,17 +1,16 @@
-use Rattle.std.proofs.Common.{ap, sym, ◌∙◌, ◌==◌, ◌||◌, not, Bool, true, false, refl, ◌≡◌, ◌<◌, length, arith}
+use Rattle.std.proofs.Common.{ap, sym, ◌∙◌, ◌==◌, ◌||◌, not, Bool, false, ◌<◌, length, arith}
 use Rattle.std.proofs.lemmas.Bool.{ne_eqb}
 use Rattle.std.proofs.lemmas.List.{length-map}
 use Rattle.pb_model.specs.Step.{has_place}
 use Rattle.pb_model.specs.World.{is_in_air_by}
 use Rattle.pb_medium.specs.Entries.{entry_of}
-use Rattle.pb_medium.specs.Senses.{at_once}
 use Rattle.pb_medium.proofs.Hitting.{first-found}
 use Rattle.pb_medium.proofs.damaging.target.Goals as goal
 use Rattle.std.proofs.Math.Bool.{or-true}
 
 pub returns-then-not-has_place-clause-none : goal.returns-then-not-has_place-clause-none
 returns-then-not-has_place-clause-none c = λ _.
-    let test = is_in_air_by at_once c.args.now c.args.speaker in
+    let test = is_in_air_by c.args.delay c.args.now c.args.speaker in
     let first = c.in_ok-place.ensures.place in
     let there : c.in_ok-place.place < length c.args.entries.now = omega (arith, first.1, length-map c.args.entries.now entry_of) in
     let here = first-found test entry_of c.args.entries.now c.in_ok-place.place c.index-entries-place.result first there c.index-entries-place.is in
@@ -20,7 +19,7 @@ returns-then-not-has_place-clause-none c = λ _.
 
 pub returns-clause-some : goal.returns-clause-some
 returns-clause-some c =
-    let test = is_in_air_by at_once c.args.now c.args.speaker in
+    let test = is_in_air_by c.args.delay c.args.now c.args.speaker in
     let first = c.in_ok-place.ensures.place in
     let there : c.in_ok-place.place < length c.args.entries.now = omega (arith, first.1, length-map c.args.entries.now entry_of) in
     let here = first-found test entry_of c.args.entries.now c.in_ok-place.place c.index-entries-place.result first there c.index-entries-place.is in

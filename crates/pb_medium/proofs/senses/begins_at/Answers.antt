@@ -7,14 +7,13 @@ use Rattle.std.specs.Option.{option_and_then}
 use Rattle.pb_model.specs.Medium.{at_tap, part_after, begins_at}
 use Rattle.pb_model.specs.Trace.{Entry}
 use Rattle.pb_medium.specs.Entries.{entry_of}
-use Rattle.pb_medium.specs.Senses.{at_once}
 use Rattle.pb_medium.proofs.Sensing.{filter_map-map}
 use Rattle.pb_medium.proofs.senses.begins_at.Goals as goal
 use borrow.Author.Tests.{tests}
 
 pub returns : goal.returns
 returns c =
-    let part = λ (e : Entry). option_and_then (part_after c.args.since) (at_tap at_once c.args.tap e) in
+    let part = λ (e : Entry). option_and_then (part_after c.args.since) (at_tap c.args.delay c.args.tap e) in
     any_from_yields_List (begins_at c.args.moment) _ _ _ c.any.ensures.ran
     (YieldsList-from_filter_map _ (λ e. part (entry_of e)) (YieldsList-from_slice c.args.entries.now cc) c.filter_map.ensures.closure (λ x r q k. search (rules, tests)))
     (λ x b q k. search (rules, tests))

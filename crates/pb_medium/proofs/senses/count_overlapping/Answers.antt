@@ -7,14 +7,13 @@ use Rattle.std.specs.Option.{option_and_then}
 use Rattle.pb_model.specs.Medium.{at_tap, part_after, overlaps}
 use Rattle.pb_model.specs.Trace.{Entry}
 use Rattle.pb_medium.specs.Entries.{entry_of}
-use Rattle.pb_medium.specs.Senses.{at_once}
 use Rattle.pb_medium.proofs.Sensing.{filter_map-map}
 use Rattle.pb_medium.proofs.senses.count_overlapping.Goals as goal
 use borrow.Author.Tests.{tests}
 
 pub returns : goal.returns
 returns c =
-    let part = λ (e : Entry). option_and_then (part_after c.args.since) (at_tap at_once c.args.tap e) in
+    let part = λ (e : Entry). option_and_then (part_after c.args.since) (at_tap c.args.delay c.args.tap e) in
     let test = overlaps c.args.span in
     count_from_yields_List c.filter.result _ c.count.ensures.ran
     (YieldsList-from_filter _ test (YieldsList-at c.filter.ensures.source

@@ -3,13 +3,12 @@ use Rattle.std.proofs.lemmas.Iterator.{YieldsList-from_slice}
 use Rattle.std.proofs.lemmas.Iterator.Search.{any_from_yields_List}
 use Rattle.pb_model.specs.Step.{reaches_now}
 use Rattle.pb_medium.specs.Entries.{entry_of}
-use Rattle.pb_medium.specs.Senses.{at_once}
 use Rattle.pb_medium.proofs.Sensing.{list_any-map}
 use Rattle.pb_medium.proofs.senses.is_reached.Goals as goal
 use borrow.Author.Tests.{tests}
 
 pub returns : goal.returns
 returns c =
-    let test = reaches_now at_once c.args.tap c.args.now in
+    let test = reaches_now c.args.delay c.args.tap c.args.now in
     any_from_yields_List (λ e. test (entry_of e)) _ _ _ c.any.ensures.ran (YieldsList-from_slice c.args.entries.now cc) (λ x b q k. search (rules, tests))
     ∙ sym (list_any-map test entry_of c.args.entries.now)

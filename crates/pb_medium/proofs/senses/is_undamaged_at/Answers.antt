@@ -1,7 +1,5 @@
-use Rattle.std.proofs.Common.{rules, arith, ◌≡◌, ap, ◌∙◌, map, []}
-use Rattle.std.specs.Prelude.{List, length}
+use Rattle.std.proofs.Common.{rules, arith, ◌≡◌, ap, map, []}
 use Rattle.std.proofs.lemmas.List.{nil_from_length}
-use Rattle.pb_model.specs.Trace.{Hit}
 use Rattle.pb_medium.specs.Entries.{hit_of, record_of}
 use Rattle.pb_medium.proofs.Sensing.{unhit-undamaged}
 use Rattle.pb_medium.proofs.senses.is_undamaged_at.Goals as goal

@@ -9,10 +9,10 @@ use borrow.Author.Tests.{tests}
 pub returns-then-fills_burst : goal.returns-then-fills_burst
 returns-then-fills_burst c =
     ap (λ b. b && c.is_undamaged_at.result) (sym c.if-fills_burst.true)
-    ∙ whole-filled c.args.position (tap_of c.args.tap.now) (map entry_of c.args.entries.now) (record_of c.args.telegram.now) _ _ (search (rules, tests)) (c.fills_burst.ensures) c.is_undamaged_at.ensures
+    ∙ whole-filled c.args.delay c.args.position (tap_of c.args.tap.now) (map entry_of c.args.entries.now) (record_of c.args.telegram.now) _ _ (search (rules, tests)) (c.fills_burst.ensures) c.is_undamaged_at.ensures
 
 pub returns-else-fills_burst : goal.returns-else-fills_burst
 returns-else-fills_burst c =
     let r = record_of c.args.telegram.now in
     c.if-fills_burst.false ∙ ap (λ b. b && is_undamaged c.args.position r) (sym c.if-fills_burst.false)
-    ∙ whole-filled c.args.position (tap_of c.args.tap.now) (map entry_of c.args.entries.now) r _ _ (search (rules, tests)) (c.fills_burst.ensures) refl
+    ∙ whole-filled c.args.delay c.args.position (tap_of c.args.tap.now) (map entry_of c.args.entries.now) r _ _ (search (rules, tests)) (c.fills_burst.ensures) refl

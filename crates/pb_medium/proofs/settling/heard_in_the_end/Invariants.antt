@@ -2,13 +2,12 @@
 use Rattle.std.proofs.Common.{◌≡◌, map, length, take}
 use Rattle.pb_model.specs.Medium.{heard_by}
 use Rattle.pb_medium.specs.Entries.{entry_of, heard_of, record_of}
-use Rattle.pb_medium.specs.Senses.{at_once}
 use Rattle.pb_taps.specs.Taps.{tap_of}
 use Rattle.pb_medium.proofs.settling.heard_in_the_end.Given as goal
 
 abbrev pub invariant-loop-position : goal.invariant-loop-position
 invariant-loop-position l = record {
   so_far : map heard_of l.heard.items
-      ≡ take l.position (heard_by at_once (map entry_of l.entries) (record_of l.telegram) 0 (map tap_of l.taps) (map heard_of l.telegram.heard.items));
+      ≡ take l.position (heard_by l.delay (map entry_of l.entries) (record_of l.telegram) 0 (map tap_of l.taps) (map heard_of l.telegram.heard.items));
   count : length l.heard.items ≡ l.position;
 }

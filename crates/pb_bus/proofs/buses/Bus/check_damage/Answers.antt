@@ -1,7 +1,9 @@
-use Rattle.std.proofs.Common.{ap, sym, refl, arith}
+use Rattle.std.proofs.Common.{◌≡◌, ap, sym, subst, refl, arith, true, false}
 use Rattle.std.specs.Prelude.{slice_get}
 use Rattle.pb_model.specs.World.{Damage}
-use Rattle.pb_medium.specs.Traces.{over_of}
+use Rattle.pb_medium.specs.Damaging.{can_hit}
+use Rattle.pb_medium.specs.Entries.{hit_of}
+use Rattle.pb_medium.specs.Traces.{over_of, recent_of}
 use Rattle.pb_taps.specs.declared.faults.WorldFault.TheVariants as fault
 use Rattle.pb_bus.specs.Buses.{world_of}
 use Rattle.pb_bus.specs.Refusals.{fault_of}
@@ -16,8 +18,8 @@ returns-then-not-can_hit c =
     let hit = c.args.hit in
     let there = both-taps bus hit.tap c.args.speaker (omega (arith, c.len.ensures, c.if-hit-len.false)) (omega (arith, c.len-else-hit-len.ensures, c.if-speaker-len.false)) in
     refused w (Damage hit.tap c.args.speaker hit.place) _ fault.NothingInAir refl
-    (damage-refused w (over_of bus.trace) hit.tap c.args.speaker hit.place (slice_get w.taps hit.tap) (slice_get w.taps c.args.speaker) fault.NothingInAir c.requires.kept.sound.no_delay
-    c.requires.kept.cut there (sym c.if-not-can_hit.ensures))
+    (damage-refused w (over_of bus.trace) hit.tap c.args.speaker hit.place (slice_get w.taps hit.tap) (slice_get w.taps c.args.speaker) fault.NothingInAir
+    c.requires.kept.cut there (subst (λ d. can_hit d c.args.speaker bus.now (hit_of hit) (recent_of bus.trace) ≡ false) c.ttd.ensures (sym c.if-not-can_hit.ensures)))
 
 pub returns : goal.returns
 returns c =
@@ -25,5 +27,5 @@ returns c =
     let w = world_of bus in
     let hit = c.args.hit in
     let there = both-taps bus hit.tap c.args.speaker (omega (arith, c.len.ensures, c.if-hit-len.false)) (omega (arith, c.len-else-hit-len.ensures, c.if-speaker-len.false)) in
-    ap fault_of (damage-done w (over_of bus.trace) hit.tap c.args.speaker hit.place (slice_get w.taps hit.tap) (slice_get w.taps c.args.speaker) c.requires.kept.sound.no_delay
-    c.requires.kept.cut there (sym c.if-not-can_hit.ensures))
+    ap fault_of (damage-done w (over_of bus.trace) hit.tap c.args.speaker hit.place (slice_get w.taps hit.tap) (slice_get w.taps c.args.speaker)
+    c.requires.kept.cut there (subst (λ d. can_hit d c.args.speaker bus.now (hit_of hit) (recent_of bus.trace) ≡ true) c.ttd.ensures (sym c.if-not-can_hit.ensures)))

@@ -13,7 +13,9 @@ returns c =
     let entries = c.recent.ensures in
     let taps = c.deref.ensures.value in
     judges-start bus i c.check_start.result c.requires.kept
-    (subst (λ (es : List trace.Entry). OnOk c.check_start.result (CanStart bus.now es bus.taps.items i)) entries
-    (subst (λ ts. OnOk c.check_start.result (CanStart bus.now (map entry_of c.recent.result.now) ts i)) taps c.check_start.ensures.ok))
-    (subst (λ (es : List trace.Entry). IfErr c.check_start.result (RefusesStart bus.now es bus.taps.items i)) entries
-    (subst (λ ts. IfErr c.check_start.result (RefusesStart bus.now (map entry_of c.recent.result.now) ts i)) taps c.check_start.ensures.fault))
+    (subst (λ (es : List trace.Entry). OnOk c.check_start.result (CanStart bus.params.ttd bus.now es bus.taps.items i)) entries
+    (subst (λ ts. OnOk c.check_start.result (CanStart bus.params.ttd bus.now (map entry_of c.recent.result.now) ts i)) taps
+    (subst (λ d. OnOk c.check_start.result (CanStart d bus.now (map entry_of c.recent.result.now) c.deref.result.now i)) c.ttd.ensures c.check_start.ensures.ok)))
+    (subst (λ (es : List trace.Entry). IfErr c.check_start.result (RefusesStart bus.params.ttd bus.now es bus.taps.items i)) entries
+    (subst (λ ts. IfErr c.check_start.result (RefusesStart bus.params.ttd bus.now (map entry_of c.recent.result.now) ts i)) taps
+    (subst (λ d. IfErr c.check_start.result (RefusesStart d bus.now (map entry_of c.recent.result.now) c.deref.result.now i)) c.ttd.ensures c.check_start.ensures.fault)))

@@ -1,52 +1,57 @@
-use Rattle.std.proofs.Common.{◌∙◌, ap, sym, subst, ℕ, ◌+◌, ◌≤◌, ◌&&◌, ◌||◌, List, Bool, if◌then◌else◌, map, Some}
+use Rattle.std.proofs.Common.{◌≡◌, ◌∙◌, ap, sym, subst, ℕ, ◌+◌, ◌≤◌, ◌&&◌, List, Bool, map, arith, Option, Some, None, if◌then◌else◌}
 use Rattle.std.specs.Prelude.{IfSome}
 use Rattle.std.specs.List.{list_any}
+use Rattle.std.specs.Option.{option_map}
+use Rattle.pb_timers.specs.Timers.{last_moment}
+use Rattle.pb_turn.specs.Stations.{earlier}
 use Rattle.pb_model.specs.Trace.{Entry}
-use Rattle.pb_model.specs.World.{next_end_of}
-use Rattle.pb_runs.specs.Bus.{started_now}
+use Rattle.pb_model.specs.World.{next_end_of, clock_limit}
+use Rattle.pb_runs.specs.Bus.{is_in_air, next_known, started_now}
 use Rattle.pb_taps.specs.Taps.{tap_of}
 use Rattle.pb_taps.specs.declared.taps.Tap.{Tap}
-use Rattle.pb_medium.specs.Changing.{begins, lasts}
 use Rattle.pb_medium.specs.Entries.{entry_of}
-use Rattle.pb_medium.specs.Senses.{at_once}
 use Rattle.pb_medium.specs.Traces.{over_of, entries_of, recent_of}
 use Rattle.pb_bus.specs.Buses.{world_of}
 use Rattle.pb_bus.specs.Ends.{last_end}
-use Rattle.pb_bus.proofs.Changing.{change-recent, recent-by}
+use Rattle.pb_bus.proofs.Passing.{some-by}
+use Rattle.pb_bus.proofs.Changing.{start_known, change-recent, recent-by, known-by}
 use Rattle.pb_bus.proofs.buses.Bus.next_change.Goals as goal
 
-abbrev changes : ℕ → List Entry → List Tap → Bool
-changes now es taps = list_any (begins now) es || (list_any (lasts now) es && list_any (started_now now) (map tap_of taps))
-
-pub moment_of-requires : goal.moment_of-requires
-moment_of-requires c =
+pub known_of-begin-requires : goal.known_of-begin-requires
+known_of-begin-requires c =
     let bus = c.args.self.now in
-    let ends = c.next_end.ensures ∙ ap (λ n. next_end_of at_once n (map entry_of c.recent-recent.result.now)) c.get-2.ensures.value ∙ ap (next_end_of at_once bus.now) c.recent-recent.ensures in
-    subst (λ o. IfSome o (λ t. t ≤ last_end)) (sym ends) (recent-by last_end bus.now (over_of bus.trace) (entries_of bus.trace) c.requires.ends)
+    let delay = bus.params.ttd in
+    let begins = c.next_begin.ensures ∙ ap (λ d. next_known d c.get-2.result (map entry_of c.recent-recent.result.now)) c.ttd-delay.ensures
+    ∙ ap (λ n. next_known delay n (map entry_of c.recent-recent.result.now)) c.get-2.ensures.value ∙ ap (next_known delay bus.now) c.recent-recent.ensures in
+    some-by (clock_limit + delay) last_end c.next_begin.result (omega (arith, c.ttd-delay.type_inv, c.ttd-delay.ensures))
+    (known-by clock_limit delay bus.now (over_of bus.trace) (entries_of bus.trace) c.next_begin.result begins c.requires.clock c.requires.sound.begun)
 
-pub returns-then-changes_at_once : goal.returns-then-changes_at_once
-returns-then-changes_at_once c =
+pub moment_of-end-requires : goal.moment_of-end-requires
+moment_of-end-requires c =
     let bus = c.args.self.now in
-    let w = world_of bus in
-    let es = map entry_of c.recent-recent.result.now in
-    let same = c.changes_at_once.ensures ∙ ap (λ n. changes n es c.deref.result.now) c.get.ensures.value ∙ ap (λ (x : List Entry). changes bus.now x c.deref.result.now) c.recent-recent.ensures
-    ∙ ap (changes bus.now (recent_of bus.trace)) c.deref.ensures.value in
-    c.next_bit.ensures
-    ∙ sym (
-    change-recent w (over_of bus.trace) c.requires.sound c.requires.cut
-    ∙ ap (λ (b : Bool). if b then Some (bus.now + 1) else next_end_of at_once bus.now (recent_of bus.trace)) (sym same ∙ c.if-changes_at_once.true)
-    )
+    let delay = bus.params.ttd in
+    let ends = c.next_end.ensures ∙ ap (λ d. next_end_of d c.get-3.result (map entry_of c.recent-recent.result.now)) c.ttd-delay.ensures
+    ∙ ap (λ n. next_end_of delay n (map entry_of c.recent-recent.result.now)) c.get-3.ensures.value ∙ ap (next_end_of delay bus.now) c.recent-recent.ensures in
+    some-by (last_end + delay) last_moment c.next_end.result (omega (arith, c.ttd-delay.type_inv, c.ttd-delay.ensures))
+    (subst (λ o. IfSome o (λ t. t ≤ last_end + delay)) (sym ends) (recent-by last_end delay bus.now (over_of bus.trace) (entries_of bus.trace) c.requires.ends))
 
 pub returns : goal.returns
 returns c =
     let bus = c.args.self.now in
     let w = world_of bus in
-    let es = map entry_of c.recent-recent.result.now in
-    let same = c.changes_at_once.ensures ∙ ap (λ n. changes n es c.deref.result.now) c.get.ensures.value ∙ ap (λ (x : List Entry). changes bus.now x c.deref.result.now) c.recent-recent.ensures
-    ∙ ap (changes bus.now (recent_of bus.trace)) c.deref.ensures.value in
-    let ends = c.next_end.ensures ∙ ap (λ n. next_end_of at_once n es) c.get-2.ensures.value ∙ ap (next_end_of at_once bus.now) c.recent-recent.ensures in
-    c.moment_of.ensures ∙ ends
-    ∙ sym (
-    change-recent w (over_of bus.trace) c.requires.sound c.requires.cut
-    ∙ ap (λ (b : Bool). if b then Some (bus.now + 1) else next_end_of at_once bus.now (recent_of bus.trace)) (sym same ∙ c.if-changes_at_once.false)
-    )
+    let delay = bus.params.ttd in
+    let recent = recent_of bus.trace in
+    let rest = map entry_of c.recent-recent.result.now in
+    let ends = c.next_end.ensures ∙ ap (λ d. next_end_of d c.get-3.result rest) c.ttd-delay.ensures
+    ∙ ap (λ n. next_end_of delay n rest) c.get-3.ensures.value ∙ ap (next_end_of delay bus.now) c.recent-recent.ensures in
+    let begins = c.next_begin.ensures ∙ ap (λ d. next_known d c.get-2.result rest) c.ttd-delay.ensures
+    ∙ ap (λ n. next_known delay n rest) c.get-2.ensures.value ∙ ap (next_known delay bus.now) c.recent-recent.ensures in
+    let amid = c.something_lasts-amid.ensures ∙ ap (λ d. list_any (is_in_air d c.get.result) rest) c.ttd-delay.ensures
+    ∙ ap (λ n. list_any (is_in_air delay n) rest) c.get.ensures.value ∙ ap (list_any (is_in_air delay bus.now)) c.recent-recent.ensures in
+    let start = c.start_known-start.ensures
+    ∙ ap (λ (ts : List Tap). if list_any (started_now bus.now) (map tap_of ts) && c.something_lasts-amid.result then Some (bus.now + 1) else None) c.deref.ensures.value
+    ∙ ap (start_known w) amid in
+    c.earlier-2.ensures
+    ∙ ap (earlier c.moment_of-end.result) (c.earlier.ensures ∙ ap (λ o. earlier o c.start_known-start.result) (c.known_of-begin.ensures ∙ begins) ∙ ap (earlier (next_known delay bus.now recent)) start)
+    ∙ ap (λ o. earlier o (earlier (next_known delay bus.now recent) (start_known w (list_any (is_in_air delay bus.now) recent)))) (c.moment_of-end.ensures ∙ ends)
+    ∙ sym (change-recent w (over_of bus.trace) c.requires.cut)

@@ -40,7 +40,7 @@ returns-clause-kept c =
       clock = c.requires.clock;
       room = c.requires.room;
       seats = c.requires.seats;
-      cut = cut-after bus.now (with_noise bus.now end noisy) bus.trace c.make_noise.new.self c.in_ok-make_noise.ensures.ok
+      cut = cut-after bus.params.ttd bus.now (with_noise bus.now end noisy) bus.trace c.make_noise.new.self c.in_ok-make_noise.ensures.ok
           (λ m at from. from-noise m bus.now end noisy recent at from) c.requires.cut;
       ends = in-time (world_of bus) (Noise c.args.bits) _ _ (returns-clause-follows c) (omega arith) c.requires.clock c.requires.sound c.requires.ends;
     }

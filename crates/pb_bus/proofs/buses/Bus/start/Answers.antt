@@ -10,7 +10,6 @@ use Rattle.pb_model.specs.Trace as trace
 use Rattle.pb_model.specs.World.{Start}
 use Rattle.pb_bus.specs.Buses.{world_of, IsKept}
 use Rattle.pb_medium.specs.Entries.{entry_of}
-use Rattle.pb_medium.specs.Senses.{at_once}
 use Rattle.pb_medium.specs.Traces.{over_of, recent_of}
 use Rattle.pb_bus.specs.Starting.{fresh_tap, IsStarted, RefusesStart}
 use Rattle.pb_taps.specs.Taps.{tap_of, seat_of, AreSeated}
@@ -24,26 +23,26 @@ use Rattle.pb_bus.proofs.Stepping.{in-err, sound-after, start-done}
 use Rattle.pb_medium.proofs.Widening.{started_amid}
 use Rattle.pb_bus.proofs.buses.Bus.start.Goals as goal
 
-done : (b : Bus) (i : ℕ) (next : List Tap) → IsKept b → IsStarted b.now (recent_of b.trace) b.taps.items i next
+done : (b : Bus) (i : ℕ) (next : List Tap) → IsKept b → IsStarted b.params.ttd b.now (recent_of b.trace) b.taps.items i next
     → step_start (world_of b) i (slice_get (world_of b).taps i) ≡ Ok (record (world_of b) { taps = map tap_of next }, record { now = b.now; spoke = None })
 done b i next kept (t, at, up, are) =
     let w = world_of b in
     let items = b.taps.items in
-    let amid = list_any (reaches_now at_once i b.now) (recent_of b.trace) in
+    let amid = list_any (reaches_now b.params.ttd i b.now) (recent_of b.trace) in
     let there = slice_get-map tap_of items i ∙ ap (option_map tap_of) at in
     let same : started_amid (over_of b.trace) w i (tap_of t) ≡ tap_of (fresh_tap t amid b.now)
     = ap (λ p. record (tap_of t) { running = true; since = b.now; amid = amid; station = started p t.station.station t.station.master b.now; marks = [] })
     (sym (ap (λ x. x.params) (seat-of-tap b.params items i t kept.seats at))) in
-    start-done w (over_of b.trace) i (tap_of t) kept.sound.no_delay kept.cut there up
+    start-done w (over_of b.trace) i (tap_of t) kept.cut there up
     ∙ ap (λ ts. Ok (record w { taps = ts }, record { now = b.now; spoke = None }))
     (ap (slice_set w.taps i) same ∙ sym (map-set tap_of items i (fresh_tap t amid b.now)) ∙ ap (map tap_of) (sym are))
 
-seated : (b : Bus) (i : ℕ) (next : List Tap) → IsKept b → IsStarted b.now (recent_of b.trace) b.taps.items i next → AreSeated b.params 0 (map seat_of next)
+seated : (b : Bus) (i : ℕ) (next : List Tap) → IsKept b → IsStarted b.params.ttd b.now (recent_of b.trace) b.taps.items i next → AreSeated b.params 0 (map seat_of next)
 seated b i next kept (t, at, up, are) =
-    let amid = list_any (reaches_now at_once i b.now) (recent_of b.trace) in
+    let amid = list_any (reaches_now b.params.ttd i b.now) (recent_of b.trace) in
     subst (AreSeated b.params 0) (sym (ap (map seat_of) are ∙ same-seats b.taps.items i t (fresh_tap t amid b.now) at refl)) kept.seats
 
-size : (b : Bus) (i : ℕ) (next : List Tap) → IsStarted b.now (recent_of b.trace) b.taps.items i next → length next ≡ length b.taps.items
+size : (b : Bus) (i : ℕ) (next : List Tap) → IsStarted b.params.ttd b.now (recent_of b.trace) b.taps.items i next → length next ≡ length b.taps.items
 size b i next (t, at, up, are) = ap length are ∙ length-set b.taps.items i _
 
 pub returns-in_err-start-clause-follows : goal.returns-in_err-start-clause-follows
@@ -55,8 +54,9 @@ returns-in_err-start-clause-follows c =
     let back = written-back bus.taps.len bus.taps.items c.start.new.taps (ap length (sym items) ∙ c.deref_mut.ensures.len) (ap length (kept ∙ items)) in
     let entries = c.recent.ensures in
     let reason = c.in_err-start.field-0.0 in
-    let why = subst (λ (es : List trace.Entry). RefusesStart bus.now es bus.taps.items c.args.tap reason) entries
-    (subst (λ ts. RefusesStart bus.now (map entry_of c.recent.result.now) ts c.args.tap reason) items c.in_err-start.ensures.fault) in
+    let why = subst (λ (es : List trace.Entry). RefusesStart bus.params.ttd bus.now es bus.taps.items c.args.tap reason) entries
+    (subst (λ ts. RefusesStart bus.params.ttd bus.now (map entry_of c.recent.result.now) ts c.args.tap reason) items
+    (subst (λ d. RefusesStart d bus.now (map entry_of c.recent.result.now) c.deref_mut.result.now c.args.tap reason) c.ttd.ensures c.in_err-start.ensures.fault)) in
     in-err _ _ c.from_residual.result reason c.from_residual.ensures.0 c.from_residual.ensures.1 (
       ap (λ ts. record w { taps = map tap_of ts }) (back ∙ kept ∙ items),
       start-refused bus c.args.tap reason c.requires why,
@@ -69,8 +69,9 @@ returns-clause-follows c =
     let items = c.deref_mut.ensures.value in
     let entries = c.recent.ensures in
     let next = c.start.new.taps in
-    let starts = subst (λ (es : List trace.Entry). IsStarted bus.now es bus.taps.items c.args.tap next) entries
-    (subst (λ ts. IsStarted bus.now (map entry_of c.recent.result.now) ts c.args.tap next) items c.in_ok-start.ensures.ok) in
+    let starts = subst (λ (es : List trace.Entry). IsStarted bus.params.ttd bus.now es bus.taps.items c.args.tap next) entries
+    (subst (λ ts. IsStarted bus.params.ttd bus.now (map entry_of c.recent.result.now) ts c.args.tap next) items
+    (subst (λ d. IsStarted d bus.now (map entry_of c.recent.result.now) c.deref_mut.result.now c.args.tap next) c.ttd.ensures c.in_ok-start.ensures.ok)) in
     let back = written-back bus.taps.len bus.taps.items next (ap length (sym items) ∙ c.deref_mut.ensures.len) (size bus c.args.tap next starts) in
     done bus c.args.tap next c.requires starts
     ∙ ap (λ o. Ok (record w { taps = map tap_of next }, record { now = bus.now; spoke = o })) (sym c.clear.ensures)
@@ -82,8 +83,9 @@ returns-clause-kept c =
     let items = c.deref_mut.ensures.value in
     let entries = c.recent.ensures in
     let next = c.start.new.taps in
-    let starts = subst (λ (es : List trace.Entry). IsStarted bus.now es bus.taps.items c.args.tap next) entries
-    (subst (λ ts. IsStarted bus.now (map entry_of c.recent.result.now) ts c.args.tap next) items c.in_ok-start.ensures.ok) in
+    let starts = subst (λ (es : List trace.Entry). IsStarted bus.params.ttd bus.now es bus.taps.items c.args.tap next) entries
+    (subst (λ ts. IsStarted bus.params.ttd bus.now (map entry_of c.recent.result.now) ts c.args.tap next) items
+    (subst (λ d. IsStarted d bus.now (map entry_of c.recent.result.now) c.deref_mut.result.now c.args.tap next) c.ttd.ensures c.in_ok-start.ensures.ok)) in
     let back = written-back bus.taps.len bus.taps.items next (ap length (sym items) ∙ c.deref_mut.ensures.len) (size bus c.args.tap next starts) in
     record {
       sound = sound-after (world_of bus) (Start c.args.tap) _ _ (returns-clause-follows c) tt c.requires.sound;

@@ -77,7 +77,7 @@ returns-clause-kept c =
       clock = c.requires.clock;
       room = omega (arith, ap length back, size bus c.args.tap next stops, c.requires.room);
       seats = subst (λ ts. AreSeated bus.params 0 (map seat_of ts)) (sym back) (seated bus c.args.tap next c.requires stops);
-      cut = cut-after bus.now (map (cut_at bus.now c.args.tap)) bus.trace c.cut.new.self c.cut.ensures
+      cut = cut-after bus.params.ttd bus.now (map (cut_at bus.now c.args.tap)) bus.trace c.cut.new.self c.cut.ensures
           (λ m at from. from-cut m bus.now c.args.tap (recent_of bus.trace) from) c.requires.cut;
       ends = in-time (world_of bus) (Stop c.args.tap) _ _ (returns-clause-follows c) tt c.requires.clock c.requires.sound c.requires.ends;
     }

@@ -50,7 +50,7 @@ returns-clause-kept c =
       clock = c.requires.clock;
       room = c.requires.room;
       seats = c.requires.seats;
-      cut = cut-after bus.now (lost c.args.tap c.args.speaker bus.now) bus.trace c.lose.new.self c.in_ok-lose.ensures.ok
+      cut = cut-after bus.params.ttd bus.now (lost c.args.tap c.args.speaker bus.now) bus.trace c.lose.new.self c.in_ok-lose.ensures.ok
           (λ m at from. from-changed m (begins_from bus.now c.args.speaker) (unheard_at c.args.tap) (recent_of bus.trace) (begin-unheard_at c.args.tap) from) c.requires.cut;
       ends = in-time (world_of bus) (Unheard c.args.tap c.args.speaker) _ _ (returns-clause-follows c) tt c.requires.clock c.requires.sound c.requires.ends;
     }

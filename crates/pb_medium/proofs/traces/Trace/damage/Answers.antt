@@ -1,5 +1,5 @@
-use Rattle.std.proofs.Common.{◌≡◌, ◌∙◌, refl, ap, subst, true, ◌++◌}
-use Rattle.std.specs.Prelude.{take, OnOk, IfErr}
+use Rattle.std.proofs.Common.{◌≡◌, ◌∙◌, refl, subst, true}
+use Rattle.std.specs.Prelude.{OnOk, IfErr}
 use Rattle.std.proofs.lemmas.List.{take-append-drop}
 use Rattle.pb_medium.specs.Damaging.{can_hit, damaged, RefusesHit}
 use Rattle.pb_medium.specs.Entries.{hit_of}
@@ -13,14 +13,14 @@ returns-clause-ok c =
     on-ok c.damage.result
     (λ hits. record {
       over = refl;
-      entries = given-back c.args.self.now c.deref_mut.result.now c.damage.new.entries (damaged c.args.speaker c.args.now (hit_of c.args.hit))
+      entries = given-back c.args.self.now c.deref_mut.result.now c.damage.new.entries (damaged c.args.delay c.args.speaker c.args.now (hit_of c.args.hit))
           c.deref_mut.ensures.value c.deref_mut.ensures.len c.damage.ensures.length hits;
     })
     c.damage.ensures.ok
 
 pub returns-clause-found : goal.returns-clause-found
 returns-clause-found c =
-    subst (λ es. OnOk c.damage.result (can_hit c.args.speaker c.args.now (hit_of c.args.hit) es ≡ true))
+    subst (λ es. OnOk c.damage.result (can_hit c.args.delay c.args.speaker c.args.now (hit_of c.args.hit) es ≡ true))
     (lent-as c.args.self.now c.deref_mut.result.now c.deref_mut.ensures.value) c.damage.ensures.found
 
 pub returns-clause-err : goal.returns-clause-err
@@ -36,5 +36,5 @@ returns-clause-err c =
 
 pub returns-clause-fault : goal.returns-clause-fault
 returns-clause-fault c =
-    subst (λ es. IfErr c.damage.result (RefusesHit (can_hit c.args.speaker c.args.now (hit_of c.args.hit) es)))
+    subst (λ es. IfErr c.damage.result (RefusesHit (can_hit c.args.delay c.args.speaker c.args.now (hit_of c.args.hit) es)))
     (lent-as c.args.self.now c.deref_mut.result.now c.deref_mut.ensures.value) c.damage.ensures.fault

@@ -1,4 +1,4 @@
-use Rattle.std.proofs.Common.{◌≡◌, ◌∙◌, ap, sym, refl, ◌++◌, ◌==◌, Some, None, ◌<◌, ◌≤◌, ◌+◌, Bool, false, ℕ, length, arith}
+use Rattle.std.proofs.Common.{◌≡◌, ◌∙◌, ap, sym, refl, ◌++◌, ◌==◌, Some, None, ◌+◌, Bool, false, ℕ, length, arith}
 use Rattle.std.specs.Prelude.{take}
 use Rattle.std.specs.List.{position}
 use Rattle.std.proofs.lemmas.Bool.{ne_eqb, le-leb, lt-leb}
@@ -7,7 +7,7 @@ use Rattle.pb_model.specs.Trace.{is_noise_at, noisy_until, Noise, with_entry}
 use Rattle.pb_model.specs.World.{trace_limit}
 use Rattle.pb_medium.specs.Entries.{entry_of}
 use Rattle.pb_medium.specs.Noising.{has_noise, has_no_room, RefusesNoise}
-use Rattle.pb_medium.specs.Traces.{entries_of, recent_of, RefusesRoom, RecentBecomes}
+use Rattle.pb_medium.specs.Traces.{entries_of, recent_of, RefusesRoom}
 use Rattle.pb_medium.specs.declared.traces.Trace.{Trace}
 use Rattle.pb_taps.specs.declared.faults.WorldFault.{WorldFault}
 use Rattle.pb_taps.specs.declared.faults.WorldFault.TheVariants as fault

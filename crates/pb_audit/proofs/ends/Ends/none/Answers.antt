@@ -1,0 +1,6 @@
+use Rattle.std.proofs.Common.{refl}
+use Rattle.pb_audit.proofs.Legal.{no-ends}
+use Rattle.pb_audit.proofs.ends.Ends.none.Goals as goal
+
+pub returns : goal.returns
+returns c = λ delay moment. no-ends delay moment _ refl refl
