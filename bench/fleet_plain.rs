@@ -1,35 +1,43 @@
-//! What it costs to wake a sleeping thread: two threads that wake one another in turn, as often as the first word
-//! says. Prints the nanoseconds of a wake-up. For `bench/fleet`.
+//! What it costs to wake a sleeping thread and to be woken by it: two threads that work and wake one another in turn, in
+//! plain Rust. The words say how often, and for how many nanoseconds each works before it wakes the other. Prints the
+//! nanoseconds of the two wake-ups, beside the work. For `bench/fleet`.
 
 use std::sync::atomic::{AtomicUsize, Ordering};
 use std::thread;
-use std::time::Instant;
+use std::time::{Duration, Instant};
 
 fn main() {
-    let turns: usize = std::env::args().nth(1).and_then(|word| word.parse().ok()).unwrap_or(20_000);
+    let words: Vec<u32> = std::env::args().skip(1).filter_map(|word| word.parse().ok()).collect();
+    let &[rounds, work] = words.as_slice() else {
+        eprintln!("usage: fleet_plain ROUNDS NANOSECONDS");
+        std::process::exit(2);
+    };
+    let work = Duration::from_nanos(work.into());
     let turn = AtomicUsize::new(0);
     let first = thread::current();
     let began = Instant::now();
     thread::scope(|scope| {
-        let other = scope.spawn(|| {
-            for next in (0..turns).map(|pair| 2 * pair + 1) {
-                sleep_until(&turn, next);
-                turn.store(next + 1, Ordering::SeqCst);
+        let second = scope.spawn(|| {
+            for round in 0..rounds as usize {
+                take(&turn, 2 * round + 1, work);
                 first.unpark();
             }
         });
-        for next in (0..turns).map(|pair| 2 * pair) {
-            sleep_until(&turn, next);
-            turn.store(next + 1, Ordering::SeqCst);
-            other.thread().unpark();
+        for round in 0..rounds as usize {
+            take(&turn, 2 * round, work);
+            second.thread().unpark();
         }
     });
-    println!("{}", began.elapsed().as_nanos() / (2 * turns as u128));
+    let spent = began.elapsed().saturating_sub(work * 2 * rounds);
+    println!("{}", spent.as_nanos() / u128::from(rounds));
 }
 
-/// Sleeps until it is this turn.
-fn sleep_until(turn: &AtomicUsize, number: usize) {
+/// Sleeps until it is this turn, works, and lets the next one come.
+fn take(turn: &AtomicUsize, number: usize, work: Duration) {
     while turn.load(Ordering::SeqCst) != number {
         thread::park();
     }
+    let began = Instant::now();
+    while began.elapsed() < work {}
+    turn.store(number + 1, Ordering::SeqCst);
 }

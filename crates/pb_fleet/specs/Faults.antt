@@ -21,7 +21,8 @@ IsOfPlay (fault.Closing why) = Unit {0}
 IsOfPlay fault.NoMemory = Unit {0}
 IsOfPlay (fault.New why) = ⊥
 
--- why a fleet of so many workers gives no report, with what its new world is: they are no crew; there is no such world; or any other fault, where neither is so
+-- why a fleet of so many workers gives no report, with what its new world is: they are no crew; or there is no such world;
+-- or any other fault, where neither is so
 abbrev pub RefusesFleet : ℕ → Result World model.NewFault → FleetFault → Type 0
 RefusesFleet workers made fault.BadWorkers = IsCrew workers → ⊥
 RefusesFleet workers made (fault.Commit tap now why) = IsCrew workers × IsOk made

@@ -7,7 +7,7 @@ ghost use Rattle.pb_fleet.specs.Played.{LeavesToken, begins};
 
 use crate::conductors::Conductor;
 use crate::dealing::deal;
-use crate::faults::{FleetFault, PlayFault, least};
+use crate::faults::{FleetFault, PlayFault};
 use crate::gates::Gate;
 use crate::offers::Offers;
 use crate::reviewing::review;
@@ -26,20 +26,21 @@ use std::thread::Threads;
 const MOST_WORKERS: usize = 64;
 
 /// Plays a scenario with some workers, each in a thread of its own, and gives the report of all that has
-/// happened. The report's trace is that of the scenario's run on one thread, for every number of workers, every
-/// schedule and every gate; and it has one token while the premises are kept (medium access: token passing).
+/// happened. The report's trace is that of the scenario's run on one thread, for every number of workers,
+/// every schedule and every gate; and it has one token while the premises are kept (medium access: token
+/// passing).
 ///
-/// A conductor drives the steps of the scenario, and time from one instant to the next. In each instant it offers
-/// the turns of all taps that are due and aren't withheld, before any of them has to be taken; a worker looks at a
-/// tap, asks the gate, decides the turn outside the lock, and commits it. Tap `i` belongs to worker `i mod
-/// workers`; a worker with no tap gets no thread. At the end all that was told and shown is compared, and the
-/// history has to be cut into the scenario's instants: no event is applied twice.
+/// A conductor drives the steps of the scenario, and time from one instant to the next. In each instant it
+/// offers the turns of all taps that are due and aren't withheld, before any of them has to be taken; a
+/// worker looks at a tap, asks the gate, decides the turn outside the lock, and commits it. Tap `i` belongs
+/// to worker `i mod workers`; a worker with no tap gets no thread. At the end all that was told and shown is
+/// compared, and the history has to be cut into the scenario's instants: no event is applied twice.
 ///
 /// Faults: `BadWorkers` for fewer than 1 or more than 64; then `New` where there is no new world of the
-/// scenario's taps. After another fault no more turns are offered, all workers are joined, and the least of the
-/// faults is given: `Commit` with a tap, the clock in bit times and the segment's fault; `Drive` with the clock
-/// and the fault; `GateClosed` with a tap for which the gate answered false; `NoThread`; `Closing`; `NoMemory`. Of
-/// several of one kind it is that of the least tap.
+/// scenario's taps. After another fault no more turns are offered, all workers are joined, and the least of
+/// the faults is given: `Commit` with a tap, the clock in bit times and the segment's fault; `Drive` with the
+/// clock and the fault; `GateClosed` with a tap for which the gate answered false; `NoThread`; `Closing`;
+/// `NoMemory`. Of several of one kind it is that of the least tap.
 pub fn run_fleet<R: Threads + Wait + Sync, G: Gate>(
     rt: &R,
     alloc: Global,
@@ -85,15 +86,18 @@ fn fleet<L: Ledger + Send + Sync, R: Threads + Wait + Sync, G: Gate>(
     ensures token { IfOk result (LeavesToken scenario.now.scenario) }
 {
     let (segment, seat, seats) = SharedSegment::<L>::new(alloc, blank, world)?;
+    let crew = workers.min(seats.len()).max(1);
+    let hands = deal(alloc, seats, crew)?;
+    let offers = Offers::new(alloc, crew)?;
     let mut conductor = Conductor::new(alloc, seat);
     let seats = play(
         rt,
         alloc,
         &segment,
+        &offers,
         &mut conductor,
-        seats,
+        hands,
         scenario,
-        workers,
         gate,
     )?;
     let Conductor { seat, seen } = conductor;
@@ -103,58 +107,42 @@ fn fleet<L: Ledger + Send + Sync, R: Threads + Wait + Sync, G: Gate>(
     }
 }
 
-/// Deals the seats of the taps to workers, has each work in a thread while the conductor conducts, and gathers
-/// the seats again.
+/// Has each worker work in a thread while the conductor conducts, and gathers the seats again.
 fn play<L: Ledger + Send + Sync, R: Threads + Wait + Sync, G: Gate>(
     rt: &R,
     alloc: Global,
     segment: &SharedSegment<L>,
+    offers: &Offers,
     conductor: &mut Conductor<L>,
-    seats: Vec<TapSeat<L>>,
+    hands: Vec<Vec<TapSeat<L>>>,
     scenario: &Scenario,
-    workers: usize,
     gate: &G,
 ) -> Result<Vec<TapSeat<L>>, PlayFault> {
-    let crew = workers.min(seats.len()).max(1);
-    let hands = deal(alloc, seats, crew)?;
-    let offers = Offers::new(alloc, crew)?;
-    let offers = &offers;
     thread::scope(
         thread::scope_env(),
         rt,
         |scope| -> Result<Vec<TapSeat<L>>, PlayFault> {
-            let mut fault = None;
+            let mut all = Done::new(alloc);
             let mut running = Vec::new(alloc);
             for (worker, hand) in hands.into_iter().enumerate() {
                 match scope.spawn(move || work(rt, alloc, segment, offers, worker, hand, gate)) {
                     Ok(thread) => {
                         if running.push(thread).is_err() {
-                            fault = least(fault, Some(PlayFault::NoMemory));
+                            all.note(Some(PlayFault::NoMemory));
                         }
                     }
-                    Err(_) => fault = least(fault, Some(PlayFault::NoThread)),
+                    Err(_) => all.note(Some(PlayFault::NoThread)),
                 }
             }
-            if fault.is_none() {
-                fault = conductor
-                    .conduct(rt, alloc, segment, offers, scenario)
-                    .err();
+            if all.fault.is_none() {
+                let met = conductor.conduct(rt, alloc, segment, offers, scenario);
+                all.note(met.err());
             }
             offers.end(rt);
-            let mut all = Vec::new(alloc);
             for thread in running {
-                let Done { seats, fault: met } = thread.join(rt);
-                fault = least(fault, met);
-                for seat in seats {
-                    if all.push(seat).is_err() {
-                        fault = least(fault, Some(PlayFault::NoMemory));
-                    }
-                }
+                all.add(thread.join(rt));
             }
-            match fault {
-                Some(fault) => Err(fault),
-                None => Ok(all),
-            }
+            all.into_seats()
         },
     )
 }

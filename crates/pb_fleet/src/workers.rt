@@ -9,11 +9,45 @@ use std::alloc::Global;
 use std::sync::Wait;
 use std::sync::ledger::Ledger;
 
-/// What a worker hands back: its seats, and the fault that it has met.
+/// What is done: the seats that come back, and the fault that was met.
 #[derive(Drop)]
 pub(crate) struct Done<L: Ledger> {
-    pub(crate) seats: Vec<TapSeat<L>>,
+    seats: Vec<TapSeat<L>>,
     pub(crate) fault: Option<PlayFault>,
+}
+
+impl<L: Ledger> Done<L> {
+    pub(crate) fn new(alloc: Global) -> Done<L> {
+        Done {
+            seats: Vec::new(alloc),
+            fault: None,
+        }
+    }
+
+    /// Keeps the least fault.
+    pub(crate) fn note(&mut self, met: Option<PlayFault>) {
+        self.fault = least(self.fault, met);
+    }
+
+    /// What a worker hands back comes to it.
+    pub(crate) fn add(&mut self, other: Done<L>) {
+        let Done { seats, fault } = other;
+        self.note(fault);
+        for seat in seats {
+            if self.seats.push(seat).is_err() {
+                self.note(Some(PlayFault::NoMemory));
+            }
+        }
+    }
+
+    /// All seats, where no fault was met.
+    pub(crate) fn into_seats(self) -> Result<Vec<TapSeat<L>>, PlayFault> {
+        let Done { seats, fault } = self;
+        match fault {
+            Some(fault) => Err(fault),
+            None => Ok(seats),
+        }
+    }
 }
 
 /// Takes the turns that a worker is offered, until no offers come any more.
