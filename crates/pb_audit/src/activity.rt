@@ -9,7 +9,9 @@ use pb_medium::{Entry, Span};
 pub(crate) fn is_active(entries: &[Entry], delay: u32, tap: usize, from: u64, to: u64) -> bool
     ensures { result ≡ is_active delay from to (map entry_of entries.now) tap }
 {
-    entries.iter().any(|entry| is_active_in(entry, delay, tap, from, to))
+    entries
+        .iter()
+        .any(|entry| is_active_in(entry, delay, tap, from, to))
 }
 
 /// Whether an entry is active at a tap from one moment on, before another.

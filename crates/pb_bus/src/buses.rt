@@ -100,7 +100,13 @@ impl Bus {
         ensures follows { Does self.old (events.Pass bits) result self.new }
         ensures kept { IsKept self.new }
     {
-        self.now = pass(&mut self.trace, self.params.ttd(), &mut self.taps, self.now, bits)?;
+        self.now = pass(
+            &mut self.trace,
+            self.params.ttd(),
+            &mut self.taps,
+            self.now,
+            bits,
+        )?;
         self.trace.close(self.params.ttd(), self.now);
         self.sent.clear();
         Ok(())
@@ -114,7 +120,8 @@ impl Bus {
         if hit.tap >= self.taps.len() || speaker >= self.taps.len() {
             return Err(WorldFault::NoSuchTap);
         }
-        self.trace.damage(self.params.ttd(), speaker, self.now, hit)?;
+        self.trace
+            .damage(self.params.ttd(), speaker, self.now, hit)?;
         self.sent.clear();
         Ok(())
     }
@@ -124,7 +131,13 @@ impl Bus {
         ensures follows { Does self.old (events.Start tap) result self.new }
         ensures kept { IsKept self.new }
     {
-        start(self.trace.recent(), self.params.ttd(), &mut self.taps, tap, self.now)?;
+        start(
+            self.trace.recent(),
+            self.params.ttd(),
+            &mut self.taps,
+            tap,
+            self.now,
+        )?;
         self.sent.clear();
         Ok(())
     }

@@ -37,13 +37,7 @@ pub(crate) fn first_full(
 }
 
 /// A pass tells every tap. None of them is told more than it may have unread.
-pub(crate) fn tell_all(
-    entries: &[Entry],
-    delay: u32,
-    taps: &mut [Tap],
-    from: Moment,
-    to: Moment,
-)
+pub(crate) fn tell_all(entries: &[Entry], delay: u32, taps: &mut [Tap], from: Moment, to: Moment)
     requires { step.first_full 0
         (step.told delay (map entry_of entries.now) from to 0 (map tap_of taps.old)) ≡ None }
     ensures seats { map seat_of taps.new ≡ map seat_of taps.old }
@@ -121,9 +115,7 @@ fn begin_in(
 ) -> Option<Moment>
     ensures { result ≡ begin_between (sensed delay position tap.now.since (map entry_of entries.now)) from to }
 {
-    moment_of(begin_between(
-        entries, delay, position, tap.since, from.get(), to.get(),
-    ))
+    moment_of(begin_between(entries, delay, position, tap.since, from.get(), to.get()))
 }
 
 /// When a burst ends at the tap at a position in a pass, if one does.
@@ -137,9 +129,7 @@ fn end_in(
 ) -> Option<Moment>
     ensures { result ≡ end_between (sensed delay position tap.now.since (map entry_of entries.now)) from to }
 {
-    moment_of(end_between(
-        entries, delay, position, tap.since, from.get(), to.get(),
-    ))
+    moment_of(end_between(entries, delay, position, tap.since, from.get(), to.get()))
 }
 
 /// Bit times that are few enough as a moment.

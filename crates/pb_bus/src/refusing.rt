@@ -65,7 +65,13 @@ impl Bus {
         requires kept { IsKept self.now }
         ensures { Judges (world_of self.entry.now) (events.Pass bits) result }
     {
-        passes_to(self.trace.recent(), self.params.ttd(), &self.taps, self.now, bits)?;
+        passes_to(
+            self.trace.recent(),
+            self.params.ttd(),
+            &self.taps,
+            self.now,
+            bits,
+        )?;
         Ok(())
     }
 
@@ -76,7 +82,10 @@ impl Bus {
         if hit.tap >= self.taps.len() || speaker >= self.taps.len() {
             return Err(WorldFault::NoSuchTap);
         }
-        if !self.trace.can_hit(self.params.ttd(), speaker, self.now, hit) {
+        if !self
+            .trace
+            .can_hit(self.params.ttd(), speaker, self.now, hit)
+        {
             return Err(WorldFault::NothingInAir);
         }
         Ok(())
@@ -86,7 +95,13 @@ impl Bus {
         requires kept { IsKept self.now }
         ensures { Judges (world_of self.entry.now) (events.Start tap) result }
     {
-        check_start(self.trace.recent(), self.params.ttd(), &self.taps, tap, self.now)
+        check_start(
+            self.trace.recent(),
+            self.params.ttd(),
+            &self.taps,
+            tap,
+            self.now,
+        )
     }
 
     fn check_stop(&self, tap: usize) -> Result<(), WorldFault>

@@ -19,7 +19,13 @@ impl Trace {
 
     /// Damages the first telegram of a speaker in the air, at another tap: the earliest that has not reached the
     /// others. Faults, the first that applies: `NothingInAir`; `NoMemory`.
-    pub fn damage(&mut self, delay: u32, speaker: usize, now: Moment, hit: Hit) -> Result<(), WorldFault>
+    pub fn damage(
+        &mut self,
+        delay: u32,
+        speaker: usize,
+        now: Moment,
+        hit: Hit,
+    ) -> Result<(), WorldFault>
         ensures ok { OnOk result (RecentBecomes (damaged delay speaker now (hit_of hit)) self.old self.new) }
         ensures found { OnOk result (can_hit delay speaker now (hit_of hit) (recent_of self.old) ≡ true) }
         ensures err { OnErr result (StaysAs self.old self.new) }

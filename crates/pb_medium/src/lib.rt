@@ -17,7 +17,9 @@ mod traces;
 
 pub use changing::{next_begin, something_lasts};
 pub use entries::{Entry, Heard, Hit, Record};
-pub use senses::{begin_between, burst_characters, end_between, is_in_air_by, is_reached, next_end};
+pub use senses::{
+    begin_between, burst_characters, end_between, is_in_air_by, is_reached, next_end,
+};
 pub use spans::Span;
 pub use speaking::Speaker;
 pub use traces::Trace;

@@ -201,13 +201,7 @@ fn ends_at(entries: &[Entry], delay: u32, tap: usize, since: u64, moment: u64) -
 }
 
 /// Whether a telegram comes to the tap at a position with nothing else, while that tap sends nothing.
-fn is_alone(
-    entries: &[Entry],
-    delay: u32,
-    position: usize,
-    since: u64,
-    telegram: &Record,
-) -> bool
+fn is_alone(entries: &[Entry], delay: u32, position: usize, since: u64, telegram: &Record) -> bool
     ensures { result ≡ is_alone delay position since (map entry_of entries.now) (record_of telegram.now) }
 {
     let span = telegram.reaches(delay);
@@ -277,13 +271,7 @@ fn sensed(entry: &Entry, delay: u32, tap: usize, since: u64) -> Option<Span>
 }
 
 /// How many stretches that a tap has sensed overlap a stretch.
-fn count_overlapping(
-    entries: &[Entry],
-    delay: u32,
-    tap: usize,
-    since: u64,
-    span: Span,
-) -> usize
+fn count_overlapping(entries: &[Entry], delay: u32, tap: usize, since: u64, span: Span) -> usize
     ensures { result ≡ count_by (overlaps span) (sensed delay tap since (map entry_of entries.now)) }
 {
     entries

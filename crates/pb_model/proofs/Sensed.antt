@@ -162,7 +162,7 @@ cut-part delay since now r rest =
     ∙ sym (open-part now since (reaches delay r) rest)
 
 -- a telegram whose speaker stops closes no burst yet
-pub open-cut : (delay : ℕ) (tap since now speaker : ℕ) (trace : List Entry) 
+pub open-cut : (delay : ℕ) (tap since now speaker : ℕ) (trace : List Entry)
     → is_open (sensed delay tap since (map (cut_at now speaker) trace)) now ≡ is_open (sensed delay tap since trace) now
 open-cut delay tap since now speaker [] = refl
 open-cut delay tap since now speaker (Noise span ∷ es) =

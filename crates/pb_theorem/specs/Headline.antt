@@ -39,9 +39,9 @@ abbrev pub NoneLosesOrComesLate : World → List Event → Type 0
 NoneLosesOrComesLate w [] = Unit {0}
 NoneLosesOrComesLate w (e ∷ es) = (loses e ≡ true → ⊥) × (comes_late w e ≡ true → ⊥) × ((next : World) (reply : Reply) → step w e ≡ Ok (next, reply) → NoneLosesOrComesLate next es)
 
--- The silence bound: a running master that isn't offline is never left without activity for longer than its time-out and the lag. For a bus without delay: with one, activity counts when it is sent, and the bound is a delay longer.
+-- The silence bound: a running master that isn't offline is never left without activity for longer than its time-out, the lag and the cable delay, each telegram taken when it is sent.
 abbrev pub SilenceBound : Type 0
 SilenceBound = (p : Params) (specs : List TapSpec) (events : List Event) (new w : World) (i m : ℕ) (t : Tap) → IsValid p → AllFit specs → AreEvents events
     → new_world p specs ≡ Ok new → RunsTo new events w → NoneLosesOrComesLate new events
     → slice_get w.taps i ≡ Some t → t.running ≡ true → t.spec.master ≡ true → (is_offline t.station.phase ≡ true → ⊥)
-    → t.since ≤ m → m < w.now → is_silent p.ttd i w.trace m w.now ≡ true → w.now ≤ m + (tto p t.spec.address + p.lag)
+    → t.since ≤ m → m < w.now → is_silent 0 i w.trace m w.now ≡ true → w.now ≤ m + (tto p t.spec.address + p.lag + p.ttd)

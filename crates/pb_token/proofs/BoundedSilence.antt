@@ -79,5 +79,5 @@ silence_at_tap p specs events new w tap m u t fits run none is since lt le silen
 -- with valid parameters, up to the clock
 pub silence_bound : SilenceBound
 silence_bound p specs events new w tap m t valid fit are made runs none at running master on since lt silent =
-    silence_at_tap p specs events new w tap m w.now t (fits_valid p valid) (record { fit = fit; are = are; made = made; runs = runs }) none
+    silence_at_speakers p specs events new w tap m w.now t (fits_valid p valid) (record { fit = fit; are = are; made = made; runs = runs }) none
     (record { here = at; running = running; master = master; on = on }) since lt (omega arith) silent

@@ -22,9 +22,12 @@ advance-requires c =
     let x = c.index-trace-place.result in
     let inv = c.loop-place.invariant.ends in
     let left = left-at entry_of c.args.trace.now place x c.loop-place-test.true c.index-trace-place.is in
-    let ordered = subst (IsOrderedFrom inv.0) left inv.2 in
-    (inv.0, omega (arith, ordered.0, c.begin.ensures), subst (λ d. AreEnds d inv.0 (map entry_of (take place c.args.trace.now)) c.loop-place.ends) (sym c.ttd.ensures)
-    (subst (λ xs. AreEnds c.args.params.now.ttd inv.0 xs c.loop-place.ends) (take-map entry_of place c.args.trace.now) inv.1))
+    let ordered = subst (IsOrderedFrom inv.0) left inv.2 in (
+      inv.0,
+      omega (arith, ordered.0, c.begin.ensures),
+      subst (λ d. AreEnds d inv.0 (map entry_of (take place c.args.trace.now)) c.loop-place.ends) (sym c.ttd.ensures)
+          (subst (λ xs. AreEnds c.args.params.now.ttd inv.0 xs c.loop-place.ends) (take-map entry_of place c.args.trace.now) inv.1),
+    )
 
 pub returns-then-not-may_come : goal.returns-then-not-may_come
 returns-then-not-may_come c =
