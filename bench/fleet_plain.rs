@@ -1,6 +1,6 @@
 //! What it costs to wake a sleeping thread and to be woken by it: two threads that work and wake one another in turn, in
-//! plain Rust. The words say how often, and for how many nanoseconds each works before it wakes the other. Prints the
-//! nanoseconds of the two wake-ups, beside the work. For `bench/fleet`.
+//! plain Rust. The words say how often, and for how many nanoseconds each works before it wakes the other. For
+//! `bench/fleet`.
 
 use std::sync::atomic::{AtomicUsize, Ordering};
 use std::thread;
@@ -15,7 +15,6 @@ fn main() {
     let work = Duration::from_nanos(work.into());
     let turn = AtomicUsize::new(0);
     let first = thread::current();
-    let began = Instant::now();
     thread::scope(|scope| {
         let second = scope.spawn(|| {
             for round in 0..rounds as usize {
@@ -28,8 +27,6 @@ fn main() {
             second.thread().unpark();
         }
     });
-    let spent = began.elapsed().saturating_sub(work * 2 * rounds);
-    println!("{}", spent.as_nanos() / u128::from(rounds));
 }
 
 /// Sleeps until it is this turn, works, and lets the next one come.
