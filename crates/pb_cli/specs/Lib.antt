@@ -1,7 +1,9 @@
+pub mod Asking
 pub mod Characters
 pub mod Counted
 pub mod Counts
 pub mod Decoding
+pub mod Playing
 pub mod Reading
 pub mod Texts
 pub mod Writing

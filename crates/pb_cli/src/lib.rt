@@ -1,7 +1,7 @@
 //! What the program `ringplay` does, over any reader and writer.
 //!
-//! [`ask`] reads the program's words, [`decode_lines`] turns lines of hex into lines of text, and
-//! [`audit_file`] judges the run of a scenario file. The contracts name the bytes: what is written is
+//! [`ask`] reads the program's words, [`decode_lines`] turns lines of hex into lines of text, [`play`]
+//! plays a scenario file with a thread for each worker, and [`audit_file`] judges its run. The contracts name the bytes: what is written is
 //! a stated function of what is read, and `Read`, `TooLong` and `Write` come only where their cause is. [`Source`] and [`Sink`] are what is read
 //! from and written to; [`CountedReader`] and [`CountedWriter`] make them of any reader and writer
 //! of std.
@@ -17,6 +17,7 @@ mod decoding;
 mod faults;
 mod laws;
 mod lines;
+mod playing;
 mod reading;
 mod streams;
 mod texts;
@@ -29,6 +30,7 @@ pub use counted_reader::CountedReader;
 pub use counted_writer::CountedWriter;
 pub use decoding::decode_lines;
 pub use faults::{CliFault, Status};
+pub use playing::play;
 pub use laws::spelled_text_is_the_telegrams;
 pub use streams::{ReadFault, Sink, Source, WriteFault};
 pub use words::{Ask, AskFault};

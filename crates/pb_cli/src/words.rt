@@ -9,6 +9,15 @@ use thiserror::Error;
 pub enum Ask {
     /// Turn lines of hex on standard input into lines of text.
     Decode,
+    /// Play a scenario file.
+    Run {
+        /// The file's path.
+        file: String,
+        /// How many workers play it, 1 to 64.
+        workers: Option<usize>,
+        /// How many of the last lines are wanted, 1 to 10,000.
+        last: Option<usize>,
+    },
     /// Judge the run of a scenario file.
     Audit {
         /// The file's path.

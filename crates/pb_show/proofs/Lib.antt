@@ -1,2 +1,4 @@
 pub mod Reading
 pub mod Outcomes
+pub mod Tellings
+pub mod Kept

@@ -1,13 +1,15 @@
 -- What a file of bytes says, and what is written for its audit.
-use Rattle.std.specs.Prelude.{ℕ, List, Option, Some, None, Result, Ok, Err, if◌then◌else◌}
+use Rattle.std.specs.Prelude.{◌≡◌, ◌≢◌, ℕ, List, Option, Some, None, Result, Ok, Err, if◌then◌else◌}
 use Rattle.std.specs.Str.{is_utf8}
 use Rattle.toml.specs.Data.{Members}
 use Rattle.toml.specs.Parse.{parse_document}
+use Rattle.pb_scenario.specs.declared.faults.ScenarioFault.{ScenarioFault}
+use Rattle.pb_scenario.specs.declared.faults.ScenarioFault.TheVariants as code
 use Rattle.pb_scenario.specs.Fields.{Fault}
 use Rattle.pb_scenario.specs.Files.{scenario_in}
 use Rattle.pb_scenario.specs.Scenarios.{ScenarioView}
 use Rattle.pb_show.specs.Shown.{Shown, refusal}
-use Rattle.pb_show.specs.Faults.{scenario_line}
+use Rattle.pb_show.specs.Faults.{scenario_line, table_fault}
 use Rattle.pb_show.specs.Audits.{audit_of_scenario}
 
 -- the table that a file is, where it is TOML in UTF-8
@@ -25,6 +27,10 @@ described (Some top) = in_table (scenario_in top)
 
 abbrev pub scenario_of : List ℕ → Result ScenarioView (Option Fault)
 scenario_of file = described (table_of file)
+
+-- this is the fault for which a file describes no scenario, or memory was refused
+abbrev pub Refuses : List ℕ → ScenarioFault → Type 0
+Refuses file fault = fault ≢ code.NoMemory → scenario_of file ≡ Err (table_fault fault)
 
 -- the audit of a file's run, or the line of its fault
 abbrev pub audit_or_fault : Result ScenarioView (Option Fault) → Shown

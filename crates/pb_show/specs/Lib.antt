@@ -3,3 +3,4 @@ pub mod Shown
 pub mod Faults
 pub mod Audits
 pub mod Files
+pub mod Plays

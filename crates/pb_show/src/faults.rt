@@ -5,7 +5,6 @@ ghost use Rattle.pb_show.specs.Faults.{IsTold, file_words, line_of_run, new_line
 use crate::names::{new_name, push_key, push_path, world_name};
 use crate::numbers::push_number;
 use pb_scenario::{Path, RunFault, ScenarioFault};
-use pb_timers::Moment;
 use pb_world::{NewFault, WorldFault};
 use std::alloc::{AllocError, Global};
 
@@ -63,7 +62,7 @@ pub fn run_line(alloc: Global, fault: RunFault) -> Result<Vec<u8>, AllocError>
 {
     match fault {
         RunFault::New(fault) => new_line(alloc, fault),
-        RunFault::At(clock, fault) => refused_line(alloc, fault, clock),
+        RunFault::At(clock, fault) => refused_line(alloc, fault, clock.get()),
     }
 }
 
@@ -85,7 +84,7 @@ pub fn new_line(alloc: Global, fault: NewFault) -> Result<Vec<u8>, AllocError>
 }
 
 /// The line of an event that was refused at a clock.
-pub fn refused_line(alloc: Global, fault: WorldFault, clock: Moment) -> Result<Vec<u8>, AllocError>
+pub fn refused_line(alloc: Global, fault: WorldFault, clock: u64) -> Result<Vec<u8>, AllocError>
     ensures line { IfOk result (λ line. line.items ≡ refused_line fault clock) }
     ensures told { OnOk result (fault ≢ WorldFault.NoMemory) }
 {
@@ -98,7 +97,7 @@ pub fn refused_line(alloc: Global, fault: WorldFault, clock: Moment) -> Result<V
     line.extend_from_slice(b" ")?;
     line.extend_from_slice(world_name(fault).as_bytes())?;
     line.extend_from_slice(b" at ")?;
-    push_number(&mut line, clock.get())?;
+    push_number(&mut line, clock)?;
     line.extend_from_slice(b"\n")?;
     Ok(line)
 }

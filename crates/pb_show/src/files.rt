@@ -1,13 +1,14 @@
-ghost use Rattle.std.specs.Prelude.{◌≡◌, IfOk};
+ghost use Rattle.std.specs.Prelude.{◌≡◌, ◌≢◌, Ok, IfErr, IfOk, OnOk};
 ghost use Rattle.pb_show.specs.Audits.{audit_of_scenario};
-ghost use Rattle.pb_show.specs.Files.{audit_of};
-ghost use Rattle.pb_show.specs.Shown.{shown_of};
+ghost use Rattle.pb_show.specs.Faults.{scenario_line, table_fault};
+ghost use Rattle.pb_show.specs.Files.{Refuses, audit_of, scenario_of};
+ghost use Rattle.pb_show.specs.Shown.{refusal, shown_of};
 
 use crate::audits::findings;
 use crate::faults::{run_line, scenario_line};
 use crate::shown::Shown;
 use pb_runs::the_events_of_a_run_lead_to_its_end;
-use pb_scenario::{Scenario, events_of, read};
+use pb_scenario::{Scenario, ScenarioFault, events_of, read};
 use pb_world::audit;
 use std::alloc::{AllocError, Global};
 
@@ -18,10 +19,30 @@ use std::alloc::{AllocError, Global};
 pub fn audited(alloc: Global, file: &[u8]) -> Result<Shown, AllocError>
     ensures { IfOk result (λ shown. shown_of shown ≡ audit_of file.now) }
 {
-    match read(alloc, file) {
+    match described(alloc, file) {
         Ok(scenario) => audited_scenario(alloc, &scenario),
-        Err(fault) => Ok(Shown::refusal(scenario_line(alloc, &fault)?)),
+        Err(fault) => refused_file(alloc, &fault),
     }
+}
+
+/// The scenario that a file describes.
+///
+/// Faults: the first that applies, as [`read`] has them; or `NoMemory`.
+pub fn described(alloc: Global, file: &[u8]) -> Result<Scenario, ScenarioFault>
+    ensures scenario { IfOk result (λ s. scenario_of file.now ≡ Ok s) }
+    ensures fault { IfErr result (Refuses file.now) }
+{
+    read(alloc, file)
+}
+
+/// What is written for a file that is refused. Where memory was refused there is no line: it is refused here too.
+///
+/// Fault: memory was refused, there or here.
+pub fn refused_file(alloc: Global, fault: &ScenarioFault) -> Result<Shown, AllocError>
+    ensures shown { IfOk result (λ shown. shown_of shown ≡ refusal (scenario_line (table_fault fault.now))) }
+    ensures told { OnOk result (fault.now ≢ ScenarioFault.NoMemory) }
+{
+    Ok(Shown::refusal(scenario_line(alloc, fault)?))
 }
 
 /// What is written for the audit of a scenario.

@@ -1,8 +1,8 @@
-//! What the program writes for a scenario file, as values: the text of an audit, and the lines of faults. All times
-//! are in bit times.
+//! What the program writes for a scenario file, as values: the text of an audit, a trace or its last lines, and the lines
+//! of faults. All times are in bit times.
 //!
-//! [`audited`] gives what is written for the audit of a file. The contracts name the bytes: they are a stated function
-//! of the bytes of the file.
+//! [`audited`] gives what is written for the audit of a file: a stated function of the bytes of the file. [`traced`],
+//! [`refused_fleet`] and [`refused_file`] give what is written for a run, by what came of it.
 #![tactic(auto)]
 
 mod audits;
@@ -10,9 +10,12 @@ mod faults;
 mod files;
 mod names;
 mod numbers;
+mod plays;
 mod shown;
+mod tails;
 
-pub use files::audited;
+pub use files::{audited, described, refused_file};
+pub use plays::{refused_fleet, traced};
 pub use shown::Shown;
 
 #[cfg(test)]

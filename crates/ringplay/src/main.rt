@@ -5,14 +5,17 @@
 #![tactic(auto)]
 
 ghost use Rattle.std.specs.Prelude.{◌≡◌};
+ghost use Rattle.pb_cli.specs.Playing.{IsUpTo, line_limit, worker_limit};
 ghost use Rattle.ringplay.specs.ExitStatus.{exit_status_of, words_status_of};
 
-use pb_cli::{Ask, AskFault, CliFault, CountedReader, CountedWriter, Status, ask, audit_file, decode_lines};
+use pb_cli::{Ask, AskFault, CliFault, CountedReader, CountedWriter, Status, ask, audit_file, decode_lines, play};
 use std::fmt::Display;
 use std::fs::Files;
 use std::io::ErrorKind;
 use std::process::ExitCode;
 use std::rt::Env;
+use std::sync::Wait;
+use std::thread::Threads;
 use std::{env, fs, io};
 
 const DONE: u8 = 0;
@@ -28,6 +31,11 @@ const MEMORY: u8 = 4;
 fn main(rt: HostRuntime) -> ExitCode {
     let status = match asked(&rt) {
         Ok(Ask::Decode) => exit_status(&rt, decode(&rt)),
+        Ok(Ask::Run {
+            file,
+            workers,
+            last,
+        }) => exit_status(&rt, run(&rt, file.as_str(), workers, last)),
         Ok(Ask::Audit { file }) => exit_status(&rt, audit(&rt, file.as_str())),
         Err(fault) => words_status(&rt, fault),
     };
@@ -54,6 +62,21 @@ fn decode(rt: &(impl AllocGlobal + Input + Print)) -> Result<Status, CliFault> {
     let mut reader = CountedReader::new(rt.reader());
     let mut writer = CountedWriter::new(io::writer(rt));
     decode_lines(rt.alloc(), &mut reader, &mut writer)
+}
+
+/// `ringplay run FILE`, to standard output.
+fn run<T: AllocGlobal + Files + Print + Threads + Wait + Sync>(
+    rt: &T,
+    path: &str,
+    workers: Option<usize>,
+    last: Option<usize>,
+) -> Result<Status, CliFault>
+    requires workers { IsUpTo worker_limit workers }
+    requires last { IsUpTo line_limit last }
+{
+    let mut reader = CountedReader::new(opened(rt, path)?);
+    let mut writer = CountedWriter::new(io::writer(rt));
+    play(rt, rt.alloc(), &mut reader, &mut writer, workers, last)
 }
 
 /// `ringplay audit FILE`, to standard output.

@@ -1,0 +1,142 @@
+ghost use Rattle.std.specs.Prelude.{◌≡◌, ◌≢◌, ◌≤◌, ◌<◌, ◌+◌, length, Err, IfOk, IfErr, OnOk, IfSome, IsErrOf};
+ghost use Rattle.std.specs.Io.KnownBytes.{Keeps};
+ghost use Rattle.pb_fleet.specs.Faults.{IsCrew};
+ghost use Rattle.pb_scenario.specs.Scenarios.{ScenarioView};
+ghost use Rattle.pb_show.specs.Plays.{IsRun, IsRunOf, crew_of};
+ghost use Rattle.pb_show.specs.Shown.{shown_of};
+ghost use Rattle.pb_cli.specs.Playing.{IsUpTo, WritesFrontOfRun, WritesRun, line_limit, worker_limit};
+ghost use Rattle.pb_cli.specs.Reading.{byte_limit, call_limit, IsReadCause};
+ghost use Rattle.pb_cli.specs.Writing.{IsWriteCause};
+
+use crate::faults::{CliFault, Status};
+use crate::reading::read_input;
+use crate::streams::{Sink, Source};
+use crate::writing::write_out;
+use pb_fleet::{Gate, run_fleet};
+use pb_scenario::Scenario;
+use pb_show::{Shown, described, refused_file, refused_fleet, traced};
+use std::alloc::{AllocError, Global};
+use std::sync::Wait;
+use std::thread::Threads;
+
+/// The most workers that may be asked for.
+pub const MOST_WORKERS: usize = 64;
+
+/// The most last lines that may be asked for.
+pub const MOST_LINES: usize = 10_000;
+
+/// Reads a scenario file to the end of the reader, plays the scenario with some workers, each in a thread of its own, and
+/// writes its trace, or the last lines of it; where the file or the run is refused, the line of the fault. The trace is that
+/// of the run on one thread, whatever the number of workers. The whole text is made before the first write.
+///
+/// `workers`, 1 to 64, is the number of taps where it isn't given (1 where there is no tap, 64 at most); `last` is 1 to 10,000.
+/// At `Ok` the writer holds that text, and the status is `Refused` exactly where it is the line of a fault. Faults: `Read`
+/// where the reader failed, or all 2,097,152 read calls were made and at least half of them were interrupted; `TooLong` for a
+/// file of more than 1,048,576 bytes; `Write` where the writer failed, or was interrupted 1,001 times in a row; `NoMemory`.
+/// After `Write` a front of the text went out, after the other faults nothing.
+pub fn play<T: Threads + Wait + Sync, R: Source, W: Sink>(
+    rt: &T,
+    alloc: Global,
+    reader: &mut R,
+    writer: &mut W,
+    workers: Option<usize>,
+    last: Option<usize>,
+) -> Result<Status, CliFault>
+    requires workers { IsUpTo worker_limit workers }
+    requires last { IsUpTo line_limit last }
+    ensures text { IfOk result (λ status. IfSome (R.remaining reader.old) (λ file.
+        WritesRun file workers last (W.contents writer.old) (W.contents writer.new) status)) }
+    ensures fits { OnOk result (IfSome (R.remaining reader.old) (λ file. length file ≤ byte_limit)) }
+
+    ensures write_fits { IsErrOf result CliFault.Write
+        → IfSome (R.remaining reader.old) (λ file. length file ≤ byte_limit) }
+    ensures calls { R.calls reader.new ≤ R.calls reader.old + call_limit }
+
+    // A fault comes only where its cause is.
+    ensures read { IsErrOf result CliFault.Read
+        → IsReadCause (R.failures reader.old) (R.failures reader.new)
+        (R.calls reader.old) (R.calls reader.new) (R.interruptions reader.old) (R.interruptions reader.new) }
+    ensures too_long { IsErrOf result CliFault.TooLong
+        → IfSome (R.remaining reader.old) (λ file. byte_limit < length file) }
+    ensures write { IsErrOf result CliFault.Write
+        → IsWriteCause (W.failures writer.old) (W.failures writer.new)
+        (W.interruptions writer.old) (W.interruptions writer.new) (W.in_a_row writer.new) }
+
+    // A failure of the reader or of the writer is told.
+    ensures reader_failed { result ≢ Err CliFault.Read → R.failures reader.new ≡ R.failures reader.old }
+    ensures writer_failed { result ≢ Err CliFault.Write → W.failures writer.new ≡ W.failures writer.old }
+
+    // After a failed write a front of the text went out, after another fault nothing.
+    ensures front { IsErrOf result CliFault.Write → IfSome (R.remaining reader.old) (λ file.
+        WritesFrontOfRun file workers last (W.contents writer.old) (W.contents writer.new)) }
+    ensures nothing { IfErr result (λ fault. fault ≢ CliFault.Write
+        → Keeps (W.contents writer.old) (W.contents writer.new)) }
+{
+    let file = read_input(alloc, reader)?;
+    let shown = played(rt, alloc, &file, workers, last)?;
+    write_out(writer, &shown.text)?;
+    Ok(if shown.is_refused {
+        Status::Refused
+    } else {
+        Status::Done
+    })
+}
+
+/// What is written for the run of a scenario file.
+fn played<T: Threads + Wait + Sync>(
+    rt: &T,
+    alloc: Global,
+    file: &[u8],
+    workers: Option<usize>,
+    last: Option<usize>,
+) -> Result<Shown, AllocError>
+    requires { IsUpTo worker_limit workers }
+    ensures { IfOk result (λ shown. IsRunOf file.now workers last (shown_of shown)) }
+{
+    match described(alloc, file) {
+        Ok(scenario) => {
+            played_scenario(rt, alloc, &scenario, crew_of(workers, &scenario), last)
+        }
+        Err(fault) => refused_file(alloc, &fault),
+    }
+}
+
+/// How many workers there are: one for each tap where no number is asked for, at least one, and no more than a fleet may
+/// have.
+fn crew_of(workers: Option<usize>, scenario: &Scenario) -> usize
+    requires { IsUpTo worker_limit workers }
+    ensures count { result ≡ crew_of workers (length scenario.now.scenario.taps) }
+    ensures crew { IsCrew result }
+{
+    match workers {
+        Some(workers) => workers,
+        None => scenario.taps().len().min(MOST_WORKERS).max(1),
+    }
+}
+
+/// What is written for the run of a scenario by some workers.
+fn played_scenario<T: Threads + Wait + Sync>(
+    rt: &T,
+    alloc: Global,
+    scenario: &Scenario,
+    workers: usize,
+    last: Option<usize>,
+) -> Result<Shown, AllocError>
+    requires { IsCrew workers }
+    ensures { IfOk result (λ shown. IsRun scenario.now workers last (shown_of shown)) }
+{
+    match run_fleet(rt, alloc, scenario, workers, &OpenGate) {
+        Ok(report) => traced(alloc, scenario, report.trace(), last),
+        Err(fault) => refused_fleet(alloc, fault),
+    }
+}
+
+/// A gate that lets each tap take its turn.
+#[derive(Drop)]
+struct OpenGate;
+
+impl Gate for OpenGate {
+    fn between(&self, _tap: usize) -> bool {
+        true
+    }
+}

@@ -1,0 +1,91 @@
+ghost use Rattle.std.specs.Prelude.{◌≡◌, ◌≢◌, ◌≤◌, IfOk, OnOk, map};
+ghost use Rattle.pb_medium.specs.Entries.{entry_of};
+ghost use Rattle.pb_fleet.specs.declared.faults.FleetFault.{FleetFault};
+ghost use Rattle.pb_scenario.specs.Scenarios.{ScenarioView};
+ghost use Rattle.pb_show.specs.Plays.{IsToldCommit, IsToldFleet, commit_line, fleet_line, trace_shown};
+ghost use Rattle.pb_show.specs.Shown.{refusal, shown_of};
+
+use crate::faults::{new_line, refused_line};
+use crate::shown::Shown;
+use crate::tails::last_lines;
+use pb_fleet::FleetFault;
+use pb_scenario::{Scenario, trace_text};
+use pb_segment::CommitFault;
+use pb_world::Entry;
+use std::alloc::{AllocError, Global};
+
+/// What is written for the trace of a scenario's run: a line for each entry, or the last lines of them.
+///
+/// Fault: memory was refused.
+pub fn traced(
+    alloc: Global,
+    scenario: &Scenario,
+    entries: &[Entry],
+    last: Option<usize>,
+) -> Result<Shown, AllocError>
+    ensures { IfOk result (λ shown. shown_of shown ≡ trace_shown last scenario.now.names (map entry_of entries.now)) }
+{
+    let whole = trace_text(alloc, scenario, entries)?;
+    let text = match last {
+        None => whole,
+        Some(lines) => last_lines(alloc, &whole, lines)?,
+    };
+    Ok(Shown {
+        text,
+        is_refused: false,
+    })
+}
+
+/// What is written for the fault of a fleet, which is not that its workers were refused. Where memory was refused there is
+/// no line: it is refused here too.
+///
+/// Fault: memory was refused, there or here.
+pub fn refused_fleet(alloc: Global, fault: FleetFault) -> Result<Shown, AllocError>
+    requires { fault ≢ FleetFault.BadWorkers }
+    ensures shown { IfOk result (λ shown. shown_of shown ≡ refusal (fleet_line fault)) }
+    ensures told { OnOk result (IsToldFleet fault) }
+{
+    Ok(Shown::refusal(fleet_line(alloc, fault)?))
+}
+
+/// The line of a fleet's fault.
+fn fleet_line(alloc: Global, fault: FleetFault) -> Result<Vec<u8>, AllocError>
+    requires { fault ≢ FleetFault.BadWorkers }
+    ensures line { IfOk result (λ line. line.items ≡ fleet_line fault) }
+    ensures told { OnOk result (IsToldFleet fault) }
+{
+    match fault {
+        FleetFault::BadWorkers => unreachable!(),
+        FleetFault::Commit { now, fault, .. } | FleetFault::Drive { now, fault } => {
+            commit_line(alloc, fault, now)
+        }
+        FleetFault::GateClosed(_) => words(alloc, b"gate closed\n"),
+        FleetFault::NoThread => words(alloc, b"no thread\n"),
+        FleetFault::Closing(_) => words(alloc, b"disagree\n"),
+        FleetFault::NoMemory => Err(AllocError),
+        FleetFault::New(fault) => new_line(alloc, fault),
+    }
+}
+
+/// The line of an event that a segment refuses at a clock.
+fn commit_line(alloc: Global, fault: CommitFault, clock: u64) -> Result<Vec<u8>, AllocError>
+    ensures line { IfOk result (λ line. line.items ≡ commit_line fault clock) }
+    ensures told { OnOk result (IsToldCommit fault) }
+{
+    match fault {
+        CommitFault::WrongTap => words(alloc, b"wrong tap\n"),
+        CommitFault::Disagree => words(alloc, b"disagree\n"),
+        CommitFault::Stale { .. } => words(alloc, b"stale\n"),
+        CommitFault::World(fault) => refused_line(alloc, fault, clock),
+        CommitFault::HistoryFull => words(alloc, b"history full\n"),
+    }
+}
+
+/// A line of words.
+fn words(alloc: Global, words: &[u8]) -> Result<Vec<u8>, AllocError>
+    ensures { IfOk result (λ line. line.items ≡ words.now) }
+{
+    let mut line = Vec::new(alloc);
+    line.extend_from_slice(words)?;
+    Ok(line)
+}

@@ -1,0 +1,36 @@
+ghost use Rattle.std.specs.Prelude.{◌≡◌, IfOk, map};
+ghost use Rattle.std.specs.List.{flat_map};
+ghost use Rattle.bstr.specs.Text.{lines_of};
+ghost use Rattle.circular_buffer.specs.Buffer.{keep_last};
+ghost use Rattle.pb_show.specs.Plays.{last_lines};
+
+use bstr::ByteSlice;
+use circular_buffer::HeapCircularBuffer;
+use std::alloc::{AllocError, Global};
+
+/// The last lines of a text, all of them where it has no more.
+pub fn last_lines(alloc: Global, text: &[u8], lines: usize) -> Result<Vec<u8>, AllocError>
+    ensures { IfOk result (λ last. last.items ≡ last_lines lines text.now) }
+{
+    let kept = kept_lines(alloc, text, lines)?;
+    let mut last = Vec::new(alloc);
+    for line in kept.iter() {
+        last.extend_from_slice(line)?;
+    }
+    Ok(last)
+}
+
+/// Keeps the last lines of a text.
+fn kept_lines<'a>(
+    alloc: Global,
+    text: &'a [u8],
+    lines: usize,
+) -> Result<HeapCircularBuffer<&'a [u8]>, AllocError>
+    ensures { IfOk result (λ kept. map (λ line. line.now) kept.items ≡ keep_last lines (lines_of text.entry.now)) }
+{
+    let mut kept = HeapCircularBuffer::with_capacity(alloc, lines)?;
+    for line in text.lines_with_terminator() {
+        kept.push_back(line);
+    }
+    Ok(kept)
+}
