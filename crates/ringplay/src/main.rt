@@ -4,7 +4,8 @@
 //! is refused, 2 usage, 3 a read or write fault or too long an input, 4 no memory.
 #![tactic(auto)]
 
-ghost use Rattle.std.specs.Prelude.{◌≡◌};
+ghost use Rattle.std.specs.Prelude.{◌≡◌, IfOk};
+ghost use Rattle.pb_cli.specs.Asking.{IsWithinLimits};
 ghost use Rattle.pb_cli.specs.Playing.{IsUpTo, line_limit, worker_limit};
 ghost use Rattle.ringplay.specs.ExitStatus.{exit_status_of, words_status_of};
 
@@ -30,20 +31,16 @@ const MEMORY: u8 = 4;
 
 fn main(rt: HostRuntime) -> ExitCode {
     let status = match asked(&rt) {
-        Ok(Ask::Decode) => exit_status(&rt, decode(&rt)),
-        Ok(Ask::Run {
-            file,
-            workers,
-            last,
-        }) => exit_status(&rt, run(&rt, file.as_str(), workers, last)),
-        Ok(Ask::Audit { file }) => exit_status(&rt, audit(&rt, file.as_str())),
+        Ok(ask) => exit_status(&rt, answer(&rt, ask)),
         Err(fault) => words_status(&rt, fault),
     };
     ExitCode::from(status)
 }
 
 /// What the program's words ask for; a word that is no text is told as one that makes no sense.
-fn asked(rt: &(impl AllocGlobal + Env)) -> Result<Ask, AskFault> {
+fn asked(rt: &(impl AllocGlobal + Env)) -> Result<Ask, AskFault>
+    ensures { IfOk result IsWithinLimits }
+{
     match env::args(rt) {
         Ok(words) => {
             let words: Vec<String> = words.collect(rt.alloc())?;
@@ -54,6 +51,24 @@ fn asked(rt: &(impl AllocGlobal + Env)) -> Result<Ask, AskFault> {
             let text = String::from_str(rt.alloc(), "error: a word is no text\n")?;
             Err(AskFault::Usage(text))
         }
+    }
+}
+
+/// Does what is asked.
+fn answer<T: AllocGlobal + Files + Input + Print + Threads + Wait + Sync>(
+    rt: &T,
+    ask: Ask,
+) -> Result<Status, CliFault>
+    requires { IsWithinLimits ask }
+{
+    match ask {
+        Ask::Decode => decode(rt),
+        Ask::Run {
+            file,
+            workers,
+            last,
+        } => run(rt, file.as_str(), workers, last),
+        Ask::Audit { file } => audit(rt, file.as_str()),
     }
 }
 
