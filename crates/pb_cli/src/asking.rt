@@ -73,10 +73,14 @@ fn command<'a>(alloc: Global) -> Result<Command<'a>, AllocError> {
     let run = Command::new(alloc, RUN)
         .about("Plays a scenario and prints its trace")
         .arg(file(alloc))?
-        .arg(number(alloc, WORKERS, MOST_WORKERS).help("Threads that take turns, 1 to 64 [default: one for each tap]"))?
+        .arg(number(alloc, WORKERS, MOST_WORKERS).help(
+            "Threads that take turns, 1 to 64 [default: one for each tap]",
+        ))?
         .arg(number(alloc, LAST, MOST_LINES).help("Prints the last lines alone, 1 to 10,000"))?;
     let audit = Command::new(alloc, AUDIT)
-        .about("Says which premise broke in a scenario's run, and which record of its trace is illegal")
+        .about(
+            "Says which premise broke in a scenario's run, and which record of its trace is illegal",
+        )
         .arg(file(alloc))?;
     Command::new(alloc, "ringplay")
         .about("A PROFIBUS data link layer (FDL): telegrams and the token ring")
@@ -98,9 +102,7 @@ fn number<'a>(alloc: Global, name: &'a str, most: usize) -> Arg<'a>
 
 /// The argument that names a scenario file.
 fn file<'a>(alloc: Global) -> Arg<'a> {
-    Arg::new(alloc, FILE)
-        .help("A scenario file")
-        .required(true)
+    Arg::new(alloc, FILE).help("A scenario file").required(true)
 }
 
 /// What to answer for words that `clap` refuses.

@@ -30,8 +30,8 @@ pub use counted_reader::CountedReader;
 pub use counted_writer::CountedWriter;
 pub use decoding::decode_lines;
 pub use faults::{CliFault, Status};
-pub use playing::play;
 pub use laws::spelled_text_is_the_telegrams;
+pub use playing::play;
 pub use streams::{ReadFault, Sink, Source, WriteFault};
 pub use words::{Ask, AskFault};
 

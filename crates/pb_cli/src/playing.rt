@@ -94,9 +94,7 @@ fn played<T: Threads + Wait + Sync>(
     ensures { IfOk result (λ shown. IsRunOf file.now workers last (shown_of shown)) }
 {
     match described(alloc, file) {
-        Ok(scenario) => {
-            played_scenario(rt, alloc, &scenario, crew_of(workers, &scenario), last)
-        }
+        Ok(scenario) => { played_scenario(rt, alloc, &scenario, crew_of(workers, &scenario), last) }
         Err(fault) => refused_file(alloc, &fault),
     }
 }

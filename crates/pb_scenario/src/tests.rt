@@ -245,7 +245,8 @@ fn plays_noise(rt: HostRuntime) {
 fn plays_with_a_cable_delay(rt: HostRuntime) {
     let alloc = rt.alloc();
     let second = "name = \"b\"\nkind = \"master\"\naddress = 2";
-    let steps = "[[step]]\nat = 0\ndo = \"start\"\ntap = \"a\"\n[[step]]\nat = 0\ndo = \"start\"\ntap = \"b\"";
+    let steps =
+        "[[step]]\nat = 0\ndo = \"start\"\ntap = \"a\"\n[[step]]\nat = 0\ndo = \"start\"\ntap = \"b\"";
     let text = file(alloc, "version = 1\nuntil = 1450", second, steps).expect(&rt, "memory");
     let scenario = read(alloc, text.as_bytes()).expect(&rt, "a scenario");
     let (scenario, fault) = scenario.with_ttd(20).expect_err(&rt, "too long a delay");

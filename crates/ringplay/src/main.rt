@@ -1,4 +1,4 @@
-//! `ringplay`: telegrams of the PROFIBUS data link layer (FDL), from hex to text.
+//! `ringplay`: plays and audits scenarios of the PROFIBUS data link layer (FDL), and turns its telegrams from hex to text.
 //!
 //! Opens the streams, calls `pb_cli`, and turns its answer into an exit status: 0 done, 1 something
 //! is refused, 2 usage, 3 a read or write fault or too long an input, 4 no memory.
@@ -9,7 +9,10 @@ ghost use Rattle.pb_cli.specs.Asking.{IsWithinLimits};
 ghost use Rattle.pb_cli.specs.Playing.{IsUpTo, line_limit, worker_limit};
 ghost use Rattle.ringplay.specs.ExitStatus.{exit_status_of, words_status_of};
 
-use pb_cli::{Ask, AskFault, CliFault, CountedReader, CountedWriter, Status, ask, audit_file, decode_lines, play};
+use pb_cli::{
+    Ask, AskFault, CliFault, CountedReader, CountedWriter, Status, ask, audit_file, decode_lines,
+    play,
+};
 use std::fmt::Display;
 use std::fs::Files;
 use std::io::ErrorKind;

@@ -28,12 +28,24 @@ fn audit_takes_a_file(rt: HostRuntime) -> Result<(), Fail> {
 fn run_takes_a_file_and_numbers(rt: HostRuntime) -> Result<(), Fail> {
     for (line, workers, last) in [
         ("ringplay run two.toml", None, None),
-        ("ringplay run two.toml --workers 64 --last=3", Some(64), Some(3)),
-        ("ringplay run --last 10000 --workers 01 two.toml", Some(1), Some(10_000)),
+        (
+            "ringplay run two.toml --workers 64 --last=3",
+            Some(64),
+            Some(3),
+        ),
+        (
+            "ringplay run --last 10000 --workers 01 two.toml",
+            Some(1),
+            Some(10_000),
+        ),
     ] {
         let words = words(rt.alloc(), line)?;
         let file = String::from_str(rt.alloc(), "two.toml")?;
-        let wanted = Ask::Run { file, workers, last };
+        let wanted = Ask::Run {
+            file,
+            workers,
+            last,
+        };
         assert_eq!(rt; ask(rt.alloc(), &words)?, wanted);
     }
     Ok(())
@@ -47,9 +59,15 @@ fn other_words_get_a_usage_text(rt: HostRuntime) -> Result<(), Fail> {
         ("ringplay run ring.toml --workers 0", "0 is not in 1..=64"),
         ("ringplay run ring.toml --workers 65", "65 is not in 1..=64"),
         ("ringplay run ring.toml --last 0", "0 is not in 1..=10000"),
-        ("ringplay run ring.toml --last 10001", "10001 is not in 1..=10000"),
+        (
+            "ringplay run ring.toml --last 10001",
+            "10001 is not in 1..=10000",
+        ),
         ("ringplay run ring.toml --last x", "invalid value 'x'"),
-        ("ringplay run a.toml --last 1 --last 2", "cannot be used multiple times"),
+        (
+            "ringplay run a.toml --last 1 --last 2",
+            "cannot be used multiple times",
+        ),
         ("ringplay audit", "<FILE>"),
         ("ringplay audit ring.toml 3", "unexpected argument '3'"),
         ("ringplay decode dc0302", "unexpected argument 'dc0302'"),
