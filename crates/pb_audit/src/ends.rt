@@ -40,7 +40,8 @@ impl Ends {
 
     /// Takes those on among the earlier entries that have begun at all taps before a moment.
     pub(crate) fn advance(&mut self, earlier: &[Entry], delay: u32, moment: u64)
-        requires { (before : ℕ) × (before ≤ moment) × AreEnds delay before (map entry_of earlier.now) self.old }
+        requires { (before : ℕ) × (before ≤ moment)
+            × AreEnds delay before (map entry_of earlier.now) self.old }
         ensures { AreEnds delay moment (map entry_of earlier.now) self.new }
     {
         for place in self.begun..earlier.len() {

@@ -73,7 +73,8 @@ fn last_after<'a>(
     last: Option<LastInitiator<'a>>,
     entry: &'a Entry,
 ) -> Option<LastInitiator<'a>>
-    requires ends { AreEnds params.now.ttd (entry_begin (entry_of entry.now)) (map entry_of earlier.now) ends.now }
+    requires ends { AreEnds params.now.ttd (entry_begin (entry_of entry.now)) (map entry_of earlier.now)
+        ends.now }
     requires lasts { entry_begin (entry_of entry.now) ≤ entry_end (entry_of entry.now) }
     ensures { option_map last_of result
         ≡ last_after params.now.ttd params.now.tsl (map entry_of earlier.now) (option_map last_of last.entry)
@@ -172,7 +173,8 @@ fn claims(
 
 /// Whether an entry is active at the speaker of a telegram in the slot behind it.
 fn is_in_slot(params: &BusParams, telegram: &Record, entry: &Entry) -> bool
-    ensures { result ≡ is_in_slot params.now.ttd params.now.tsl (record_of telegram.now) (entry_of entry.now) }
+    ensures { result
+        ≡ is_in_slot params.now.ttd params.now.tsl (record_of telegram.now) (entry_of entry.now) }
 {
     let over = telegram.end + u64::from(params.tsl());
     is_active_in(entry, params.ttd(), telegram.tap, telegram.end, over)

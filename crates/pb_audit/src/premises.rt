@@ -185,7 +185,8 @@ fn listen_to(quiet: &mut [u64; TAPS], bus: &Bus, to: u64)
 /// Whether something is active at a tap from the clock on, before a moment.
 fn is_heard(bus: &Bus, tap: usize, to: u64) -> bool
     requires { IsKept bus.now }
-    ensures { result ≡ is_active bus.entry.now.params.ttd bus.entry.now.now to (world_of bus.entry.now).trace tap }
+    ensures { result
+        ≡ is_active bus.entry.now.params.ttd bus.entry.now.now to (world_of bus.entry.now).trace tap }
 {
     is_active(bus.trace.recent(), bus.params.ttd(), tap, bus.now.get(), to)
 }

@@ -113,7 +113,8 @@ fn begin_in(
     from: Moment,
     to: Moment,
 ) -> Option<Moment>
-    ensures { result ≡ begin_between (sensed delay position tap.now.since (map entry_of entries.now)) from to }
+    ensures { result
+        ≡ begin_between (sensed delay position tap.now.since (map entry_of entries.now)) from to }
 {
     moment_of(begin_between(entries, delay, position, tap.since, from.get(), to.get()))
 }

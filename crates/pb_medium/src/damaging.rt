@@ -29,7 +29,8 @@ impl Trace {
         ensures ok { OnOk result (RecentBecomes (damaged delay speaker now (hit_of hit)) self.old self.new) }
         ensures found { OnOk result (can_hit delay speaker now (hit_of hit) (recent_of self.old) ≡ true) }
         ensures err { OnErr result (StaysAs self.old self.new) }
-        ensures fault { IfErr result (RefusesHit (can_hit delay speaker now (hit_of hit) (recent_of self.old))) }
+        ensures fault { IfErr result
+            (RefusesHit (can_hit delay speaker now (hit_of hit) (recent_of self.old))) }
     {
         damage(&mut self.entries[self.over..], delay, speaker, now, hit)
     }
@@ -55,7 +56,8 @@ fn damage(
         ≡ damaged delay speaker now (hit_of hit) (map entry_of entries.old)) }
     ensures found { OnOk result (can_hit delay speaker now (hit_of hit) (map entry_of entries.old) ≡ true) }
     ensures err { OnErr result (map entry_of entries.new ≡ map entry_of entries.old) }
-    ensures fault { IfErr result (RefusesHit (can_hit delay speaker now (hit_of hit) (map entry_of entries.old))) }
+    ensures fault { IfErr result
+        (RefusesHit (can_hit delay speaker now (hit_of hit) (map entry_of entries.old))) }
 {
     match target(entries, delay, speaker, now, hit) {
         Some(place) => {
@@ -69,7 +71,8 @@ fn damage(
 /// The telegram that is hit.
 fn target(entries: &[Entry], delay: u32, speaker: usize, now: Moment, hit: Hit) -> Option<usize>
     ensures none { result ≡ None → can_hit delay speaker now (hit_of hit) (map entry_of entries.now) ≡ false }
-    ensures some { IfSome result (λ i. can_hit delay speaker now (hit_of hit) (map entry_of entries.now) ≡ true) }
+    ensures some { IfSome result
+        (λ i. can_hit delay speaker now (hit_of hit) (map entry_of entries.now) ≡ true) }
     ensures place { IfSome result
         (IsFirstPlace (world.is_in_air_by delay now speaker) (map entry_of entries.now)) }
 {

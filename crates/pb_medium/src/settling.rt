@@ -31,7 +31,8 @@ impl Trace {
     pub fn close(&mut self, delay: u32, now: Moment)
         ensures entries { entries_of self.new ≡ entries_of self.old }
         ensures over { over_of self.new ≡ over_after delay now (over_of self.old) (entries_of self.old) }
-        ensures cut { (before : ℕ) → before ≤ now → IsCut delay before (over_of self.old) (entries_of self.old)
+        ensures cut { (before : ℕ) → before ≤ now
+            → IsCut delay before (over_of self.old) (entries_of self.old)
             → AllBegun now (entries_of self.old) → IsCut delay now (over_of self.new) (entries_of self.new) }
     {
         if next_end(self.recent(), delay, now.get()).is_none() {

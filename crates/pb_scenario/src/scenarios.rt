@@ -117,7 +117,8 @@ impl Scenario {
     /// that they would break.
     pub fn with_ttd(mut self, ttd: u32) -> Result<Scenario, (Scenario, ParamFault)>
         ensures ok { IfOk result (λ s. s ≡ delayed self ttd) }
-        ensures valid { IfOk result (λ _. first_fault (param_faults (params_with self.scenario.params ttd)) ≡ None) }
+        ensures valid { IfOk result
+            (λ _. first_fault (param_faults (params_with self.scenario.params ttd)) ≡ None) }
         ensures err { IfErr result (λ e. e.0 ≡ self) }
         ensures fault { IfErr result
             (λ e. first_fault (param_faults (params_with self.scenario.params ttd)) ≡ Some e.1) }

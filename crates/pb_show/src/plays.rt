@@ -23,7 +23,8 @@ pub fn traced(
     entries: &[Entry],
     last: Option<usize>,
 ) -> Result<Shown, AllocError>
-    ensures { IfOk result (λ shown. shown_of shown ≡ trace_shown last scenario.now.names (map entry_of entries.now)) }
+    ensures { IfOk result
+        (λ shown. shown_of shown ≡ trace_shown last scenario.now.names (map entry_of entries.now)) }
 {
     let whole = trace_text(alloc, scenario, entries)?;
     let text = match last {

@@ -26,7 +26,8 @@ fn kept_lines<'a>(
     text: &'a [u8],
     lines: usize,
 ) -> Result<HeapCircularBuffer<&'a [u8]>, AllocError>
-    ensures { IfOk result (λ kept. map (λ line. line.now) kept.items ≡ keep_last lines (lines_of text.entry.now)) }
+    ensures { IfOk result
+        (λ kept. map (λ line. line.now) kept.items ≡ keep_last lines (lines_of text.entry.now)) }
 {
     let mut kept = HeapCircularBuffer::with_capacity(alloc, lines)?;
     for line in text.lines_with_terminator() {
