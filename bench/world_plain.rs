@@ -19,7 +19,7 @@ const CLOCK_LIMIT: u64 = 1_000_000_000_000;
 const TRACE_LIMIT: usize = 100_000;
 const MARK_LIMIT: usize = 64;
 const QUEUE_LIMIT: usize = 16;
-const TAP_LIMIT: usize = 32;
+const TAP_LIMIT: usize = 127;
 /// How often a token is tried at each successor.
 const TRIES: u8 = 3;
 /// How many tokens may skip a station in the ring before it listens anew.
@@ -1080,8 +1080,8 @@ struct Record {
     tap: usize,
     octets: Piece,
     /// The taps that have heard it whole, and those to which it never comes.
-    whole: u32,
-    unheard: u32,
+    whole: u128,
+    unheard: u128,
     /// Each tap at which it is damaged, with the place, or none for all.
     hits: Vec<(usize, Option<u8>)>,
 }
@@ -2028,6 +2028,7 @@ fn master(address: u8, reply: usize) -> TapSpec {
 /// - `three`: three masters that pass it
 /// - `eight`: eight masters with requests and replies of full units
 /// - `taps32`: eight masters and 24 passive stations
+/// - `taps127`: eight masters and 119 passive stations
 /// - `noise`: two masters, with noise each 500 bit times, after which no station ever waits out its time-out
 /// - `recovery`: the same each 5,000 bit times, so that the ring forms anew each time
 fn kind_of(name: &str) -> Option<Kind> {
@@ -2039,7 +2040,7 @@ fn kind_of(name: &str) -> Option<Kind> {
         is_lazy: false,
     };
     let eight = |reply| (1..=8).map(move |address| master(address, reply));
-    let passive = (9..=32).map(|address| TapSpec { master: false, address, reply: Vec::new() });
+    let passive = |address| TapSpec { master: false, address, reply: Vec::new() };
     let many = vec![("hsa", 8), ("gap", 1), ("ttr", 50_000)];
     Some(match name {
         "token" => two,
@@ -2048,7 +2049,10 @@ fn kind_of(name: &str) -> Option<Kind> {
             Kind { bus: vec![("hsa", 3)], taps: (1..=3).map(|address| master(address, 0)).collect(), ..two }
         }
         "eight" => Kind { bus: many, taps: eight(246).collect(), requests: Some((25_000, 246)), ..two },
-        "taps32" => Kind { bus: many, taps: eight(0).chain(passive).collect(), ..two },
+        "taps32" => Kind { bus: many, taps: eight(0).chain((9..=32).map(passive)).collect(), ..two },
+        "taps127" => {
+            Kind { bus: many, taps: eight(0).chain((9..=126).chain([0]).map(passive)).collect(), ..two }
+        }
         "noise" => Kind { noise: Some((500, 20)), ..two },
         "recovery" => Kind { noise: Some((5_000, 20)), ..two },
         _ => return None,

@@ -4,7 +4,9 @@ use arrayvec::ArrayVec;
 use pb_cycles::{Outcome, Request, Service};
 use pb_station::decide;
 use pb_timers::BusParams;
-use pb_world::{AuditFault, Event, Kind, NewFault, TapSpec, World, WorldFault, audit, run};
+use pb_world::{
+    AuditFault, Entry, Event, Heard, Kind, NewFault, TapSpec, World, WorldFault, audit, run,
+};
 use std::process::Abort;
 
 /// A slot of 100, idle times 37 and 60, reply delay 11, no lag, rotation 10,000, GAP factor 10, highest
@@ -304,6 +306,76 @@ fn a_full_trace_takes_no_more(rt: HostRuntime) {
     assert_eq!(rt; world.trace().len(), 100_000);
 }
 
+/// The clock goes as far as it can, and no further.
+#[test]
+fn a_full_clock_goes_no_further(rt: HostRuntime) {
+    let alloc = rt.alloc();
+    let mut world = two_masters(&rt);
+    let longest = Event::Pass(1_000_000_000_000);
+    let passed = world.apply(alloc, longest).expect(&rt, "a pass");
+    assert_eq!(rt; passed.now.get(), 1_000_000_000_000);
+    assert_eq!(rt;
+        world.apply(alloc, Event::Pass(1)).err(),
+        Some(WorldFault::ClockFull)
+    );
+    assert_eq!(rt; world.now().get(), 1_000_000_000_000);
+}
+
+/// Of each priority 16 requests wait at a tap, and no more.
+#[test]
+fn full_lists_take_no_more(rt: HostRuntime) {
+    let alloc = rt.alloc();
+    let mut world = two_masters(&rt);
+    world.apply(alloc, Event::Start(0)).expect(&rt, "a start");
+    for high in [true, false] {
+        let asked = || {
+            let request = Request::new(7, Service::Srd, high, ArrayVec::new());
+            Event::Queue {
+                tap: 0,
+                request: request.expect(&rt, "a request"),
+            }
+        };
+        for _ in 0..16 {
+            world.apply(alloc, asked()).expect(&rt, "room");
+        }
+        assert_eq!(rt;
+            world.apply(alloc, asked()).err(),
+            Some(WorldFault::QueueFull)
+        );
+    }
+    let queue = world.station(0).expect(&rt, "a station").queue();
+    assert_eq!(rt; (queue.len_high(), queue.len_low()), (16, 16));
+}
+
+/// An inbox has 64 marks, a begin and an end of each noise. Where one is full, no time passes to a mark beyond.
+#[test]
+fn a_full_inbox_takes_no_more(rt: HostRuntime) {
+    let alloc = rt.alloc();
+    let mut world = two_masters(&rt);
+    world.apply(alloc, Event::Start(1)).expect(&rt, "a start");
+    for _ in 0..32 {
+        world.apply(alloc, Event::Noise(1)).expect(&rt, "noise");
+        world.apply(alloc, Event::Pass(1)).expect(&rt, "its end");
+        world.apply(alloc, Event::Pass(1)).expect(&rt, "silence");
+    }
+    assert_eq!(rt; unread(&rt, &world, 1), 64);
+    world.apply(alloc, Event::Noise(1)).expect(&rt, "noise");
+    assert_eq!(rt;
+        world.apply(alloc, Event::Pass(1)).err(),
+        Some(WorldFault::InboxFull(1))
+    );
+    assert_eq!(rt; (world.now().get(), unread(&rt, &world, 1)), (64, 64));
+}
+
+/// How many marks a tap has not read; none where there is no such tap.
+fn unread(rt: &(impl AllocGlobal + Abort), world: &World, tap: usize) -> usize {
+    if tap >= world.taps() {
+        return 0;
+    }
+    let glance = world.glance_of(rt.alloc(), tap).expect(rt, "a glance");
+    glance.marks.len()
+}
+
 /// The texts of faults that no event list prints.
 #[test]
 fn faults_are_shown(rt: HostRuntime) {
@@ -335,4 +407,54 @@ fn events_are_copied(rt: HostRuntime) {
     assert!(rt; asked.copy() == asked);
     assert!(rt; Event::Stop(2).copy() == Event::Stop(2));
     assert!(rt; Event::Stop(2).copy() != Event::Start(2));
+}
+
+/// A master and so many passive stations.
+fn segment(rt: &(impl AllocGlobal + Abort), passive: usize) -> Vec<TapSpec> {
+    let mut specs = Vec::new(rt.alloc());
+    specs.push(master(1)).expect(rt, "memory");
+    for _ in 0..passive {
+        specs.push(replying(9, 0)).expect(rt, "memory");
+    }
+    specs
+}
+
+/// A world has 127 taps and no more, and its trace says of each how a telegram reached it.
+#[test]
+fn a_world_has_127_taps(rt: HostRuntime) {
+    let alloc = rt.alloc();
+    let refused = World::new(alloc, usual(&rt), &segment(&rt, 127));
+    assert!(rt; matches!(refused, Err(NewFault::TooManyTaps)));
+    let mut world = World::new(alloc, usual(&rt), &segment(&rt, 126)).expect(&rt, "a world");
+    for tap in 0..127 {
+        world.apply(alloc, Event::Start(tap)).expect(&rt, "a start");
+    }
+    let place = None;
+    let damage = Event::Damage {
+        tap: 126,
+        speaker: 0,
+        place,
+    };
+    let loss = Event::Unheard {
+        tap: 125,
+        speaker: 0,
+    };
+    let events = [
+        Event::Pass(800),
+        Event::Turn(0),
+        damage,
+        loss,
+        Event::Pass(33),
+    ];
+    run(alloc, &mut world, &events).expect(&rt, "a claim");
+    let Some(Entry::Sent(claim)) = world.trace().first() else {
+        return;
+    };
+    assert_eq!(rt; claim.heard.len(), 127);
+    assert_eq!(rt; claim.heard.at(0), Heard::Own);
+    assert_eq!(rt; claim.heard.get(1), Some(Heard::Whole));
+    assert_eq!(rt; claim.heard.get(124), Some(Heard::Whole));
+    assert_eq!(rt; claim.heard.at(125), Heard::Unheard);
+    assert_eq!(rt; claim.heard.at(126), Heard::Damaged);
+    assert_eq!(rt; claim.heard.get(127), None);
 }

@@ -42,6 +42,28 @@ pub fn play(alloc: Global, list: &EventList) -> Result<Played, AllocError> {
     Ok(Played::Run(text))
 }
 
+/// What an event list gives, for one who wants to know who holds the token: after each accepted event the clock, how
+/// many entries the trace has, and the taps whose stations may initiate; then the trace, and what an audit finds.
+pub fn holders(alloc: Global, list: &EventList) -> Result<Played, AllocError> {
+    let (params, mut world) = match new_bus(alloc, list)? {
+        NewBus::Made(params, world) => (params, world),
+        NewBus::Refused(text) => return Ok(Played::Refused(text)),
+    };
+    let mut text = String::new(alloc);
+    let mut accepted = Vec::new(alloc);
+    for event in &list.events {
+        match world.apply(alloc, event.copy()) {
+            Ok(_) => accepted.push(event.copy())?,
+            Err(WorldFault::NoMemory) => return Err(AllocError),
+            Err(_) => continue,
+        }
+        push_holders(&mut text, &world)?;
+    }
+    push_trace(&mut text, alloc, world.trace())?;
+    push_audit(&mut text, alloc, params, &list.taps, &accepted)?;
+    Ok(Played::Run(text))
+}
+
 /// The trace of an event list that is played so many times, each on a new bus and to its end or to the first
 /// event that is refused.
 pub fn trace(alloc: Global, list: &EventList, times: u32) -> Result<Played, AllocError> {
@@ -119,6 +141,19 @@ fn push_events(
     Ok(accepted)
 }
 
+/// Appends the clock, how many entries the trace has, and the taps whose stations may initiate.
+fn push_holders(text: &mut String, world: &World) -> Result<(), AllocError> {
+    write!(text, "{} {}", world.now().get(), world.trace().len())?;
+    for tap in 0..world.taps() {
+        if let Some(station) = world.station(tap)
+            && station.phase().may_initiate()
+        {
+            write!(text, " {tap}")?;
+        }
+    }
+    text.push('\n')
+}
+
 /// Appends an event's name and numbers.
 fn push_event(text: &mut String, alloc: Global, event: &Event) -> Result<(), AllocError> {
     match event {
@@ -193,8 +228,8 @@ fn push_record(text: &mut String, alloc: Global, record: &Record) -> Result<(), 
         "{} {} tap {} {octets} ",
         record.begin, record.end, record.tap
     )?;
-    for heard in &record.heard {
-        text.push(letter(*heard))?;
+    for tap in 0..record.heard.len() {
+        text.push(letter(record.heard.at(tap)))?;
     }
     text.push('\n')
 }

@@ -1,8 +1,8 @@
 //! `event_player`: plays a list of events on a bus, and prints what comes of them. For tests.
 //!
 //! Reads the list as JSON from standard input, and prints the lines that playing it gives. The words `trace TIMES`
-//! and `audit TIMES` do that alone, so many times, and print what the last gave; `bench/world` measures them. Exit
-//! statuses: 0 played, 1 the parameters or the taps are refused, 2 no event list or other words, 3 a read or write
+//! and `audit TIMES` do that alone, so many times, and print what the last gave; `bench/world` measures them. The word
+//! `holders` has it print who may initiate after each event, for `tools/fuzz`. Exit statuses: 0 played, 1 the parameters or the taps are refused, 2 no event list or other words, 3 a read or write
 //! fault, 4 no memory.
 #![tactic(auto)]
 
@@ -10,7 +10,7 @@ mod lines;
 mod lists;
 mod words;
 
-use lines::{Played, audits, play, trace};
+use lines::{Played, audits, holders, play, trace};
 use lists::{ListFault, read_list};
 use std::alloc::AllocError;
 use std::io;
@@ -34,7 +34,7 @@ const MEMORY: u8 = 4;
 #[derive(Debug, Drop, Error)]
 enum PlayFault {
     /// The words ask for nothing.
-    #[error("usage: event_player [trace TIMES | audit TIMES] < LIST")]
+    #[error("usage: event_player [holders | trace TIMES | audit TIMES] < LIST")]
     Usage,
     /// The input is no event list.
     #[error("{0}")]
@@ -103,6 +103,7 @@ fn play_input(rt: &(impl AllocGlobal + Env + Input + Print)) -> Result<u8, PlayF
     let list = read_list(rt.alloc(), &input)?;
     let played = match task {
         Task::Play => play(rt.alloc(), &list),
+        Task::Holders => holders(rt.alloc(), &list),
         Task::Trace(times) => trace(rt.alloc(), &list, times),
         Task::Audit(times) => audits(rt.alloc(), &list, times),
     };

@@ -14,6 +14,8 @@ pub enum Task {
     Trace(u32),
     /// Audits it so many times, and prints what that finds.
     Audit(u32),
+    /// Plays it, and prints after each event who may initiate, and then the trace and what an audit finds.
+    Holders,
 }
 
 /// Why the words ask for nothing.
@@ -29,7 +31,7 @@ impl From<AllocError> for WordsFault {
     }
 }
 
-/// The task that the program's words name: none, or `trace TIMES`, or `audit TIMES`.
+/// The task that the program's words name: none, `holders`, `trace TIMES` or `audit TIMES`.
 pub fn read_words(rt: &(impl AllocGlobal + Env)) -> Result<Task, WordsFault> {
     let words: Vec<String> = match env::args(rt) {
         Ok(words) => words.collect(rt.alloc())?,
@@ -38,6 +40,7 @@ pub fn read_words(rt: &(impl AllocGlobal + Env)) -> Result<Task, WordsFault> {
     };
     match words.as_slice() {
         [] | [_] => Ok(Task::Play),
+        [_, name] if name.as_str() == "holders" => Ok(Task::Holders),
         [_, name, times] => named(name.as_str(), times.as_str()),
         _ => Err(WordsFault::Usage),
     }

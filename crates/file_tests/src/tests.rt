@@ -65,6 +65,18 @@ struct ByteWriter {
     room: usize,
 }
 
+/// Is interrupted so many times before each byte that it takes.
+#[derive(Drop)]
+struct InterruptedWriter {
+    taken: Vec<u8>,
+    interruptions: u32,
+    left: u32,
+}
+
+/// Takes no byte of any text.
+#[derive(Drop)]
+struct FullWriter;
+
 impl Write for ByteWriter {
     fn write(&mut self, bytes: &[u8]) -> io::Result<usize> {
         match bytes {
@@ -74,6 +86,37 @@ impl Write for ByteWriter {
             }
             _ => Err(Error::from(ErrorKind::StorageFull)),
         }
+    }
+
+    fn flush(&mut self) -> io::Result<()> {
+        Ok(())
+    }
+}
+
+impl Write for InterruptedWriter {
+    fn write(&mut self, bytes: &[u8]) -> io::Result<usize> {
+        if self.left > 0 {
+            self.left -= 1;
+            return Err(Error::from(ErrorKind::Interrupted));
+        }
+        self.left = self.interruptions;
+        match bytes {
+            [byte, ..] => {
+                self.taken.push(*byte)?;
+                Ok(1)
+            }
+            [] => Ok(0),
+        }
+    }
+
+    fn flush(&mut self) -> io::Result<()> {
+        Ok(())
+    }
+}
+
+impl Write for FullWriter {
+    fn write(&mut self, _: &[u8]) -> io::Result<usize> {
+        Ok(0)
     }
 
     fn flush(&mut self) -> io::Result<()> {
@@ -208,6 +251,107 @@ fn a_reader_that_is_interrupted_for_ever(rt: HostRuntime) {
     );
     assert_eq!(rt; answer, Err(CliFault::Read));
     assert!(rt; writer.writer().is_empty());
+}
+
+/// A read that is interrupted, once or a thousand times, is tried again.
+#[test]
+fn an_interrupted_read_is_tried_again(rt: HostRuntime) {
+    for errors in [1, 1000] {
+        let interrupted = || ByteReader {
+            rest: RING,
+            calls_before: 3,
+            kind: ErrorKind::Interrupted,
+            errors,
+        };
+        let mut writer = CountedWriter::new(Vec::new(rt.alloc()));
+        let answer = audit_file(
+            rt.alloc(),
+            &mut CountedReader::new(interrupted()),
+            &mut writer,
+        );
+        assert_eq!(rt; answer, Ok(Status::Done), "{errors}");
+        assert!(rt; writer.writer().as_slice() == AUDIT, "{errors}");
+        let mut writer = CountedWriter::new(Vec::new(rt.alloc()));
+        let answer = play(
+            &rt,
+            rt.alloc(),
+            &mut CountedReader::new(interrupted()),
+            &mut writer,
+            Some(2),
+            None,
+        );
+        assert_eq!(rt; answer, Ok(Status::Done), "{errors}");
+        assert!(rt; writer.writer().as_slice() == TRACE, "{errors}");
+    }
+}
+
+/// A write that is interrupted is tried again, a thousand times in a row at most: then it is a fault.
+#[test]
+fn an_interrupted_write_is_tried_again(rt: HostRuntime) {
+    let interrupted = |interruptions: u32| {
+        CountedWriter::new(InterruptedWriter {
+            taken: Vec::new(rt.alloc()),
+            interruptions,
+            left: interruptions,
+        })
+    };
+    for interruptions in [1, 1000] {
+        let mut writer = interrupted(interruptions);
+        let answer = audit_file(rt.alloc(), &mut CountedReader::new(RING), &mut writer);
+        assert_eq!(rt; answer, Ok(Status::Done), "{interruptions}");
+        assert!(rt;
+            writer.writer().taken.as_slice() == AUDIT,
+            "{interruptions}"
+        );
+        let mut writer = interrupted(interruptions);
+        let answer = play(
+            &rt,
+            rt.alloc(),
+            &mut CountedReader::new(RING),
+            &mut writer,
+            Some(1),
+            None,
+        );
+        assert_eq!(rt; answer, Ok(Status::Done), "{interruptions}");
+        assert!(rt;
+            writer.writer().taken.as_slice() == TRACE,
+            "{interruptions}"
+        );
+    }
+    for interruptions in [1001, u32::MAX] {
+        let mut writer = interrupted(interruptions);
+        let answer = audit_file(rt.alloc(), &mut CountedReader::new(RING), &mut writer);
+        assert_eq!(rt; answer, Err(CliFault::Write), "{interruptions}");
+        assert!(rt; writer.writer().taken.is_empty(), "{interruptions}");
+        let mut writer = interrupted(interruptions);
+        let answer = play(
+            &rt,
+            rt.alloc(),
+            &mut CountedReader::new(RING),
+            &mut writer,
+            Some(1),
+            None,
+        );
+        assert_eq!(rt; answer, Err(CliFault::Write), "{interruptions}");
+        assert!(rt; writer.writer().taken.is_empty(), "{interruptions}");
+    }
+}
+
+/// A write that takes nothing of a text is a fault.
+#[test]
+fn a_write_that_takes_nothing_is_a_fault(rt: HostRuntime) {
+    let mut writer = CountedWriter::new(FullWriter);
+    let answer = audit_file(rt.alloc(), &mut CountedReader::new(RING), &mut writer);
+    assert_eq!(rt; answer, Err(CliFault::Write));
+    let answer = play(
+        &rt,
+        rt.alloc(),
+        &mut CountedReader::new(RING),
+        &mut writer,
+        Some(1),
+        None,
+    );
+    assert_eq!(rt; answer, Err(CliFault::Write));
 }
 
 /// A writer that fails at any call is told, and has taken a front of the text.

@@ -36,34 +36,37 @@ goes-on p specs earlier last place e es fine =
 -- ---- the ends of what has begun at all taps
 
 -- with no entries there are none
-pub no-ends : (delay moment : ℕ) (ends : Ends) → ends.begun ≡ 0 → ends.latest ≡ replicate 32 0 → AreEnds delay moment [] ends
-no-ends delay moment ends none zeros =
+pub no-ends : (delay moment : ℕ) (ends : Ends) → ends.begun ≡ 0 → ends.taps ≤ 127 → ends.latest ≡ replicate 127 0 → AreEnds delay moment [] ends
+no-ends delay moment ends none few zeros =
     record {
       size = ap (λ (xs : List ℕ). length xs) zeros;
+      few = few;
       some = omega (arith, none);
       reached = subst (λ n. AllReached delay moment (take n [])) (sym none) tt;
-      latest = λ tap there. ap (λ xs. get_or xs tap 0) zeros ∙ get_or-replicate 32 tap 0 0 there ∙ sym (ap (λ n. latest_end delay tap (take n [])) none);
+      latest = λ tap there. ap (λ xs. get_or xs tap 0) zeros ∙ get_or-replicate 127 tap 0 0 (omega (arith, there, few)) ∙ sym (ap (λ n. latest_end delay tap (take n [])) none);
     }
 
 -- later they are too
 pub ends-later : (delay m n : ℕ) (earlier : List Entry) (ends : Ends) → m ≤ n → AreEnds delay m earlier ends → AreEnds delay n earlier ends
-ends-later delay m n earlier ends le are = record { size = are.size; some = are.some; reached = reached-later delay m n (take ends.begun earlier) le are.reached; latest = are.latest }
+ends-later delay m n earlier ends le are = record { size = are.size; few = are.few; some = are.some; reached = reached-later delay m n (take ends.begun earlier) le are.reached; latest = are.latest }
 
 -- one more of the entries counts
-pub ends-more : (delay m : ℕ) (earlier : List Entry) (e : Entry) (ends next : Ends) → AreEnds delay m earlier ends → next.begun ≡ ends.begun + 1 → length next.latest ≡ 32 → ends.begun < length earlier
-    → take (ends.begun + 1) earlier ≡ take ends.begun earlier ++ e ∷ [] → (reaches_taps delay e).begin < m → HaveMore delay e ends.latest next.latest → AreEnds delay m earlier next
-ends-more delay m earlier e ends next are counts long there more reached have =
+pub ends-more : (delay m : ℕ) (earlier : List Entry) (e : Entry) (ends next : Ends) → AreEnds delay m earlier ends → next.begun ≡ ends.begun + 1 → next.taps ≡ ends.taps → length next.latest ≡ 127 → ends.begun < length earlier
+    → take (ends.begun + 1) earlier ≡ take ends.begun earlier ++ e ∷ [] → (reaches_taps delay e).begin < m → HaveMore delay ends.taps e ends.latest next.latest → AreEnds delay m earlier next
+ends-more delay m earlier e ends next are counts same long there more reached have =
     let front : take next.begun earlier ≡ take ends.begun earlier ++ e ∷ [] = ap (λ n. take n earlier) counts ∙ more in
     record {
       size = long;
+      few = omega (arith, same, are.few);
       some = omega (arith, counts, there);
       reached = subst (AllReached delay m) (sym front) (reached-more delay m (take ends.begun earlier) e are.reached reached);
       latest = λ tap small.
-          have tap small ∙ ap (λ n. max n (active_at delay tap e).end) (are.latest tap small) ∙ sym (latest-more delay tap (take ends.begun earlier) e) ∙ sym (ap (latest_end delay tap) front);
+          let known : tap < ends.taps = omega (arith, small, same) in
+          have tap known ∙ ap (λ n. max n (active_at delay tap e).end) (are.latest tap known) ∙ sym (latest-more delay tap (take ends.begun earlier) e) ∙ sym (ap (latest_end delay tap) front);
     }
 
 -- whether a tap was in silence, by the latest end of those that count and the others
-pub silent-some : (delay tap from to : ℕ) (earlier : List Entry) (ends : Ends) (latest : ℕ) (active : Bool) → tap < 32 → latest ≡ get_or ends.latest tap 0 → AreEnds delay to earlier ends
+pub silent-some : (delay tap from to : ℕ) (earlier : List Entry) (ends : Ends) (latest : ℕ) (active : Bool) → tap < ends.taps → latest ≡ get_or ends.latest tap 0 → AreEnds delay to earlier ends
     → active ≡ is_active delay from to (drop ends.begun earlier) tap → (nat_le latest from && not active) ≡ is_silent delay tap earlier from to
 silent-some delay tap from to earlier ends latest active there is are act =
     ap (λ n. nat_le n from && not active) (is ∙ are.latest tap there)
@@ -77,6 +80,7 @@ ends-behind delay moment earlier e ends are =
     let same : take ends.begun (earlier ++ e ∷ []) ≡ take ends.begun earlier = take-append-le ends.begun earlier (e ∷ []) are.some in
     record {
       size = are.size;
+      few = are.few;
       some = omega (arith, are.some, length-append earlier (e ∷ []));
       reached = subst (AllReached delay moment) (sym same) are.reached;
       latest = λ tap there. are.latest tap there ∙ ap (latest_end delay tap) (sym same);

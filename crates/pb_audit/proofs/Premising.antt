@@ -139,9 +139,9 @@ pub all-renewed : (f : ℕ → ℕ) (xs before : List ℕ) (tap : ℕ) → ((k :
 all-renewed f xs before tap so_far k there = so_far k ∙ ap (λ (b : Bool). if b then f k else get_or before k 0) (lt-ltb k tap there)
 
 -- in a world without entries each tap has been in silence all the time
-pub quiet-blank : (w : World) (quiet : List ℕ) → w.trace ≡ [] → length w.taps ≤ 32 → quiet ≡ replicate 32 0 → IsQuiet w quiet
+pub quiet-blank : (w : World) (quiet : List ℕ) → w.trace ≡ [] → length w.taps ≤ 127 → quiet ≡ replicate 127 0 → IsQuiet w quiet
 quiet-blank w quiet empty few zeros tap there =
-    ap (λ qs. get_or qs tap 0) zeros ∙ get_or-replicate 32 tap 0 0 (omega (arith, few, there)) ∙ sym (ap (quiet_at w.params.ttd tap w.now) empty)
+    ap (λ qs. get_or qs tap 0) zeros ∙ get_or-replicate 127 tap 0 0 (omega (arith, few, there)) ∙ sym (ap (quiet_at w.params.ttd tap w.now) empty)
 
 -- ---- time-outs
 

@@ -1,5 +1,5 @@
 -- What the token theorem says of an audit.
-use Rattle.std.proofs.Common.{◌≡◌, ◌∙◌, List, sym, ap}
+use Rattle.std.proofs.Common.{◌∙◌, List, sym, ap}
 use Rattle.std.specs.Option.{option_map}
 use Rattle.pb_timers.specs.Timers.{Params}
 use Rattle.pb_model.specs.Medium.{TapSpec}

@@ -7,11 +7,12 @@ use Rattle.pb_audit.specs.declared.ends.Ends.{Ends}
 
 -- so many of some entries have begun at all taps before a moment, and these are their latest ends
 pub record AreEnds (delay moment : ℕ) (earlier : List Entry) (ends : Ends) : Type 0 where
-  pub size : length ends.latest ≡ 32
+  pub size : length ends.latest ≡ 127
+  pub few : ends.taps ≤ 127
   pub some : ends.begun ≤ length earlier
   pub reached : AllReached delay moment (take ends.begun earlier)
-  pub latest : (tap : ℕ) → tap < 32 → get_or ends.latest tap 0 ≡ latest_end delay tap (take ends.begun earlier)
+  pub latest : (tap : ℕ) → tap < ends.taps → get_or ends.latest tap 0 ≡ latest_end delay tap (take ends.begun earlier)
 
--- latest ends at each tap, with those of one entry more
-abbrev pub HaveMore : ℕ → Entry → List ℕ → List ℕ → Type 0
-HaveMore delay e before after = (tap : ℕ) → tap < 32 → get_or after tap 0 ≡ max (get_or before tap 0) (active_at delay tap e).end
+-- latest ends at each of so many taps, with those of one entry more
+abbrev pub HaveMore : ℕ → ℕ → Entry → List ℕ → List ℕ → Type 0
+HaveMore delay taps e before after = (tap : ℕ) → tap < taps → get_or after tap 0 ≡ max (get_or before tap 0) (active_at delay tap e).end

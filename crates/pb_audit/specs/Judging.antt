@@ -4,7 +4,7 @@ use Rattle.pb_model.specs.Medium as model
 use Rattle.pb_theorem.specs.Judging as judging
 use Rattle.pb_medium.specs.Entries.{record_of}
 use Rattle.pb_taps.specs.Taps.{tap_of}
-use Rattle.pb_audit.specs.declared.legality.LastInitiator.{LastInitiator}
+use Rattle.pb_audit.specs.declared.last.LastInitiator.{LastInitiator}
 use Rattle.pb_taps.specs.declared.taps.Tap.{Tap}
 
 abbrev pub last_of : LastInitiator → judging.LastInitiator

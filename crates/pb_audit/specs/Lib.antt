@@ -2,3 +2,5 @@ pub mod Premises
 pub mod Judging
 pub mod Ends
 pub mod Auditing
+pub mod Watched
+pub mod Meanings

@@ -3,7 +3,7 @@ use Rattle.std.specs.Prelude.{◌≡◌, ℕ, ◌+◌, ◌≤◌, ◌<◌, Bool,
 use Rattle.std.specs.Option.{option_map}
 use Rattle.pb_model.specs.World.{World, Event, Pass, Reply}
 use Rattle.pb_model.specs.Step.{step}
-use Rattle.pb_theorem.specs.Premises.{Waited, Broken, Course, waited_by, loses, comes_late, followed, course_of}
+use Rattle.pb_theorem.specs.Premises.{Waited, Broken, Course, has_namesakes, waited_by, loses, comes_late, followed, course_of}
 use Rattle.pb_theorem.specs.Quiet.{is_active, quiet_in}
 use Rattle.pb_theorem.specs.Watching.{Watched, meets_last, watched_after, StandsFor}
 use Rattle.pb_audit.specs.declared.premises.Breach.{Breach}
@@ -33,6 +33,20 @@ watched_of v = record { waited = option_map waited_of v.waited; broken = option_
 -- since when each tap of a world is in silence
 abbrev pub IsQuiet : World → List ℕ → Type 0
 IsQuiet w quiet = (tap : ℕ) → tap < length w.taps → get_or quiet tap 0 ≡ quiet_in w tap
+
+-- none of so many taps has been in silence since before a moment
+abbrev pub IsOldest : ℕ → ℕ → List ℕ → Type 0
+IsOldest oldest taps quiet = (tap : ℕ) → tap < taps → oldest ≤ get_or quiet tap 0
+
+-- what a watch knows of the world that it watches
+pub record Knows (v : Watch) (w : World) : Type 0 where
+  pub silent : IsQuiet w v.quiet
+  pub oldest : IsOldest v.oldest (length w.taps) v.quiet
+  pub namesakes : v.namesakes ≡ has_namesakes w.taps
+
+-- an event has led to a world from one that had namesakes, or none
+abbrev pub IsLedFrom : Event → World → Bool → Type 0
+IsLedFrom e next had = (w : World) × (reply : Reply) × (step w e ≡ Ok (next, reply)) × (had ≡ has_namesakes w.taps)
 
 -- those taps of a world at which something is active before a moment are no longer in silence
 abbrev pub HaveHeard : World → ℕ → List ℕ → List ℕ → Type 0

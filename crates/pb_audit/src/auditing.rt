@@ -1,20 +1,14 @@
-ghost use Rattle.std.specs.Prelude.{◌≡◌, IfOk, IfErr, OnOk, map};
-ghost use Rattle.std.specs.Option.{option_map};
-ghost use Rattle.pb_theorem.specs.Premises as premises;
-ghost use Rattle.pb_audit.specs.Auditing.{broken_at, Finds, FindsLegal, RefusesAudit};
-ghost use Rattle.pb_bus.specs.Buses.{world_of, IsBlank, IsKept};
+ghost use Rattle.std.specs.Prelude.{[], IfOk, IfErr, OnOk, map};
+ghost use Rattle.pb_audit.specs.Auditing.{Finds, FindsLegal, RefusesAudit};
+ghost use Rattle.pb_audit.specs.Watched.{HasCome, world_in};
 ghost use Rattle.pb_taps.specs.Events.{event_of};
-ghost use Rattle.pb_audit.specs.Premises.{broken_of};
 ghost use Rattle.pb_taps.specs.Taps.{spec_of};
 ghost use Rattle.pb_bus.specs.Worlds.{StopsAt};
-ghost use Rattle.pb_model.specs.Step.{RunsTo};
 
 use crate::findings::{Audit, AuditFault};
-use crate::legality::first_illegal;
-use crate::premises::{Breach, Watch, follow};
-use pb_bus::{Bus, new_bus};
+use crate::watched::{Watched, new_watched};
 use pb_taps::{Event, TapSpec, WorldFault};
-use pb_timers::{BusParams, Moment};
+use pb_timers::BusParams;
 use std::alloc::Global;
 
 /// Plays events on a new bus, and judges the run from outside: by the premises along its events, and by the
@@ -37,49 +31,32 @@ pub fn audit(
     ensures legal { IfOk result (FindsLegal params (map spec_of specs.now) (map event_of events.now)) }
     ensures fault { IfErr result (RefusesAudit params (map spec_of specs.now) (map event_of events.now)) }
 {
-    let mut bus = match new_bus(alloc, params, specs) {
-        Ok(bus) => bus,
+    let mut watched = match new_watched(alloc, params, specs) {
+        Ok(watched) => watched,
         Err(fault) => return Err(AuditFault::New(fault)),
     };
-    match first_broken(alloc, &mut bus, events) {
-        Ok(broken) => Ok(Audit {
-            premise: numbered(broken),
-            illegal: first_illegal(&bus.params, &bus.taps, bus.trace.entries()),
-        }),
+    match watch_all(alloc, &mut watched, events) {
+        Ok(()) => Ok(watched.judge()),
         Err((place, fault)) => Err(AuditFault::At(place, fault)),
     }
 }
 
-/// Does events one after another on a bus to which nothing has happened yet, and answers the first premise
-/// that breaks.
-fn first_broken(
+/// Does events one after another on a watched bus to which nothing has happened yet.
+fn watch_all(
     alloc: Global,
-    bus: &mut Bus,
+    watched: &mut Watched,
     events: &[Event],
-) -> Result<Option<Breach>, (usize, WorldFault)>
-    requires kept { IsKept bus.old }
-    requires blank { IsBlank (world_of bus.old) }
-    ensures kept { IsKept bus.new }
-    ensures runs { OnOk result (RunsTo (world_of bus.old) (map event_of events.now) (world_of bus.new)) }
-    ensures ok { IfOk result (λ premise. option_map broken_of premise
-        ≡ premises.first_broken (world_of bus.old) (map event_of events.now)) }
+) -> Result<(), (usize, WorldFault)>
+    requires { HasCome watched.old (world_in watched.old) [] }
+    ensures ok { OnOk result (HasCome watched.new (world_in watched.old) (map event_of events.now)) }
     ensures err { IfErr result
-        (λ e. StopsAt (world_of bus.old) (map event_of events.now) e.0 e.1 (world_of bus.new)) }
+        (λ e. StopsAt (world_in watched.old) (map event_of events.now) e.0 e.1 (world_in watched.new)) }
 {
-    let mut watch = Watch::new();
     for (place, event) in events.iter().enumerate() {
-        match follow(&mut watch, alloc, bus, event) {
+        match watched.follow(alloc, event) {
             Ok(()) => (),
             Err(fault) => return Err((place, fault)),
         }
     }
-    Ok(watch.first_broken())
-}
-
-/// A premise that broke, by its number, with the clock.
-fn numbered(broken: Option<Breach>) -> Option<(u8, Moment)>
-    ensures { option_map broken_at result ≡ option_map broken_of broken }
-{
-    let breach = broken?;
-    Some((breach.premise.number(), breach.clock))
+    Ok(())
 }

@@ -10,13 +10,16 @@ use crate::activity::{active_at, is_active};
 use pb_medium::Entry;
 
 /// How many taps a bus may have.
-const TAPS: usize = 32;
+const TAPS: usize = 127;
 
 /// The latest end at each tap of those entries of a trace that have begun at all taps, in bit times.
-#[derive(Clone, Copy, Debug)]
+#[derive(Debug, Drop)]
 pub(crate) struct Ends {
     /// How many entries have: the first ones.
     begun: usize,
+    /// How many taps there are.
+    taps: usize,
+    /// By tap: what stands behind them counts for nothing.
     latest: [u64; TAPS],
 }
 
@@ -28,12 +31,13 @@ impl Ends {
     ghost use Rattle.pb_medium.specs.Entries.{entry_of};
     ghost use Rattle.pb_audit.specs.Ends.{AreEnds};
 
-    /// The ends of no entries.
-    pub(crate) fn none() -> Ends
+    /// The ends of no entries, on a bus with so many taps.
+    pub(crate) fn none(taps: usize) -> Ends
         ensures { (delay moment : ℕ) → AreEnds delay moment [] result }
     {
         Ends {
             begun: 0,
+            taps: taps.min(TAPS),
             latest: [0; TAPS],
         }
     }
@@ -49,7 +53,7 @@ impl Ends {
             if entry.reaches_taps(delay).begin() >= moment {
                 return;
             }
-            take_on(&mut self.latest, entry, delay);
+            take_on(&mut self.latest, self.taps, entry, delay);
             self.begun = place + 1;
         }
     }
@@ -66,19 +70,20 @@ impl Ends {
         requires { (before : ℕ) × (before ≤ to) × AreEnds delay before (map entry_of earlier.now) self.now }
         ensures { result ≡ activity.is_silent delay tap (map entry_of earlier.now) from to }
     {
-        match self.latest.get(tap) {
-            Some(latest) => *latest <= from
-                && !is_active(&earlier[self.begun..], delay, tap, from, to),
-            None => !is_active(earlier, delay, tap, from, to),
+        if tap >= self.taps {
+            return !is_active(earlier, delay, tap, from, to);
         }
+        self.latest[tap] <= from && !is_active(&earlier[self.begun..], delay, tap, from, to)
     }
 }
 
-/// The latest end at each tap with one entry more.
-fn take_on(latest: &mut [u64; TAPS], entry: &Entry, delay: u32)
-    ensures { HaveMore delay (entry_of entry.now) latest.old latest.new }
+/// The latest end at each of so many taps with one entry more.
+fn take_on(latest: &mut [u64; TAPS], taps: usize, entry: &Entry, delay: u32)
+    requires { taps ≤ 127 }
+    ensures size { length latest.new ≡ length latest.old }
+    ensures more { HaveMore delay taps (entry_of entry.now) latest.old latest.new }
 {
-    for tap in 0..TAPS {
+    for tap in 0..taps {
         latest[tap] = latest[tap].max(active_at(entry, delay, tap).end());
     }
 }

@@ -8,10 +8,12 @@ ghost use Rattle.pb_theorem.specs.Legality as legality;
 ghost use Rattle.pb_medium.specs.Entries.{entry_of, record_of};
 ghost use Rattle.pb_audit.specs.Ends.{AreEnds};
 ghost use Rattle.pb_audit.specs.Judging.{last_of, specs_at};
+ghost use Rattle.pb_audit.specs.Meanings.{meaning_in, meaning_of};
 
 use crate::activity::is_active_in;
 use crate::ends::Ends;
-use crate::initiators::{claims_for, is_initiator, offered_to};
+use crate::initiators::{Meaning, claims_for, initiates, meaning_in, offered_by};
+use crate::last::LastInitiator;
 use pb_medium::{Entry, Heard, Record};
 use pb_taps::Tap;
 use pb_timers::BusParams;
@@ -19,28 +21,21 @@ use pb_timers::BusParams;
 /// The address of a tap that is none: a telegram goes to 127 at most.
 const NO_ADDRESS: u8 = 255;
 
-/// The last initiator record before an entry.
-#[derive(Clone, Copy, Debug)]
-struct LastInitiator<'a> {
-    telegram: &'a Record,
-    /// Whether nothing was active at its speaker in the slot behind it so far.
-    silent: bool,
-}
-
 /// The position of the first illegal initiator record of a trace that stands in order, in one pass.
 pub(crate) fn first_illegal(params: &BusParams, taps: &[Tap], trace: &[Entry]) -> Option<usize>
     requires { IsOrdered (map entry_of trace.now) }
     ensures { result ≡ legality.first_illegal params.now (specs_at taps.now) (map entry_of trace.now) }
 {
-    let mut ends = Ends::none();
+    let mut ends = Ends::none(taps.len());
     let mut last = None;
     for (place, entry) in trace.iter().enumerate() {
         let earlier = &trace[..place];
         ends.advance(earlier, params.ttd(), entry.begin());
-        if !may_come(params, taps, earlier, &ends, last, entry) {
+        let meaning = meaning_in(entry);
+        if !may_come(params, taps, earlier, &ends, last, entry, meaning) {
             return Some(place);
         }
-        last = last_after(params, earlier, &ends, last, entry);
+        last = last_after(params, earlier, &ends, last, entry, meaning);
     }
     None
 }
@@ -53,14 +48,17 @@ fn may_come(
     ends: &Ends,
     last: Option<LastInitiator>,
     entry: &Entry,
+    meaning: Meaning,
 ) -> bool
-    requires { AreEnds params.now.ttd (entry_begin (entry_of entry.now)) (map entry_of earlier.now) ends.now }
+    requires ends { AreEnds params.now.ttd (entry_begin (entry_of entry.now)) (map entry_of earlier.now)
+        ends.now }
+    requires means { meaning ≡ meaning_in (entry_of entry.now) }
     ensures { result ≡ may_come params.now (specs_at taps.now) (map entry_of earlier.now)
         (option_map last_of last.entry) (entry_of entry.now) }
 {
     match entry {
-        Entry::Sent(telegram) => !is_initiator(telegram)
-            || may_follow(params, taps, earlier, ends, last, telegram),
+        Entry::Sent(telegram) => !initiates(meaning)
+            || may_follow(params, taps, earlier, ends, last, telegram, meaning),
         Entry::Noise { .. } => true,
     }
 }
@@ -72,7 +70,9 @@ fn last_after<'a>(
     ends: &Ends,
     last: Option<LastInitiator<'a>>,
     entry: &'a Entry,
+    meaning: Meaning,
 ) -> Option<LastInitiator<'a>>
+    requires means { meaning ≡ meaning_in (entry_of entry.now) }
     requires ends { AreEnds params.now.ttd (entry_begin (entry_of entry.now)) (map entry_of earlier.now)
         ends.now }
     requires lasts { entry_begin (entry_of entry.now) ≤ entry_end (entry_of entry.now) }
@@ -81,8 +81,9 @@ fn last_after<'a>(
         (entry_of entry.now) }
 {
     match entry {
-        Entry::Sent(telegram) if is_initiator(telegram) => Some(LastInitiator {
+        Entry::Sent(telegram) if initiates(meaning) => Some(LastInitiator {
             telegram,
+            meaning,
             silent: is_slot_silent(params, earlier, ends, telegram),
         }),
         _ => slot_after(params, entry, last),
@@ -109,16 +110,18 @@ fn may_follow(
     ends: &Ends,
     last: Option<LastInitiator>,
     telegram: &Record,
+    meaning: Meaning,
 ) -> bool
-    requires { AreEnds params.now.ttd telegram.now.begin (map entry_of earlier.now) ends.now }
+    requires ends { AreEnds params.now.ttd telegram.now.begin (map entry_of earlier.now) ends.now }
+    requires means { meaning ≡ meaning_of (initiators.telegram_of (record_of telegram.now)) }
     ensures { result ≡ may_follow params.now (specs_at taps.now) (map entry_of earlier.now)
         (option_map last_of last.entry) (record_of telegram.now) }
 {
     match last {
         Some(last) => last.telegram.end <= telegram.begin
             && (follows(params, taps, last, telegram)
-                || claims(params, taps, earlier, ends, telegram)),
-        None => claims(params, taps, earlier, ends, telegram),
+                || claims(params, taps, earlier, ends, telegram, meaning)),
+        None => claims(params, taps, earlier, ends, telegram, meaning),
     }
 }
 
@@ -131,9 +134,14 @@ fn slot_after<'a>(
     ensures { option_map last_of result
         ≡ slot_after params.now.ttd params.now.tsl (entry_of entry.now) (option_map last_of last.entry) }
 {
-    let LastInitiator { telegram, silent } = last?;
+    let LastInitiator {
+        telegram,
+        meaning,
+        silent,
+    } = last?;
     Some(LastInitiator {
         telegram,
+        meaning,
         silent: silent && !is_in_slot(params, telegram, entry),
     })
 }
@@ -145,7 +153,7 @@ fn follows(params: &BusParams, taps: &[Tap], last: LastInitiator, telegram: &Rec
         ≡ goes_on_after params.now (specs_at taps.now) (last_of last.entry)
         (initiators.offered_to (last_of last.entry).telegram) (record_of telegram.now) }
 {
-    match offered_to(last.telegram) {
+    match offered_by(last.meaning) {
         Some(to) => follows_token(params, taps, last, to, telegram),
         None => last.telegram.tap == telegram.tap,
     }
@@ -159,16 +167,17 @@ fn claims(
     earlier: &[Entry],
     ends: &Ends,
     telegram: &Record,
+    meaning: Meaning,
 ) -> bool
-    requires { AreEnds params.now.ttd telegram.now.begin (map entry_of earlier.now) ends.now }
+    requires ends { AreEnds params.now.ttd telegram.now.begin (map entry_of earlier.now) ends.now }
+    requires means { meaning ≡ meaning_of (initiators.telegram_of (record_of telegram.now)) }
     ensures { result ≡ claims_after params.now (specs_at taps.now) (map entry_of earlier.now)
         (record_of telegram.now) }
 {
     let address = address_at(taps, telegram.tap);
     let begin = telegram.begin;
     let from = begin.saturating_sub(params.tto(address));
-    claims_for(telegram, address)
-        && ends.is_silent(earlier, params.ttd(), telegram.tap, from, begin)
+    claims_for(meaning, address) && ends.is_silent(earlier, params.ttd(), telegram.tap, from, begin)
 }
 
 /// Whether an entry is active at the speaker of a telegram in the slot behind it.

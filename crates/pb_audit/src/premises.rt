@@ -10,7 +10,7 @@ ghost use Rattle.pb_theorem.specs.Watching.{meets_last};
 ghost use Rattle.pb_bus.specs.Buses.{world_of, IsKept};
 ghost use Rattle.pb_taps.specs.Events.{event_of};
 ghost use Rattle.pb_taps.specs.Faults.{Refuses};
-ghost use Rattle.pb_audit.specs.Premises.{waited_of, number_of, broken_of, watched_of, waiting_of, met_by, last_by, Foresees, IsFirstWaiting, IsQuiet, HaveHeard, Listens, GoesOn, time_in};
+ghost use Rattle.pb_audit.specs.Premises.{waited_of, number_of, broken_of, watched_of, waiting_of, met_by, last_by, Foresees, IsFirstWaiting, IsLedFrom, IsOldest, IsQuiet, HaveHeard, Knows, Listens, GoesOn, time_in};
 ghost use Rattle.pb_taps.specs.Taps.{tap_of};
 
 use crate::activity::is_active;
@@ -23,7 +23,7 @@ use std::alloc::Global;
 const ADDRESSES: usize = 127;
 
 /// How many taps a bus may have.
-const TAPS: usize = 32;
+const TAPS: usize = 127;
 
 /// What has to hold of a bus, so that one station at most may initiate.
 #[derive(Clone, Copy, Debug)]
@@ -75,6 +75,10 @@ pub(crate) struct Foresight {
 pub(crate) struct Watch {
     /// The moment since which each tap has been in silence, in bit times.
     quiet: [u64; TAPS],
+    /// No tap has been in silence since before this moment.
+    oldest: u64,
+    /// Whether two running taps have one address.
+    namesakes: bool,
     /// The tap that was the last to wait out its time-out, and when. As long as no two have met, it decides
     /// whether a later one meets any.
     waited: Option<Waited>,
@@ -83,18 +87,22 @@ pub(crate) struct Watch {
 }
 
 impl Watch {
-    ghost use Rattle.std.specs.Prelude.{◌≡◌, None, replicate};
+    ghost use Rattle.std.specs.Prelude.{◌≡◌, None, false, replicate};
     ghost use Rattle.std.specs.Option.{option_map};
     ghost use Rattle.pb_bus.specs.Buses.{world_of, IsKept};
-    ghost use Rattle.pb_audit.specs.Premises.{watched_of, broken_of, IsAfter, IsQuiet};
+    ghost use Rattle.pb_audit.specs.Premises.{watched_of, broken_of, IsAfter, Knows};
 
     /// Before the first event of a run.
     pub(crate) fn new() -> Watch
         ensures watched { watched_of result ≡ record { waited = None; broken = None } }
-        ensures silent { result.quiet ≡ replicate 32 0 }
+        ensures silent { result.quiet ≡ replicate 127 0 }
+        ensures oldest { result.oldest ≡ 0 }
+        ensures namesakes { result.namesakes ≡ false }
     {
         Watch {
             quiet: [0; TAPS],
+            oldest: 0,
+            namesakes: false,
             waited: None,
             broken: None,
         }
@@ -110,14 +118,13 @@ impl Watch {
     /// Notes what stands after an event that has led to a bus, as it was foreseen.
     fn note(&mut self, bus: &Bus, foresight: Foresight)
         requires kept { IsKept bus.now }
-        requires silent { IsQuiet (world_of bus.now) self.old.quiet }
-        ensures quiet { self.new.quiet ≡ self.old.quiet }
+        requires knows { Knows self.old (world_of bus.now) }
+        ensures knows { Knows self.new (world_of bus.entry.now) }
         ensures after { IsAfter self.old foresight (world_of bus.entry.now) self.new }
     {
-        let waiting = waiting_taps(bus, &self.quiet);
+        let waiting = waiting_now(bus, &self.quiet, self.oldest);
         let met = is_met(bus.params.ttd(), waiting, bus.now, self.waited);
-        let namesakes = has_namesakes(&bus.taps);
-        let premise = first_premise(namesakes, foresight, met);
+        let premise = first_premise(self.namesakes, foresight, met);
         self.waited = last_waiting(waiting, bus.now, self.waited);
         self.broken = broken_or(self.broken, bus.now, premise);
     }
@@ -131,33 +138,52 @@ pub(crate) fn follow(
     event: &Event,
 ) -> Result<(), WorldFault>
     requires kept { IsKept bus.old }
-    requires silent { IsQuiet (world_of bus.old) watch.old.quiet }
+    requires knows { Knows watch.old (world_of bus.old) }
     ensures kept { IsKept bus.new }
     ensures steps { OnOk result ((reply : model.Reply)
         × (step (world_of bus.old) (event_of event.now) ≡ Ok (world_of bus.new, reply))) }
-    ensures silent { OnOk result (IsQuiet (world_of bus.new) watch.new.quiet) }
+    ensures knows { OnOk result (Knows watch.new (world_of bus.new)) }
     ensures stands { OnOk result (GoesOn watch.old (world_of bus.old) (event_of event.now) watch.new) }
     ensures err { IfErr result (λ fault. (world_of bus.new ≡ world_of bus.old)
         × Refuses (world_of bus.old) (event_of event.now)
         (step (world_of bus.old) (event_of event.now)) fault) }
 {
     let foresight = foresee(bus, event);
-    listen(&mut watch.quiet, bus, event);
+    watch.oldest = listen(&mut watch.quiet, watch.oldest, bus, event);
     bus.apply(alloc, event)?;
+    watch.namesakes = has_namesakes_after(bus, event, watch.namesakes);
     watch.note(bus, foresight);
     Ok(())
 }
 
 /// An event is about to happen: while time passes in it, those taps at which something is active are no longer in
-/// silence.
-fn listen(quiet: &mut [u64; TAPS], bus: &Bus, event: &Event)
+/// silence. Answers a moment since before which none has been.
+fn listen(quiet: &mut [u64; TAPS], oldest: u64, bus: &Bus, event: &Event) -> u64
     requires kept { IsKept bus.now }
     requires silent { IsQuiet (world_of bus.now) quiet.old }
-    ensures { Listens (world_of bus.entry.now) (event_of event.now) quiet.new }
+    requires oldest { IsOldest oldest (length bus.now.taps.items) quiet.old }
+    ensures listens { Listens (world_of bus.entry.now) (event_of event.now) quiet.new }
+    ensures oldest { IsOldest result (length bus.entry.now.taps.items) quiet.new }
 {
-    if let Some(bits) = time_in(event) {
-        listen_to(quiet, bus, bus.now.get().saturating_add(bits));
+    match time_in(event) {
+        Some(bits) => {
+            listen_to(quiet, bus, bus.now.get().saturating_add(bits));
+            oldest_of(quiet, bus.taps.len())
+        }
+        None => oldest,
     }
+}
+
+/// The least of the first of some moments.
+fn oldest_of(quiet: &[u64; TAPS], taps: usize) -> u64
+    requires { taps ≤ 127 }
+    ensures { IsOldest result taps quiet.now }
+{
+    let mut oldest = u64::MAX;
+    for tap in 0..taps {
+        oldest = oldest.min(quiet[tap]);
+    }
+    oldest
 }
 
 /// How much time passes in an event, if it does.
@@ -281,6 +307,19 @@ fn has_namesakes(taps: &[Tap]) -> bool
     false
 }
 
+/// Whether two running taps have one address after an event, by whether two had before it: an event that starts and
+/// stops no tap leaves that.
+fn has_namesakes_after(bus: &Bus, event: &Event, before: bool) -> bool
+    requires kept { IsKept bus.now }
+    requires led { IsLedFrom (event_of event.now) (world_of bus.now) before }
+    ensures { result ≡ premises.has_namesakes (world_of bus.entry.now).taps }
+{
+    match event {
+        Event::Start(_) | Event::Stop(_) => has_namesakes(&bus.taps),
+        _ => before,
+    }
+}
+
 /// Whether a tap is a running master, and some time has passed since it started and since a moment.
 fn has_waited_since(tap: &Tap, moment: u64, timeout: u64, now: u64) -> bool
     ensures { result
@@ -318,7 +357,20 @@ fn first_waiting(bus: &Bus, quiet: &[u64; TAPS], from: usize) -> Option<usize>
     None
 }
 
-/// The taps that have waited out their time-outs.
+/// The taps that have waited out their time-outs: none where no tap has been in silence for the shortest time-out.
+fn waiting_now(bus: &Bus, quiet: &[u64; TAPS], oldest: u64) -> Waiting
+    requires kept { IsKept bus.now }
+    requires silent { IsQuiet (world_of bus.now) quiet.now }
+    requires oldest { IsOldest oldest (length bus.now.taps.items) quiet.now }
+    ensures { result ≡ waiting_of (waited_by (world_of bus.entry.now) 0 (world_of bus.entry.now).taps) }
+{
+    if bus.now.get().saturating_sub(oldest) < bus.params.tto(0) {
+        return Waiting::Nobody;
+    }
+    waiting_taps(bus, quiet)
+}
+
+/// The taps that have waited out their time-outs, by a look at each.
 fn waiting_taps(bus: &Bus, quiet: &[u64; TAPS]) -> Waiting
     requires kept { IsKept bus.now }
     requires silent { IsQuiet (world_of bus.now) quiet.now }

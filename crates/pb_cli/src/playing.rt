@@ -25,7 +25,7 @@ pub const MOST_WORKERS: usize = 64;
 /// The most last lines that may be asked for.
 pub const MOST_LINES: usize = 10_000;
 
-/// Reads a scenario file to the end of the reader, plays the scenario with some workers, each in a thread of its own, and
+/// Reads a scenario file to the end of the reader, plays the scenario with some workers, the first of them in the caller's thread, and
 /// writes its trace, or the last lines of it; where the file or the run is refused, the line of the fault. The trace is that
 /// of the run on one thread, whatever the number of workers. The whole text is made before the first write.
 ///

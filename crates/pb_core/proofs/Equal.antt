@@ -10,7 +10,6 @@ use Rattle.pb_cycles.specs.declared.initiators.OpenRequest.{OpenRequest}
 use Rattle.pb_cycles.specs.contracts.initiators.OpenRequestPartialEq.TheImpl as open_request
 use Rattle.pb_cycles.specs.contracts.initiators.InitiatorPartialEq.TheImpl as initiator
 use Rattle.pb_messages.specs.RequestFields.{RequestFields}
-use Rattle.pb_messages.specs.Queued.{Queued}
 use Rattle.std.specs.Option.{option_map}
 use Rattle.pb_tokenfsm.proofs.Seen.{seen-alike}
 use Rattle.pb_turn.specs.Stations as turn
@@ -22,16 +21,9 @@ use Rattle.pb_core.specs.Replies.{reply_of}
 both : (r s : Bool) → r && s ≡ true → (r ≡ true) × (s ≡ true)
 both r s e = search rules
 
-pub queues_agree : {E : RequestFields → RequestFields → Bool} (p q : Queued) (r : Bool)
-    → r ≡ (pointwise E p.high q.high && pointwise E p.low q.low)
-    → ((a b : RequestFields) → Decides (E a b) (a ≡ b)) → Decides r (p ≡ q)
-queues_agree {E = E} p q r e decides =
-    let high = pointwise_decides decides p.high q.high in
-    let low = pointwise_decides decides p.low q.low in
-    Decides-at r (pointwise E p.high q.high && pointwise E p.low q.low) e (
-      (λ t. let h = both _ _ t in λ i. record { high = high.0 h.0 i; low = low.0 h.1 i }),
-      λ s. ap (λ b. b && pointwise E p.low q.low) (high.1 (ap (λ x. x.high) s)) ∙ low.1 (ap (λ x. x.low) s),
-    )
+pub requests_agree : {E : RequestFields → RequestFields → Bool} (xs ys : List RequestFields) (r : Bool) → r ≡ pointwise E xs ys
+    → ((a b : RequestFields) → Decides (E a b) (a ≡ b)) → Decides r (xs ≡ ys)
+requests_agree {E = E} xs ys r e decides = Decides-at r (pointwise E xs ys) e (pointwise_decides decides xs ys)
 
 -- ---- frame counts
 

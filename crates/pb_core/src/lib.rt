@@ -11,6 +11,7 @@ mod lists;
 mod moments;
 mod past;
 mod replies;
+mod request_lists;
 mod sending;
 mod waiting;
 

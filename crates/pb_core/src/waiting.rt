@@ -1,13 +1,15 @@
 ghost use Rattle.std.specs.Prelude.{◌≡◌, IsTrue, ◌↔◌};
 
+use crate::request_lists::RequestList;
 use pb_cycles::{Queue, Request};
 use std::alloc::{AllocError, Global};
 use std::marker::Model;
 
-/// The requests that wait at a station, in a box of their own: they are large, and most turns don't touch them.
+/// The requests that wait at a station, a list of each priority.
 #[derive(Debug, Drop)]
 pub struct Waiting {
-    queue: Box<Queue>,
+    high: RequestList,
+    low: RequestList,
 }
 
 impl Model for Waiting {
@@ -15,41 +17,61 @@ impl Model for Waiting {
 
     ghost Value = { Queued };
 
-    ghost view = { λ w. w.queue.value };
+    ghost view = { λ w. record { high = w.high; low = w.low } };
 }
 
 impl Waiting {
-    ghost use Rattle.std.specs.Prelude.{◌≡◌, ◌<◌, [], ◌∷◌, length, drop, IsTrue, ◌↔◌, IfOk, OnOk, OnErr, MatchOption, MatchResult};
+    ghost use Rattle.std.specs.Prelude.{◌≡◌, ◌<◌, [], ◌∷◌, nat_le, length, drop, IsTrue, ◌↔◌, IfOk, OnOk, OnErr, MatchOption, MatchResult};
     ghost use Rattle.pb_turn.specs.Stations.{queued, list_for};
 
     /// None waits. Its fault: memory was refused.
     pub fn new(alloc: Global) -> Result<Waiting, AllocError>
         ensures { IfOk result (λ w. w ≡ record { high = []; low = [] }) }
     {
-        let queue = Box::new(alloc, Queue::new())?;
-        Ok(Waiting { queue })
+        let high = RequestList::new(alloc)?;
+        let low = RequestList::new(alloc)?;
+        Ok(Waiting { high, low })
     }
 
     /// The same requests. Its fault: memory was refused.
     pub fn copy(&self, alloc: Global) -> Result<Waiting, AllocError>
         ensures { IfOk result (λ w. w ≡ self.now) }
     {
-        let queue = Box::new(alloc, self.queue.copy())?;
-        Ok(Waiting { queue })
+        let high = self.high.copy(alloc)?;
+        let low = self.low.copy(alloc)?;
+        Ok(Waiting { high, low })
     }
 
     /// Whether the same requests wait in another.
     pub fn is_same(&self, other: &Waiting) -> bool
         ensures { IsTrue result ↔ (self.now ≡ other.now) }
     {
-        are_same(self.queue(), other.queue())
+        are_same(self.high.requests(), other.high.requests())
+            && are_same(self.low.requests(), other.low.requests())
     }
 
-    /// They all.
-    pub fn queue(&self) -> &Queue
-        ensures { result.now ≡ self.now }
+    /// They all, as a queue.
+    pub fn queue(&self) -> Queue
+        ensures { result ≡ self.now }
     {
-        &self.queue
+        Queue::of(self.high.requests(), self.low.requests())
+    }
+
+    /// Whether as many requests of a request's priority wait as may wait.
+    pub fn is_full_for(&self, request: &Request) -> bool
+        ensures { result ≡ nat_le 16 (length (list_for self.now request.now)) }
+    {
+        self.list_for(request).is_full()
+    }
+
+    fn list_for(&self, request: &Request) -> &RequestList
+        ensures { result.now ≡ list_for self.now request.now }
+    {
+        if request.high() {
+            &self.high
+        } else {
+            &self.low
+        }
     }
 
     /// Puts a request behind the others of its priority, or hands it back where 16 of them wait.
@@ -59,14 +81,10 @@ impl Waiting {
         ensures room { OnOk result (length (list_for self.old request) < 16) }
         ensures full { OnErr result (length (list_for self.old request) ≡ 16) }
     {
-        let pushed = if request.high() {
-            self.queue.push_high(request)
+        if request.high() {
+            self.high.push(request)
         } else {
-            self.queue.push_low(request)
-        };
-        match pushed {
-            Ok(()) => Ok(()),
-            Err(refused) => Err(refused.request),
+            self.low.push(request)
         }
     }
 
@@ -74,14 +92,14 @@ impl Waiting {
     pub fn has_high(&self) -> bool
         ensures { IsTrue result ↔ (0 < length self.now.high) }
     {
-        self.queue.len_high() > 0
+        !self.high.requests().is_empty()
     }
 
     /// Whether a request of low priority waits.
     pub fn has_low(&self) -> bool
         ensures { IsTrue result ↔ (0 < length self.now.low) }
     {
-        self.queue.len_low() > 0
+        !self.low.requests().is_empty()
     }
 
     /// Takes the request of high priority that has waited longest, if one waits.
@@ -90,7 +108,7 @@ impl Waiting {
             (λ request. (self.old.high ≡ request ∷ self.new.high)
             × (self.new ≡ record { high = drop 1 self.old.high; low = self.old.low })) }
     {
-        self.queue.take_high()
+        self.high.take()
     }
 
     /// Takes the request of low priority that has waited longest, if one waits.
@@ -99,18 +117,20 @@ impl Waiting {
             (λ request. (self.old.low ≡ request ∷ self.new.low)
             × (self.new ≡ record { high = self.old.high; low = drop 1 self.old.low })) }
     {
-        self.queue.take_low()
+        self.low.take()
     }
 
     /// None waits any more.
     pub fn clear(&mut self)
         ensures { self.new ≡ record { high = []; low = [] } }
     {
-        self.queue.clear();
+        self.high.clear();
+        self.low.clear();
     }
 }
 
-fn are_same(one: &Queue, other: &Queue) -> bool
+/// Whether two lists are the same requests in the same order.
+fn are_same(one: &[Request], other: &[Request]) -> bool
     ensures { IsTrue result ↔ (one.now ≡ other.now) }
 {
     one == other

@@ -1,7 +1,8 @@
 ghost use Rattle.std.specs.Prelude.{◌≡◌, ◌<◌, ◌≤◌, [], IfOk, IfSome, length};
 
 use crate::faults::PlayFault;
-use crate::offers::Offers;
+use crate::gates::Gate;
+use crate::workers::Worker;
 use pb_plan::{Deed, Step, Walk};
 use pb_scenario::Scenario;
 use pb_segment::{CommitFault, ConductorSeat, GlanceFault, Outlook, SharedSegment};
@@ -29,19 +30,16 @@ impl<L: Ledger> Conductor<L> {
         }
     }
 
-    /// Drives a scenario from instant to instant, and has the workers take the turns. It stops where a worker
-    /// has met a fault.
-    pub(crate) fn conduct<R: Wait>(
+    /// Drives a scenario from instant to instant, and has the turns taken, with a worker of its own. It stops where a
+    /// worker has met a fault.
+    pub(crate) fn conduct<R: Wait, G: Gate>(
         &mut self,
-        rt: &R,
-        alloc: Global,
-        segment: &SharedSegment<L>,
-        offers: &Offers,
+        worker: &mut Worker<'_, '_, L, R, G>,
         scenario: &Scenario,
     ) -> Result<(), PlayFault> {
-        let mut walk = scenario.walk(alloc)?;
+        let mut walk = scenario.walk(worker.alloc)?;
         for _ in 0..walk.until() + 1 {
-            match self.instant(rt, alloc, segment, offers, &walk)? {
+            match self.instant(worker, &walk)? {
                 Some(at) => walk.go_to(at),
                 None => break,
             }
@@ -50,21 +48,19 @@ impl<L: Ledger> Conductor<L> {
     }
 
     /// Plays the instant at which a walk through the scenario is, and answers the next one, if there is one.
-    fn instant<R: Wait>(
+    fn instant<R: Wait, G: Gate>(
         &mut self,
-        rt: &R,
-        alloc: Global,
-        segment: &SharedSegment<L>,
-        offers: &Offers,
+        worker: &mut Worker<'_, '_, L, R, G>,
         walk: &Walk<'_>,
     ) -> Result<Option<u64>, PlayFault>
         ensures { IfOk result (λ o. IfSome o (λ at. (walk.now.clock < at) × (at ≤ walk.now.until))) }
     {
+        let (rt, alloc, segment) = (worker.rt, worker.alloc, worker.segment);
         let now = walk.now();
         self.steps(rt, alloc, segment, now, walk.today(), false)?;
         self.look(rt, alloc, segment, now)?;
         let turns = walk.turns(alloc, self.shown(walk)?.due.moments())?;
-        if !turns.is_empty() && !offers.serve(rt, now, &turns)? {
+        if !turns.is_empty() && !worker.serve_all(now, &turns) {
             return Ok(None);
         }
         self.steps(rt, alloc, segment, now, walk.today(), true)?;

@@ -1,4 +1,4 @@
-ghost use Rattle.std.specs.Prelude.{◌≡◌, ◌+◌, ◌<◌, Some, Ok, IfOk, IfErr, OnOk, length, map};
+ghost use Rattle.std.specs.Prelude.{◌≡◌, ◌+◌, ◌≤◌, Some, Ok, IfOk, IfErr, OnOk, length, map};
 ghost use Rattle.pb_model.specs.World.{new_world};
 ghost use Rattle.pb_runs.specs.Scenarios.{trace_of};
 ghost use Rattle.pb_segment.specs.Origins.{IsNew, origin_of};
@@ -6,14 +6,15 @@ ghost use Rattle.pb_fleet.specs.Faults.{IsCrew, RefusesFleet};
 ghost use Rattle.pb_fleet.specs.Played.{LeavesToken, begins};
 
 use crate::conductors::Conductor;
-use crate::dealing::deal;
-use crate::faults::{FleetFault, PlayFault};
+use crate::drawers::{Drawer, helpers};
+use crate::faults::{FleetFault, PlayFault, least};
 use crate::gates::Gate;
-use crate::offers::Offers;
+use crate::pools::{MOST_OFFERS, Pool};
 use crate::reviewing::review;
-use crate::workers::{Done, work};
+use crate::workers::Worker;
 use pb_scenario::Scenario;
-use pb_segment::{Report, SharedSegment, TapSeat};
+use pb_segment::{Report, SharedSegment};
+use pb_tickets::Tickets;
 use pb_world::{NewFault, World};
 use std::alloc::Global;
 use std::marker::Brand;
@@ -25,16 +26,16 @@ use std::thread::Threads;
 /// The most workers of a fleet.
 const MOST_WORKERS: usize = 64;
 
-/// Plays a scenario with some workers, each in a thread of its own, and gives the report of all that has
-/// happened. The report's trace is that of the scenario's run on one thread, for every number of workers,
+/// Plays a scenario with some workers, one in this thread and each other in one of its own, and gives the report of all
+/// that has happened. The report's trace is that of the scenario's run on one thread, for every number of workers,
 /// every schedule and every gate; and it has one token while the premises are kept (medium access: token
 /// passing).
 ///
 /// A conductor drives the steps of the scenario, and time from one instant to the next. In each instant it
-/// offers the turns of all taps that are due and aren't withheld, before any of them has to be taken; a
-/// worker looks at a tap, asks the gate, decides the turn outside the lock, and commits it. Tap `i` belongs
-/// to worker `i mod workers`; a worker with no tap gets no thread. At the end all that was told and shown is
-/// compared, and the history has to be cut into the scenario's instants: no event is applied twice.
+/// offers the turns of all taps that are due and aren't withheld, all together. Workers, the conductor among
+/// them, draw the offers by tickets; one looks at the tap, asks the gate, decides the turn outside the lock, and
+/// commits it. There are no more workers than taps. At the end all that was told and shown is compared, and
+/// the history has to be cut into the scenario's instants: no event is applied twice.
 ///
 /// Faults: `BadWorkers` for fewer than 1 or more than 64; then `New` where there is no new world of the
 /// scenario's taps. After another fault no more turns are offered, all workers are joined, and the least of
@@ -82,24 +83,25 @@ fn fleet<L: Ledger + Send + Sync, R: Threads + Wait + Sync, G: Gate>(
     requires one_each { blank.parts ≡ length world.taps + 1 }
     requires new { IsNew world }
     requires origin { origin_of world ≡ begins scenario.now.scenario }
+    requires crew { IsCrew workers }
     ensures run { IfOk result (λ r. trace_of scenario.now.scenario ≡ Some (Ok r.trace)) }
     ensures token { IfOk result (LeavesToken scenario.now.scenario) }
 {
     let (segment, seat, seats) = SharedSegment::<L>::new(alloc, blank, world)?;
     let crew = workers.min(seats.len()).max(1);
-    let hands = deal(alloc, seats, crew)?;
-    let offers = Offers::new(alloc, crew)?;
+    let pool = Pool::new(alloc, seats, crew - 1)?;
     let mut conductor = Conductor::new(alloc, seat);
-    let seats = play(
+    play(
         rt,
         alloc,
         &segment,
-        &offers,
+        &pool,
         &mut conductor,
-        hands,
+        crew,
         scenario,
         gate,
     )?;
+    let seats = pool.into_seats(alloc)?;
     let Conductor { seat, seen } = conductor;
     match segment.close(seat, seats) {
         Ok(report) => review(alloc, scenario, report, &seen),
@@ -107,42 +109,51 @@ fn fleet<L: Ledger + Send + Sync, R: Threads + Wait + Sync, G: Gate>(
     }
 }
 
-/// Has each worker work in a thread while the conductor conducts, and gathers the seats again.
-fn play<L: Ledger + Send + Sync, R: Threads + Wait + Sync, G: Gate>(
-    rt: &R,
+/// Plays it with a crew that draws turns by tickets: the conductor works in this thread, and each helper in one of
+/// its own.
+fn play<'a, L: Ledger + Send + Sync, R: Threads + Wait + Sync, G: Gate>(
+    rt: &'a R,
     alloc: Global,
-    segment: &SharedSegment<L>,
-    offers: &Offers,
+    segment: &'a SharedSegment<L>,
+    pool: &'a Pool<L>,
     conductor: &mut Conductor<L>,
-    hands: Vec<Vec<TapSeat<L>>>,
+    crew: usize,
     scenario: &Scenario,
-    gate: &G,
-) -> Result<Vec<TapSeat<L>>, PlayFault> {
-    thread::scope(
-        thread::scope_env(),
-        rt,
-        |scope| -> Result<Vec<TapSeat<L>>, PlayFault> {
-            let mut all = Done::new(alloc);
-            let mut running = Vec::new(alloc);
-            for (worker, hand) in hands.into_iter().enumerate() {
-                match scope.spawn(move || work(rt, alloc, segment, offers, worker, hand, gate)) {
-                    Ok(thread) => {
-                        if running.push(thread).is_err() {
-                            all.note(Some(PlayFault::NoMemory));
-                        }
+    gate: &'a G,
+) -> Result<(), PlayFault>
+    requires some { 1 ≤ crew }
+    requires few { crew ≤ 64 }
+{
+    let (tickets, mut seat) = Tickets::new(alloc, MOST_OFFERS, crew as u64)?;
+    let tickets = &tickets;
+    let drawers = helpers(alloc, tickets, &mut seat, crew)?;
+    let drawer = Drawer { tickets, seat };
+    let mut own = Worker::new(rt, alloc, segment, pool, gate, drawer);
+    thread::scope(thread::scope_env(), rt, |scope| -> Result<(), PlayFault> {
+        let mut fault = None;
+        let mut running = Vec::new(alloc);
+        for (helper, drawer) in drawers.into_iter().enumerate() {
+            let worker = Worker::new(rt, alloc, segment, pool, gate, drawer);
+            match scope.spawn(move || worker.help(helper)) {
+                Ok(thread) => {
+                    if running.push(thread).is_err() {
+                        fault = least(fault, Some(PlayFault::NoMemory));
                     }
-                    Err(_) => all.note(Some(PlayFault::NoThread)),
                 }
+                Err(_) => fault = least(fault, Some(PlayFault::NoThread)),
             }
-            if all.fault.is_none() {
-                let met = conductor.conduct(rt, alloc, segment, offers, scenario);
-                all.note(met.err());
-            }
-            offers.end(rt);
-            for thread in running {
-                all.add(thread.join(rt));
-            }
-            all.into_seats()
-        },
-    )
+        }
+        if fault.is_none() {
+            let met = conductor.conduct(&mut own, scenario).err();
+            fault = least(met, own.fault);
+        }
+        pool.end();
+        for thread in running {
+            fault = least(fault, thread.join(rt));
+        }
+        match fault {
+            Some(fault) => Err(fault),
+            None => Ok(()),
+        }
+    })
 }

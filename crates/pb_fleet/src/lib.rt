@@ -1,19 +1,20 @@
-//! A fleet of workers that plays a scenario: each tap's turns are decided by a worker in a thread of its own,
+//! A fleet of workers that plays a scenario: they draw turns by tickets, and decide them side by side in threads,
 //! and the trace is that of the scenario's run on one thread, for every number of workers and every schedule.
 #![tactic(auto)]
 
 mod conductors;
-mod dealing;
+mod drawers;
 mod faults;
 mod fleets;
 mod gates;
-mod offers;
+mod pools;
 mod reviewing;
 mod workers;
 
 pub use faults::FleetFault;
 pub use fleets::run_fleet;
 pub use gates::Gate;
+pub use pb_tickets::{TicketSeat, Tickets};
 
 #[cfg(test)]
 mod tests;

@@ -1,105 +1,148 @@
-ghost use Rattle.std.specs.Prelude.{◌≡◌};
-
+use crate::drawers::Drawer;
 use crate::faults::{PlayFault, least};
 use crate::gates::Gate;
-use crate::offers::{Offer, Offers};
+use crate::pools::{Offer, Pool};
 use pb_segment::{CommitFault, GlanceFault, SharedSegment, TapSeat};
 use pb_station::decide;
 use std::alloc::Global;
 use std::sync::Wait;
 use std::sync::ledger::Ledger;
 
-/// What is done: the seats that come back, and the fault that was met.
+/// One who takes turns that are offered.
 #[derive(Drop)]
-pub(crate) struct Done<L: Ledger> {
-    seats: Vec<TapSeat<L>>,
+pub(crate) struct Worker<'a, 't, L: Ledger, R, G> {
+    pub(crate) rt: &'a R,
+    pub(crate) alloc: Global,
+    pub(crate) segment: &'a SharedSegment<L>,
+    pool: &'a Pool<L>,
+    gate: &'a G,
+    drawer: Drawer<'t>,
+    /// The number that was drawn before its offer was published.
+    held: Option<u64>,
+    /// The least fault that was met.
     pub(crate) fault: Option<PlayFault>,
 }
 
-impl<L: Ledger> Done<L> {
-    pub(crate) fn new(alloc: Global) -> Done<L> {
-        Done {
-            seats: Vec::new(alloc),
+impl<'a, 't, L: Ledger, R: Wait, G: Gate> Worker<'a, 't, L, R, G> {
+    /// One who has served nothing yet.
+    pub(crate) fn new(
+        rt: &'a R,
+        alloc: Global,
+        segment: &'a SharedSegment<L>,
+        pool: &'a Pool<L>,
+        gate: &'a G,
+        drawer: Drawer<'t>,
+    ) -> Worker<'a, 't, L, R, G> {
+        Worker {
+            rt,
+            alloc,
+            segment,
+            pool,
+            gate,
+            drawer,
+            held: None,
             fault: None,
         }
     }
 
-    /// Keeps the least fault.
-    pub(crate) fn note(&mut self, met: Option<PlayFault>) {
+    /// A helper draws numbers, and serves their offers, until no more come. Its fault is the least that was met.
+    pub(crate) fn help(mut self, helper: usize) -> Option<PlayFault> {
+        for _ in self.rt.forever() {
+            if !self.pool.wait_for_any(self.rt, helper) {
+                break;
+            }
+            let Some(number) = self.draw() else { break };
+            if !self.pool.wait_for(self.rt, helper, number) {
+                break;
+            }
+            self.serve(number);
+        }
+        self.fault
+    }
+
+    /// The conductor offers turns at a moment, serves those whose numbers the helpers don't draw, and waits until all
+    /// were served. False where one was with a fault.
+    pub(crate) fn serve_all(&mut self, now: u64, turns: &[usize]) -> bool {
+        if !self.pool.publish(now, turns) {
+            self.fault = least(self.fault, turns.first().map(|tap| full(*tap, now)));
+            return false;
+        }
+        for _ in self.rt.forever() {
+            match self.next_number() {
+                Some(number) => self.serve(number),
+                None => break,
+            }
+        }
+        self.pool.wait_until_served(self.rt)
+    }
+
+    /// The number of an offer that was published, which this worker is to serve.
+    fn next_number(&mut self) -> Option<u64> {
+        let drawn = match self.held.take() {
+            Some(number) => Some(number),
+            None if self.pool.has_more() => self.draw(),
+            None => None,
+        };
+        let number = drawn?;
+        if self.pool.is_published(number) {
+            return Some(number);
+        }
+        self.held = Some(number);
+        None
+    }
+
+    fn draw(&mut self) -> Option<u64> {
+        let number = self.drawer.draw()?;
+        self.pool.note_drawn();
+        Some(number)
+    }
+
+    /// Takes the turn of the offer with a number.
+    fn serve(&mut self, number: u64) {
+        let met = self.take_offer(number).err();
         self.fault = least(self.fault, met);
+        self.pool.served(self.fault.is_some());
     }
 
-    /// What a worker hands back comes to it.
-    pub(crate) fn add(&mut self, other: Done<L>) {
-        let Done { seats, fault } = other;
-        self.note(fault);
-        for seat in seats {
-            if self.seats.push(seat).is_err() {
-                self.note(Some(PlayFault::NoMemory));
-            }
+    fn take_offer(&self, number: u64) -> Result<(), PlayFault> {
+        let Some(Offer { now, tap }) = self.pool.offer(number) else {
+            return Ok(());
+        };
+        match self.pool.seat(tap) {
+            Some(seat) => self.take_turn(&mut seat.lock(self.rt), now),
+            None => Ok(()),
         }
     }
 
-    /// All seats, where no fault was met.
-    pub(crate) fn into_seats(self) -> Result<Vec<TapSeat<L>>, PlayFault> {
-        let Done { seats, fault } = self;
-        match fault {
-            Some(fault) => Err(fault),
-            None => Ok(seats),
+    /// A tap takes its turn at a moment: the worker looks at it, asks the gate, and decides, all without the
+    /// segment's lock but the look and the end.
+    fn take_turn(&self, seat: &mut TapSeat<L>, now: u64) -> Result<(), PlayFault> {
+        let tap = seat.tap();
+        let refused = |fault: CommitFault| PlayFault::Commit { tap, now, fault };
+        let glance = match self.segment.glance(self.rt, self.alloc, seat) {
+            Ok(glance) => glance,
+            Err(GlanceFault::Disagree) => return Err(refused(CommitFault::Disagree)),
+            Err(GlanceFault::NoMemory) => return Err(PlayFault::NoMemory),
+        };
+        self.pool.enters_gate();
+        let is_open = self.gate.between(tap);
+        self.pool.leaves_gate();
+        if !is_open {
+            return Err(PlayFault::GateClosed(tap));
+        }
+        let decision = decide(self.alloc, glance)?;
+        match self.segment.commit(self.rt, self.alloc, seat, decision) {
+            Ok(_) => Ok(()),
+            Err(fault) => Err(refused(fault)),
         }
     }
 }
 
-/// Takes the turns that a worker is offered, until no offers come any more.
-pub(crate) fn work<L: Ledger, R: Wait, G: Gate>(
-    rt: &R,
-    alloc: Global,
-    segment: &SharedSegment<L>,
-    offers: &Offers,
-    worker: usize,
-    mut seats: Vec<TapSeat<L>>,
-    gate: &G,
-) -> Done<L> {
-    let mut fault = None;
-    let mut offer = Offer::none(alloc);
-    for _ in rt.forever() {
-        if !offers.take(rt, worker, &mut offer) {
-            break;
-        }
-        for position in &offer.positions {
-            if let Some(seat) = seats.get_mut(*position) {
-                let met = take_turn(rt, alloc, segment, seat, offer.now, gate).err();
-                fault = least(fault, met);
-            }
-        }
-        offers.served(offer.positions.len(), fault.is_some());
-    }
-    Done { seats, fault }
-}
-
-/// A tap takes its turn at a moment: the worker looks at it, asks the gate, and decides, all without the lock
-/// but the look and the end.
-fn take_turn<L: Ledger, R: Wait, G: Gate>(
-    rt: &R,
-    alloc: Global,
-    segment: &SharedSegment<L>,
-    seat: &mut TapSeat<L>,
-    now: u64,
-    gate: &G,
-) -> Result<(), PlayFault> {
-    let tap = seat.tap();
-    let refused = |fault: CommitFault| PlayFault::Commit { tap, now, fault };
-    let glance = match segment.glance(rt, alloc, seat) {
-        Ok(glance) => glance,
-        Err(GlanceFault::Disagree) => return Err(refused(CommitFault::Disagree)),
-        Err(GlanceFault::NoMemory) => return Err(PlayFault::NoMemory),
-    };
-    if !gate.between(tap) {
-        return Err(PlayFault::GateClosed(tap));
-    }
-    let decision = decide(alloc, glance)?;
-    match segment.commit(rt, alloc, seat, decision) {
-        Ok(_) => Ok(()),
-        Err(fault) => Err(refused(fault)),
+/// A history has no room for a tap's turn at a moment.
+fn full(tap: usize, now: u64) -> PlayFault {
+    PlayFault::Commit {
+        tap,
+        now,
+        fault: CommitFault::HistoryFull,
     }
 }

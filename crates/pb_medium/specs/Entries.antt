@@ -25,7 +25,7 @@ record_of r = record {
   begin = r.begin;
   end = r.end;
   hits = map hit_of r.hits.items;
-  heard = map heard_of r.heard.items;
+  heard = r.heard;
 }
 
 abbrev pub entry_of : Entry → model.Entry

@@ -1,3 +1,4 @@
+pub mod Receptions
 pub mod Entries
 pub mod Traces
 pub mod Senses

@@ -1,6 +1,7 @@
 ghost use Rattle.std.specs.Prelude.{◌≤◌};
 ghost use Rattle.pb_timers.specs.Timers.{last_moment};
 
+use crate::receptions::Reception;
 use crate::spans::Span;
 use arrayvec::ArrayVec;
 
@@ -39,7 +40,7 @@ pub struct Record {
     /// When it ends, in bit times: this moment is no longer in it.
     pub end: u64,
     /// How it reached each tap.
-    pub heard: ArrayVec<Heard, 32>,
+    pub heard: Reception,
     /// Damage done to it so far.
     pub(crate) hits: Vec<Hit>,
     ghost begins: { begin ≤ last_moment },
@@ -93,7 +94,7 @@ impl Record {
     pub(crate) fn is_unheard(&self, tap: usize) -> bool
         ensures { result ≡ is_unheard (slice_get (record_of self.now).heard tap) }
     {
-        matches!(self.heard.get(tap), Some(Heard::Unheard))
+        self.heard.is_unheard(tap)
     }
 
     /// Whether the character at a place comes damaged to a tap.

@@ -9,14 +9,17 @@ mod entries;
 mod losing;
 mod noising;
 mod placing;
+mod receptions;
 mod senses;
 mod settling;
 mod spans;
 mod speaking;
+mod tap_sets;
 mod traces;
 
 pub use changing::{next_begin, something_lasts};
 pub use entries::{Entry, Heard, Hit, Record};
+pub use receptions::Reception;
 pub use senses::{
     begin_between, burst_characters, end_between, is_in_air_by, is_reached, next_end,
 };

@@ -3,7 +3,7 @@ ghost use Rattle.std.specs.List.{position};
 ghost use Rattle.pb_model.specs.Trace as model;
 ghost use Rattle.pb_medium.specs.Entries.{entry_of};
 
-use crate::entries::{Entry, Heard};
+use crate::entries::Entry;
 use crate::traces::Trace;
 use pb_taps::WorldFault;
 use pb_timers::Moment;
@@ -65,8 +65,6 @@ fn lose_at(entry: &mut Entry, tap: usize)
     ensures { entry_of entry.new ≡ model.unheard_at tap (entry_of entry.old) }
 {
     if let Entry::Sent(telegram) = entry {
-        if let Some(heard) = telegram.heard.get_mut(tap) {
-            *heard = Heard::Unheard;
-        }
+        telegram.heard.lose(tap);
     }
 }

@@ -1,14 +1,14 @@
-ghost use Rattle.std.specs.Prelude.{◌≡◌, length, map, slice_get};
-ghost use Rattle.std.specs.Option.{option_map};
+ghost use Rattle.std.specs.Prelude.{◌≡◌, ◌<◌, get_or, length, map, slice_get, slice_set};
 ghost use Rattle.pb_model.specs.Medium.{ends_between, entry_at, heard_by, reaches};
-ghost use Rattle.pb_medium.specs.Entries.{entry_of, heard_of, record_of};
+ghost use Rattle.pb_model.specs.Trace.{Pending};
+ghost use Rattle.pb_medium.specs.Entries.{entry_of, record_of};
 ghost use Rattle.pb_medium.specs.Settling.{heard_with, settled, settled_as};
 ghost use Rattle.pb_taps.specs.Taps.{tap_of};
 
-use crate::entries::{Entry, Heard, Record};
+use crate::entries::{Entry, Record};
+use crate::receptions::Reception;
 use crate::senses::{is_whole_at, next_end};
 use crate::traces::Trace;
-use arrayvec::ArrayVec;
 use pb_taps::Tap;
 use pb_timers::Moment;
 
@@ -55,9 +55,8 @@ fn settle(entries: &mut [Entry], delay: u32, taps: &[Tap], from: Moment, to: Mom
 }
 
 /// A telegram that was something to the taps is no longer pending.
-fn settle_entry(entry: &mut Entry, heard: Option<ArrayVec<Heard, 32>>)
-    ensures { entry_of entry.new
-        ≡ settled_as (option_map (λ heard. map heard_of heard.items) heard) (entry_of entry.old) }
+fn settle_entry(entry: &mut Entry, heard: Option<Reception>)
+    ensures { entry_of entry.new ≡ settled_as heard (entry_of entry.old) }
 {
     if let (Entry::Sent(telegram), Some(heard)) = (entry, heard) {
         telegram.heard = heard;
@@ -72,8 +71,8 @@ fn outcome(
     taps: &[Tap],
     from: Moment,
     to: Moment,
-) -> Option<ArrayVec<Heard, 32>>
-    ensures { settled_as (option_map (λ heard. map heard_of heard.items) result) (entry_of entry.now)
+) -> Option<Reception>
+    ensures { settled_as result (entry_of entry.now)
         ≡ entry_at delay (map tap_of taps.now) (map entry_of entries.now) from to (entry_of entry.now) }
 {
     match entry {
@@ -93,42 +92,35 @@ fn is_reached_between(telegram: &Record, delay: u32, from: Moment, to: Moment) -
 }
 
 /// What a telegram of the entries was to each tap, once it has ended.
-fn heard_in_the_end(
-    entries: &[Entry],
-    delay: u32,
-    telegram: &Record,
-    taps: &[Tap],
-) -> ArrayVec<Heard, 32>
-    ensures { map heard_of result.items
-        ≡ heard_by delay (map entry_of entries.now) (record_of telegram.now) 0
+fn heard_in_the_end(entries: &[Entry], delay: u32, telegram: &Record, taps: &[Tap]) -> Reception
+    ensures { result ≡ heard_by delay (map entry_of entries.now) (record_of telegram.now) 0
         (map tap_of taps.now) (record_of telegram.now).heard }
 {
-    let mut heard = ArrayVec::new();
-    for (position, before) in telegram.heard.iter().enumerate() {
-        heard.push(heard_at(entries, delay, telegram, taps, position, *before));
+    let mut heard = telegram.heard.copy();
+    for position in 0..telegram.heard.len() {
+        settle_at(&mut heard, entries, delay, telegram, taps, position);
     }
     heard
 }
 
-/// What a telegram of the entries was to the tap at a position, if there is one, once it has ended.
-fn heard_at(
+/// A telegram of the entries that was pending to the tap at a position, if there is one, is so no longer.
+fn settle_at(
+    heard: &mut Reception,
     entries: &[Entry],
     delay: u32,
     telegram: &Record,
     taps: &[Tap],
     position: usize,
-    before: Heard,
-) -> Heard
-    ensures { heard_of result
-        ≡ heard_with delay (map entry_of entries.now) (record_of telegram.now) position
-        (slice_get (map tap_of taps.now) position) (heard_of before) }
+)
+    requires { position < length heard.old }
+    ensures { heard.new ≡ slice_set heard.old position
+        (heard_with delay (map entry_of entries.now) (record_of telegram.now) position
+        (slice_get (map tap_of taps.now) position) (get_or heard.old position Pending)) }
 {
-    let Some(tap) = taps.get(position) else {
-        return before;
-    };
-    match before {
-        Heard::Pending if is_whole_at(entries, delay, position, tap, telegram) => Heard::Whole,
-        Heard::Pending => Heard::Damaged,
-        settled => settled,
+    if let Some(tap) = taps.get(position) {
+        heard.settle(
+            position,
+            is_whole_at(entries, delay, position, tap, telegram),
+        );
     }
 }

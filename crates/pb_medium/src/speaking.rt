@@ -1,13 +1,12 @@
-ghost use Rattle.std.specs.Prelude.{◌≡◌, ◌==◌, if◌then◌else◌, ◌≤◌, List, length, map};
+ghost use Rattle.std.specs.Prelude.{◌≡◌, ◌≤◌, List, length};
 ghost use Rattle.pb_model.specs.Medium as model;
 ghost use Rattle.pb_model.specs.Step as step;
-ghost use Rattle.pb_model.specs.Trace as trace;
 ghost use Rattle.pb_model.specs.World.{clock_limit, tap_limit};
-ghost use Rattle.pb_medium.specs.Entries.{heard_of, record_of};
+ghost use Rattle.pb_medium.specs.Entries.{record_of};
 
-use crate::entries::{Entry, Heard, Record};
+use crate::entries::{Entry, Record};
+use crate::receptions::Reception;
 use crate::traces::Trace;
-use arrayvec::ArrayVec;
 use pb_station::SendBuffer;
 use pb_telegram::copy_octets;
 use pb_timers::{Moment, bits};
@@ -55,30 +54,7 @@ fn sending(alloc: Global, speaker: Speaker, octets: &[u8]) -> Record
         octets: copy_octets(octets),
         begin,
         end: begin + bits(octets.len()),
-        heard: heard_at_first(speaker.tap, speaker.taps),
+        heard: Reception::at_first(speaker.tap, speaker.taps),
         hits: Vec::new(alloc),
-    }
-}
-
-/// What a new telegram is to each tap.
-fn heard_at_first(speaker: usize, taps: usize) -> ArrayVec<Heard, 32>
-    requires { taps ≤ tap_limit }
-    ensures { (ts : List model.Tap) → length ts ≡ taps → map heard_of result.items
-        ≡ trace.heard_at_first speaker 0 ts }
-{
-    let mut heard = ArrayVec::new();
-    for tap in 0..taps {
-        heard.push(first_heard(speaker, tap));
-    }
-    heard
-}
-
-fn first_heard(speaker: usize, tap: usize) -> Heard
-    ensures { heard_of result ≡ (if tap == speaker then trace.Own else trace.Pending) }
-{
-    if tap == speaker {
-        Heard::Own
-    } else {
-        Heard::Pending
     }
 }

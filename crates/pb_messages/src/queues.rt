@@ -57,15 +57,16 @@ fn take(list: &mut ArrayVec<Request, 16>) -> Option<Request>
     list.pop_at(0)
 }
 
-/// The same requests.
-fn copy_list(list: &ArrayVec<Request, 16>) -> ArrayVec<Request, 16>
-    ensures { result.items ≡ list.now.items }
+/// A list of these requests.
+fn list_of(requests: &[Request]) -> ArrayVec<Request, 16>
+    requires { length requests.now ≤ 16 }
+    ensures { result.items ≡ requests.now }
 {
-    let mut copy = ArrayVec::new();
-    for request in list.as_slice() {
-        copy.push(request.copy());
+    let mut list = ArrayVec::new();
+    for request in requests {
+        list.push(request.copy());
     }
-    copy
+    list
 }
 
 impl Queue {
@@ -79,13 +80,16 @@ impl Queue {
         }
     }
 
-    /// An equal queue, with which one can see what a turn would do.
-    pub fn copy(&self) -> Queue
-        ensures { result ≡ self.now }
+    /// A queue in which equal requests wait, the first longest. There are at most 16 of each priority, the caller's
+    /// condition.
+    pub fn of(high: &[Request], low: &[Request]) -> Queue
+        requires high { length high.now ≤ 16 }
+        requires low { length low.now ≤ 16 }
+        ensures { result ≡ record { high = high.now; low = low.now } }
     {
         Queue {
-            high: copy_list(&self.high),
-            low: copy_list(&self.low),
+            high: list_of(high),
+            low: list_of(low),
         }
     }
 
@@ -129,14 +133,6 @@ impl Queue {
             × (self.new ≡ record { high = self.old.high; low = drop 1 self.old.low })) }
     {
         take(&mut self.low)
-    }
-
-    /// No request waits any more.
-    pub fn clear(&mut self)
-        ensures { self.new ≡ record { high = []; low = [] } }
-    {
-        self.high.clear();
-        self.low.clear();
     }
 
     /// How many requests of high priority wait, 0 to 16.

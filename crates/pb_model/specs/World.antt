@@ -59,7 +59,7 @@ pub data NewFault : Type 0 where
 -- ---- limits
 
 abbrev pub tap_limit : ℕ
-tap_limit = 32
+tap_limit = 127
 
 abbrev pub clock_limit : ℕ
 clock_limit = 1000000000000

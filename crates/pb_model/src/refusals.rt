@@ -82,12 +82,12 @@ pub fn a_full_trace_takes_no_more()
         → refusal (step w (Turn tap)) ≡ None }
 {}
 
-/// A world has 1 to 32 taps, of which a master has an address up to the highest of the bus, and a passive station one
+/// A world has 1 to 127 taps, of which a master has an address up to the highest of the bus, and a passive station one
 /// up to 126.
 pub fn a_world_has_taps_with_addresses()
     ensures none { new_refusal [] ≡ Some NoTaps }
-    ensures most { new_refusal (replicate 32 (master 1)) ≡ None }
-    ensures too_many { new_refusal (replicate 33 (master 6)) ≡ Some TooManyTaps }
+    ensures most { new_refusal (replicate 127 (master 1)) ≡ None }
+    ensures too_many { new_refusal (replicate 128 (master 6)) ≡ Some TooManyTaps }
     ensures highest { new_refusal (master 5 ∷ []) ≡ None }
     ensures too_high { new_refusal (master 5 ∷ master 6 ∷ master 7 ∷ []) ≡ Some (BadAddress 1) }
     ensures passive { new_refusal (record { address = 126; master = false; reply = [] } ∷ []) ≡ None }

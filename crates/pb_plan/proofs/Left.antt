@@ -8,7 +8,7 @@ use Rattle.std.proofs.lemmas.Grind.{get_or-set_at}
 use Rattle.std.proofs.lemmas.Bool.{eqb-false, ltb-true, ltb-false, eqb-true, ne_eqb, eq-eqb, le-leb, lt-leb, lt-ltb, le-ltb}
 use Rattle.pb_turn.specs.Stations.{earlier}
 use Rattle.pb_model.specs.World.{Event}
-use Rattle.pb_runs.specs.Runs.{after, comes, next_turn, next, wants}
+use Rattle.pb_runs.specs.Runs.{after, comes, next_turn, next, onward, wants}
 use Rattle.pb_runs.specs.Scenarios.{Deed, Happens, Withhold, Planned, event_before, event_after, deed_holds, holds_until, held_until, next_step, plan_of}
 use Rattle.pb_plan.specs.Coming.{comes_in, next_turn_in, onward_to, wants_in}
 use Rattle.pb_plan.specs.Walks.{AreFrom, AreBefore, held_by, hold_tap, hold_one, hold_all, IsAhead, IsLeft, Advances, first_at}
@@ -233,22 +233,30 @@ next-left steps at today rest held left = left.ahead.next at (omega arith) ∙ n
 comes-in : (steps : List Planned) (until now tap : ℕ) (held : List ℕ) (due : Option ℕ) → held_until steps now tap ≡ slice_index held tap → comes (plan_of steps until) now tap due ≡ comes_in now (slice_index held tap) due
 comes-in steps until now tap held due same = ap (λ n. comes_in now n due) same
 
-turns-left : (steps : List Planned) (until at : ℕ) (today rest : List Planned) (held : List ℕ) (tap : ℕ) (dues : List (Option ℕ)) → IsLeft steps at today rest held → tap + length dues ≤ length held
+pub turns-left : (steps : List Planned) (until at : ℕ) (today rest : List Planned) (held : List ℕ) (tap : ℕ) (dues : List (Option ℕ)) → IsLeft steps at today rest held → tap + length dues ≤ length held
     → next_turn (plan_of steps until) at tap dues ≡ next_turn_in held at tap dues
 turns-left steps until at today rest held tap [] left short = refl
 turns-left steps until at today rest held tap (due ∷ dues) left short =
     ap (λ o. earlier o (next_turn (plan_of steps until) at (tap + 1) dues)) (comes-in steps until at tap held due (held-left steps at today rest held tap left (omega (arith, short))))
     ∙ ap (earlier (comes_in at (slice_index held tap) due)) (turns-left steps until at today rest held (tap + 1) dues left (omega (arith, short)))
 
--- the next instant
-pub instant-left : (steps : List Planned) (until at : ℕ) (today rest : List Planned) (held : List ℕ) (dues : List (Option ℕ)) (change : Option ℕ) → IsLeft steps at today rest held → length dues ≡ length held
-    → next (plan_of steps until) at dues change ≡ onward_to until at (earlier (first_at rest) (earlier change (next_turn_in held at 0 dues)))
-instant-left steps until at today rest held dues change left same =
-    ap (λ o. onward_to until at (earlier o (earlier change (next_turn (plan_of steps until) at 0 dues)))) (next-left steps at today rest held left)
-    ∙ ap (λ o. onward_to until at (earlier (first_at rest) (earlier change o))) (turns-left steps until at today rest held 0 dues left (omega (arith, same)))
-
 -- who takes a turn
 pub wants-left : (steps : List Planned) (until at : ℕ) (today rest : List Planned) (held : List ℕ) (tap : ℕ) (due : Option ℕ) → IsLeft steps at today rest held → tap < length held
     → wants (plan_of steps until) at tap due ≡ wants_in (slice_index held tap) at due
 wants-left steps until at today rest held tap None left there = refl
 wants-left steps until at today rest held tap (Some due) left there = ap (λ n. nat_le due at && nat_le n at) (held-left steps at today rest held tap left there)
+
+-- when a tap may take a turn next
+pub comes-left : (steps : List Planned) (until at : ℕ) (today rest : List Planned) (held : List ℕ) (tap : ℕ) (due : Option ℕ) → IsLeft steps at today rest held → tap < length held
+    → comes (plan_of steps until) at tap due ≡ comes_in at (slice_index held tap) due
+comes-left steps until at today rest held tap due left there = comes-in steps until at tap held due (held-left steps at today rest held tap left there)
+
+-- the next instant, where what comes besides the steps is known
+pub onward-left : (steps : List Planned) (until at : ℕ) (today rest : List Planned) (held : List ℕ) (other : Option ℕ) → IsLeft steps at today rest held
+    → onward (plan_of steps until) at (earlier (next_step steps at) other) ≡ onward_to until at (earlier (first_at rest) other)
+onward-left steps until at today rest held other left =
+    ap (λ o. onward (plan_of steps until) at (earlier o other)) (next-left steps at today rest held left) ∙ same (earlier (first_at rest) other)
+  where
+    same : (o : Option ℕ) → onward (plan_of steps until) at o ≡ onward_to until at o
+    same None = refl
+    same (Some m) = refl

@@ -77,7 +77,7 @@ pub(crate) fn next_turn(held: &[u64], now: u64, dues: &[Option<Moment>]) -> Opti
 }
 
 /// When a tap may take a turn next, that is withheld until a moment.
-fn comes(until: u64, now: u64, due: Option<Moment>) -> Option<u64>
+pub(crate) fn comes(until: u64, now: u64, due: Option<Moment>) -> Option<u64>
     ensures { result ≡ comes_in now until due }
 {
     if now < until {
@@ -90,7 +90,7 @@ fn comes(until: u64, now: u64, due: Option<Moment>) -> Option<u64>
 }
 
 /// The earlier of two moments, of which either may be missing.
-fn earlier(a: Option<u64>, b: Option<u64>) -> Option<u64>
+pub(crate) fn earlier(a: Option<u64>, b: Option<u64>) -> Option<u64>
     ensures { result ≡ earlier a b }
 {
     match (a, b) {

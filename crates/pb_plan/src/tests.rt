@@ -38,6 +38,11 @@ fn walks_from_step_to_step(rt: HostRuntime) {
         .expect(&rt, "memory");
     assert!(rt; turns.as_slice() == [0].as_slice());
     assert_eq!(rt; walk.next(&[None, at(5)], at(18)), Some(15));
+    assert_eq!(rt; walk.sooner(Some(18), 1, at(5)), Some(15));
+    assert_eq!(rt; walk.sooner(Some(9), 0, at(5)), Some(9));
+    assert_eq!(rt; walk.sooner(None, 0, at(7)), Some(7));
+    assert_eq!(rt; walk.next_by(Some(15), at(18)), Some(15));
+    assert_eq!(rt; walk.next_by(None, at(40)), Some(20));
 
     walk.go_to(15);
     assert!(rt; walk.today().is_empty() && walk.wants(1, at(5)));

@@ -1,5 +1,5 @@
 use crate::advancing::advance;
-use crate::coming::{next_instant, next_turn, takes_turn, time_to};
+use crate::coming::{comes, earlier, next_instant, next_turn, takes_turn, time_to};
 use crate::steps::Step;
 use pb_timers::Moment;
 use std::alloc::{AllocError, Global};
@@ -34,7 +34,8 @@ impl<'a> Model for Walk<'a> {
 impl<'a> Walk<'a> {
     ghost use Rattle.std.specs.Prelude.{◌≡◌, ◌≤◌, ◌<◌, IfOk, IfSome, length};
     ghost use Rattle.pb_timers.specs.Timers.{last_moment};
-    ghost use Rattle.pb_runs.specs.Runs.{wants, next, passing};
+    ghost use Rattle.pb_turn.specs.Stations.{earlier};
+    ghost use Rattle.pb_runs.specs.Runs.{comes, wants, next, onward, passing};
     ghost use Rattle.pb_runs.specs.Bus.{bus};
     ghost use Rattle.pb_plan.specs.Steps.{steps_of};
     ghost use Rattle.pb_plan.specs.Walks.{AreFrom, events_after, events_before};
@@ -128,6 +129,25 @@ impl<'a> Walk<'a> {
         ensures bounds { IfSome result (λ at. (self.now.clock < at) × (at ≤ self.now.until)) }
     {
         let turn = next_turn(&self.held, self.clock, dues);
+        self.next_by(turn, change)
+    }
+
+    /// The earlier of a moment and that at which a tap may take a turn next, in bit times, where it is due at a moment
+    /// or not at all: when it is withheld no more, or is due after now.
+    pub fn sooner(&self, first: Option<u64>, tap: usize, due: Option<Moment>) -> Option<u64>
+        requires { tap < self.now.taps }
+        ensures { result ≡ earlier first (comes (plan_in self.now) self.now.clock tap due) }
+    {
+        earlier(first, comes(self.held[tap], self.clock, due))
+    }
+
+    /// The next instant, as [`next`](Walk::next) has it, where the first moment is known at which a tap may take a
+    /// turn next.
+    pub fn next_by(&self, turn: Option<u64>, change: Option<Moment>) -> Option<u64>
+        ensures next { result ≡ onward (plan_in self.now) self.now.clock
+            (earlier ((plan_in self.now).later self.now.clock) (earlier change turn)) }
+        ensures bounds { IfSome result (λ at. (self.now.clock < at) × (at ≤ self.now.until)) }
+    {
         next_instant(self.clock, self.until, self.later, change, turn)
     }
 

@@ -1,31 +1,44 @@
 -- Events of a moment that are played one after another.
-use Rattle.std.proofs.Common.{◌≡◌, ◌∙◌, ℕ, zero, suc, ◌+◌, ◌<◌, List, [], ◌∷◌, ◌++◌, append_assoc, append-nil, length, map, take, drop, slice_get, get_or, Bool, true, false, Option, Some, None, Result, Ok, Err, IsErr, MatchResult, refl, ap, sym, subst, arith}
+use Rattle.std.proofs.Common.{◌≡◌, ◌∙◌, ℕ, zero, suc, ◌+◌, ◌<◌, ◌≤◌, List, [], ◌∷◌, ◌++◌, append_assoc, append-nil, length, map, take, drop, slice_get, get_or, Bool, true, false, if◌then◌else◌, Option, Some, None, Result, Ok, Err, IsErr, MatchResult, refl, ap, sym, subst, arith}
+use Rattle.std.specs.Prelude.{min}
+use Rattle.std.proofs.lemmas.List.{drop_all, length-map}
 use Rattle.std.specs.Result.{IsErrAnd}
+use Rattle.pb_turn.specs.Stations.{earlier}
 use Rattle.std.specs.List.{cons_option}
 use Rattle.std.specs.Option.{option_to_list, option_and_then}
 use Rattle.pb_model.specs.Medium.{Tap}
-use Rattle.pb_model.specs.World.{World, Event, Turn}
+use Rattle.pb_model.specs.World.{World, Event, Turn, Reply, Fault}
+use Rattle.pb_model.specs.Step.{step}
 use Rattle.pb_bus.specs.Worlds.{due_at}
-use Rattle.pb_runs.specs.Runs.{all}
+use Rattle.pb_runs.specs.Runs.{Plan, all, and_then, comes, next_turn, places, turns, wanted, wants}
 use Rattle.pb_runs.specs.Bus.{bus, due_in, dues}
+use Rattle.pb_runs.proofs.OnTheBus.{turns-leave-others}
 use Rattle.pb_plan.specs.declared.steps.Step.{Step}
 use Rattle.pb_plan.specs.Steps.{deed_of, steps_of}
 use Rattle.pb_scenario.specs.declared.faults.RunFault.{RunFault}
-use Rattle.pb_scenario.specs.declared.plays.Play.{Play}
 use Rattle.pb_scenario.specs.Said.{said_in, said_by}
-use Rattle.pb_scenario.specs.Plays.{Happened, Stops, events_in}
-use Rattle.pb_scenario.proofs.Playing.{all-append, err-append, stops-too}
+use Rattle.pb_scenario.specs.Stages.{StageView, ComesOn, IsReady}
+use Rattle.pb_scenario.specs.Plays.{Happened, Stops, turn_if}
+use Rattle.pb_scenario.proofs.Playing.{all-append, err-append, one-ok, stops-too}
 
-pub happened-none : (now : ℕ) (p : Play) → Happened now p [] p
-happened-none now p = record { world = refl; events = sym (append-nil (events_in p)) }
+pub happened-none : (now : ℕ) (v : StageView) → Happened now v [] v
+happened-none now v = record { world = refl; comes = λ start events came. subst (v.comes start) (sym (append-nil events)) came }
 
-pub happened-join : (now : ℕ) (a b c : Play) (xs ys : List Event) → Happened now a xs b → Happened now b ys c → Happened now a (xs ++ ys) c
+pub happened-join : (now : ℕ) (a b c : StageView) (xs ys : List Event) → Happened now a xs b → Happened now b ys c → Happened now a (xs ++ ys) c
 happened-join now a b c xs ys one two = record {
   world = all-append now xs ys a.world b.world one.world ∙ two.world;
-  events = two.events ∙ ap (λ es. es ++ ys) one.events ∙ append_assoc (events_in a) xs ys;
+  comes = λ start events came. subst (c.comes start) (append_assoc events xs ys) (two.comes start (events ++ xs) (one.comes start events came));
 }
 
-pub stops-after : (now : ℕ) (a b : Play) (xs ys : List Event) (fault : RunFault) → Happened now a xs b → Stops Err fault (all bus now ys b.world) → Stops Err fault (all bus now (xs ++ ys) a.world)
+-- one event has happened
+pub one-happened : (now : ℕ) (a b : StageView) (e : Event) (reply : Reply) → ComesOn a (e ∷ []) b → step a.world e ≡ Ok (b.world, reply) → Happened now a (e ∷ []) b
+one-happened now a b e reply comes goes = record { world = one-ok now a.world b.world reply e [] goes; comes = comes }
+
+-- what was ready is so still
+pub ready-after : (now : ℕ) (a b : StageView) (es : List Event) → Happened now a es b → IsReady a → IsReady b
+ready-after now a b es one (start, events, came) = (start, events ++ es, one.comes start events came)
+
+pub stops-after : (now : ℕ) (a b : StageView) (xs ys : List Event) (fault : RunFault) → Happened now a xs b → Stops Err fault (all bus now ys b.world) → Stops Err fault (all bus now (xs ++ ys) a.world)
 stops-after now a b xs ys fault one stops =
     stops-too fault Err Err (all bus now ys b.world) (all bus now (xs ++ ys) a.world) (λ r err. all-append now xs ys a.world b.world one.world ∙ err) stops
 
@@ -46,11 +59,17 @@ get-at (y ∷ xs) (suc i) x within is = get-at xs i x (omega (arith, within)) is
 
 -- ---- other words for the same
 
-pub happened-as : (m now : ℕ) (a b : Play) (es fs : List Event) → m ≡ now → es ≡ fs → Happened m a es b → Happened now a fs b
+pub happened-as : (m now : ℕ) (a b : StageView) (es fs : List Event) → m ≡ now → es ≡ fs → Happened m a es b → Happened now a fs b
 happened-as m now a b es fs at are one = subst (λ n. Happened n a fs b) at (subst (λ xs. Happened m a xs b) are one)
 
 pub stops-as : (m now : ℕ) (w : World) (es fs : List Event) (fault : RunFault) → m ≡ now → es ≡ fs → Stops Err fault (all bus m es w) → Stops Err fault (all bus now fs w)
 stops-as m now w es fs fault at are stops = subst (λ n. Stops Err fault (all bus n fs w)) at (subst (λ xs. Stops Err fault (all bus m xs w)) are stops)
+
+pub happened-at : (m now : ℕ) (a b : StageView) (es : List Event) → m ≡ now → Happened m a es b → Happened now a es b
+happened-at m now a b es at one = subst (λ n. Happened n a es b) at one
+
+pub stops-at : (m now : ℕ) (w : World) (es : List Event) (fault : RunFault) → m ≡ now → Stops Err fault (all bus m es w) → Stops Err fault (all bus now es w)
+stops-at m now w es fault at stops = subst (λ n. Stops Err fault (all bus n es w)) at stops
 
 -- ---- steps
 
@@ -95,12 +114,12 @@ said-cut late i steps s found =
     ap (λ xs. said_by late (steps_of xs)) (cut-at steps i s found) ∙ said-append late (take i steps) (s ∷ drop (i + 1) steps)
     ∙ ap (λ es. said_by late (steps_of (take i steps)) ++ es) (said-append late (s ∷ []) (drop (i + 1) steps) ∙ ap (λ es. es ++ said_by late (steps_of (drop (i + 1) steps))) (one-said late s))
 
-pub step-happened : (now : ℕ) (late : Bool) (i : ℕ) (steps : List Step) (s : Step) (a b c : Play) → slice_get steps i ≡ Some s → Happened now a (said_by late (steps_of (take i steps))) b
+pub step-happened : (now : ℕ) (late : Bool) (i : ℕ) (steps : List Step) (s : Step) (a b c : StageView) → slice_get steps i ≡ Some s → Happened now a (said_by late (steps_of (take i steps))) b
     → Happened now b (option_to_list (said_in late (deed_of s.deed))) c → Happened now a (said_by late (steps_of (take (i + 1) steps))) c
 step-happened now late i steps s a b c found before one =
     subst (λ es. Happened now a es c) (sym (said-more late i steps s found)) (happened-join now a b c (said_by late (steps_of (take i steps))) (option_to_list (said_in late (deed_of s.deed))) before one)
 
-pub step-stops : (now : ℕ) (late : Bool) (i : ℕ) (steps : List Step) (s : Step) (a b : Play) (fault : RunFault) → slice_get steps i ≡ Some s → Happened now a (said_by late (steps_of (take i steps))) b
+pub step-stops : (now : ℕ) (late : Bool) (i : ℕ) (steps : List Step) (s : Step) (a b : StageView) (fault : RunFault) → slice_get steps i ≡ Some s → Happened now a (said_by late (steps_of (take i steps))) b
     → Stops Err fault (all bus now (option_to_list (said_in late (deed_of s.deed))) b.world) → Stops Err fault (all bus now (said_by late (steps_of steps)) a.world)
 step-stops now late i steps s a b fault found before stops =
     let here = option_to_list (said_in late (deed_of s.deed)) in
@@ -114,32 +133,133 @@ turns-append : (xs ys : List ℕ) → map Turn (xs ++ ys) ≡ map Turn xs ++ map
 turns-append [] ys = refl
 turns-append (x ∷ xs) ys = ap (λ es. Turn x ∷ es) (turns-append xs ys)
 
-pub turn-happened : (now i : ℕ) (taps : List ℕ) (tap : ℕ) (a b c : Play) → slice_get taps i ≡ Some tap → Happened now a (map Turn (take i taps)) b
-    → Happened now b (Turn tap ∷ []) c → Happened now a (map Turn (take (i + 1) taps)) c
-turn-happened now i taps tap a b c found before one =
-    subst (λ es. Happened now a es c) (sym (ap (map Turn) (take-one taps i tap found) ∙ turns-append (take i taps) (tap ∷ [])))
-    (happened-join now a b c (map Turn (take i taps)) (Turn tap ∷ []) before one)
+-- when a tap is due, among those of all taps
+due-get : (w : World) (tap : ℕ) → tap < length w.taps → slice_get (dues w) tap ≡ Some (due_at w tap)
+due-get w tap there = in_taps w.taps tap there
+  where
+    in_taps : (ts : List Tap) (i : ℕ) → i < length ts → slice_get (map (due_in w) ts) i ≡ Some (option_and_then (due_in w) (slice_get ts i))
+    in_taps [] i there = absurd (omega (arith, there))
+    in_taps (t ∷ ts) zero there = refl
+    in_taps (t ∷ ts) (suc i) there = in_taps ts i (omega (arith, there))
 
-pub turn-stops : (now i : ℕ) (taps : List ℕ) (tap : ℕ) (a b : Play) (fault : RunFault) → slice_get taps i ≡ Some tap → Happened now a (map Turn (take i taps)) b
-    → Stops Err fault (all bus now (Turn tap ∷ []) b.world) → Stops Err fault (all bus now (map Turn taps) a.world)
-turn-stops now i taps tap a b fault found before stops =
-    let rest = map Turn (drop (i + 1) taps) in
-    subst (λ es. Stops Err fault (all bus now es a.world)) (sym (ap (map Turn) (cut-at taps i tap found) ∙ turns-append (take i taps) (tap ∷ drop (i + 1) taps)))
-    (stops-after now a b (map Turn (take i taps)) (Turn tap ∷ rest) fault before (stops-front now b.world (Turn tap ∷ []) rest fault stops))
+drop-at : {X : Type 0} (xs : List X) (i : ℕ) (x : X) → slice_get xs i ≡ Some x → drop i xs ≡ x ∷ drop (i + 1) xs
+drop-at [] i x found = absurd cc
+drop-at (y ∷ ys) zero x found = let same : y ≡ x = cc in ap (λ z. z ∷ ys) same
+drop-at (y ∷ ys) (suc i) x found =
+    let same : suc (i + 1) ≡ suc i + 1 = omega arith in
+    drop-at ys i x found ∙ ap (λ n. x ∷ drop n (y ∷ ys)) same
 
--- ---- dues
+-- the dues of a tap and of those behind it
+pub dues-from : (w : World) (tap : ℕ) → tap < length w.taps → drop tap (dues w) ≡ due_at w tap ∷ drop (tap + 1) (dues w)
+dues-from w tap there = drop-at (dues w) tap (due_at w tap) (due-get w tap there)
 
-due-front : (w : World) (ts : List Tap) (tap : ℕ) → tap < length ts
-    → map (due_in w) (drop tap ts) ≡ option_and_then (due_in w) (slice_get ts tap) ∷ map (due_in w) (drop (tap + 1) ts)
-due-front w [] tap within = absurd (omega (arith, within))
-due-front w (t ∷ ts) zero within = refl
-due-front w (t ∷ ts) (suc tap) within =
-    let same : suc (tap + 1) ≡ suc tap + 1 = omega arith in
-    due-front w ts tap (omega (arith, within)) ∙ ap (λ n. option_and_then (due_in w) (slice_get ts tap) ∷ map (due_in w) (drop n (t ∷ ts))) same
+-- Some taps have taken their turns: those that want one of the taps before a position. From it on the taps are due as they were.
+pub record HaveTurned (p : Plan Event) (now clock tap : ℕ) (old new : StageView) : Type 0 where
+  pub taps : List ℕ
+  pub happened : Happened now old (map Turn taps) new
+  pub left : taps ++ places tap (wanted p clock tap (drop tap (dues old.world))) ≡ places 0 (wanted p clock 0 (dues old.world))
+  pub others : (other : ℕ) → tap ≤ other → slice_get (dues new.world) other ≡ slice_get (dues old.world) other
 
--- one due more
-pub due-more : (w : World) (tap : ℕ) (before : List (Option ℕ)) (due : Option ℕ) → tap < length w.taps → due ≡ due_at w tap → before ++ map (due_in w) (drop tap w.taps) ≡ dues w
-    → (before ++ due ∷ []) ++ map (due_in w) (drop (tap + 1) w.taps) ≡ dues w
-due-more w tap before due within is so_far =
-    append_assoc before (due ∷ []) (map (due_in w) (drop (tap + 1) w.taps))
-    ∙ ap (λ o. before ++ (o ∷ map (due_in w) (drop (tap + 1) w.taps))) is ∙ ap (λ es. before ++ es) (sym (due-front w w.taps tap within)) ∙ so_far
+pub none-turned : (p : Plan Event) (now clock : ℕ) (v : StageView) → HaveTurned p now clock 0 v v
+none-turned p now clock v = record { taps = []; happened = happened-none now v; left = refl; others = λ other behind. refl }
+
+-- the tap at the position is due as it is found, before the others behind it
+turned-front : (p : Plan Event) (now clock tap : ℕ) (old new : StageView) → HaveTurned p now clock tap old new → tap < length new.world.taps
+    → drop tap (dues old.world) ≡ due_at new.world tap ∷ drop (tap + 1) (dues old.world)
+turned-front p now clock tap old new turned there =
+    drop-at (dues old.world) tap (due_at new.world tap) (sym (turned.others tap (omega arith)) ∙ due-get new.world tap there)
+
+abbrev turn_list : Bool → ℕ → List ℕ
+turn_list b tap = if b then tap ∷ [] else []
+
+-- what is left behind a tap
+abbrev left_behind : Plan Event → ℕ → ℕ → StageView → List ℕ
+left_behind p clock tap old = places (tap + 1) (wanted p clock (tap + 1) (drop (tap + 1) (dues old.world)))
+
+turned-left : (p : Plan Event) (now clock tap : ℕ) (old new : StageView) (b : Bool) (turned : HaveTurned p now clock tap old new) → tap < length new.world.taps → b ≡ wants p clock tap (due_at new.world tap)
+    → turned.taps ++ (turn_list b tap ++ left_behind p clock tap old) ≡ places 0 (wanted p clock 0 (dues old.world))
+turned-left p now clock tap old new b turned there is =
+    let rest = left_behind p clock tap old in
+    ap (λ (x : Bool). turned.taps ++ (turn_list x tap ++ rest)) is
+    ∙ ap (λ (ts : List ℕ). turned.taps ++ ts) (join (wants p clock tap (due_at new.world tap)) rest)
+    ∙ ap (λ (ds : List (Option ℕ)). turned.taps ++ places tap (wanted p clock tap ds)) (sym (turned-front p now clock tap old new turned there)) ∙ turned.left
+  where
+    join : (x : Bool) (rest : List ℕ) → turn_list x tap ++ rest ≡ (if x then tap ∷ rest else rest)
+    join true rest = refl
+    join false rest = refl
+
+turns-list : (b : Bool) (tap : ℕ) → map Turn (turn_list b tap) ≡ turn_if b tap
+turns-list true tap = refl
+turns-list false tap = refl
+
+-- a turn, or none, leaves when the other taps are due
+others-due : (now tap other : ℕ) (b : Bool) (w u : World) → tap + 1 ≤ other → all bus now (turn_if b tap) w ≡ Ok u → slice_get (dues u) other ≡ slice_get (dues w) other
+others-due now tap other false w u behind ok = let same : w ≡ u = cc in ap (λ (x : World). slice_get (dues x) other) (sym same)
+others-due now tap other true w u behind ok = by (step w (Turn tap)) refl ok
+  where
+    by : (o : Result (World × Reply) Fault) → step w (Turn tap) ≡ o → and_then now o (all bus now []) ≡ Ok u → slice_get (dues u) other ≡ slice_get (dues w) other
+    by (Err fault) is ok = absurd cc
+    by (Ok next) is ok =
+        let same : next.0 ≡ u = cc in
+        ap (λ (x : World). slice_get (dues x) other) (sym same) ∙ turns-leave-others w next.0 tap other next.1 (λ here. omega (arith, here, behind)) is
+
+-- one tap more has turned, if it wanted to
+pub turned-more : (p : Plan Event) (now clock tap : ℕ) (old mid new : StageView) → HaveTurned p now clock tap old mid → tap < length mid.world.taps
+    → Happened now mid (turn_if (wants p clock tap (due_at mid.world tap)) tap) new → HaveTurned p now clock (tap + 1) old new
+turned-more p now clock tap old mid new turned there one =
+    let b = wants p clock tap (due_at mid.world tap) in
+    let rest = left_behind p clock tap old in
+    record {
+      taps = turned.taps ++ turn_list b tap;
+      happened = subst (λ es. Happened now old es new) (sym (turns-append turned.taps (turn_list b tap) ∙ ap (λ es. map Turn turned.taps ++ es) (turns-list b tap)))
+          (happened-join now old mid new (map Turn turned.taps) (turn_if b tap) turned.happened one);
+      left = append_assoc turned.taps (turn_list b tap) rest ∙ turned-left p now clock tap old mid b turned there refl;
+      others = λ other behind. others-due now tap other b mid.world new.world behind one.world ∙ turned.others other (omega (arith, behind));
+    }
+
+-- all that want to have turned
+pub turned-all : (p : Plan Event) (now clock tap : ℕ) (old new : StageView) → HaveTurned p now clock tap old new → length old.world.taps ≤ tap
+    → Happened now old (turns bus p clock old.world) new
+turned-all p now clock tap old new turned past =
+    let none : drop tap (dues old.world) ≡ [] = drop_all tap (dues old.world) (omega (arith, past, length-map old.world.taps (due_in old.world))) in
+    let all_of : turned.taps ≡ places 0 (wanted p clock 0 (dues old.world)) =
+    sym (append-nil turned.taps) ∙ ap (λ (ds : List (Option ℕ)). turned.taps ++ places tap (wanted p clock tap ds)) (sym none) ∙ turned.left in
+    subst (λ (ts : List ℕ). Happened now old (map Turn ts) new) all_of turned.happened
+
+-- a turn that is refused stops the turns
+pub turned-stops : (p : Plan Event) (now clock tap : ℕ) (old mid : StageView) (fault : RunFault) → HaveTurned p now clock tap old mid → tap < length mid.world.taps
+    → Stops Err fault (all bus now (turn_if (wants p clock tap (due_at mid.world tap)) tap) mid.world) → Stops Err fault (all bus now (turns bus p clock old.world) old.world)
+turned-stops p now clock tap old mid fault turned there stops =
+    let b = wants p clock tap (due_at mid.world tap) in
+    let rest = left_behind p clock tap old in
+    let cut : map Turn (places 0 (wanted p clock 0 (dues old.world))) ≡ map Turn turned.taps ++ (turn_if b tap ++ map Turn rest) =
+    ap (map Turn) (sym (turned-left p now clock tap old mid b turned there refl)) ∙ turns-append turned.taps (turn_list b tap ++ rest)
+    ∙ ap (λ es. map Turn turned.taps ++ es) (turns-append (turn_list b tap) rest ∙ ap (λ es. es ++ map Turn rest) (turns-list b tap)) in
+    subst (λ es. Stops Err fault (all bus now es old.world)) (sym cut)
+    (stops-after now old mid (map Turn turned.taps) (turn_if b tap ++ map Turn rest) fault turned.happened (stops-front now mid.world (turn_if b tap) (map Turn rest) fault stops))
+
+-- ---- the next turn
+
+earlier-join : (a b c : Option ℕ) → earlier (earlier a b) c ≡ earlier a (earlier b c)
+earlier-join None b c = refl
+earlier-join (Some x) None c = refl
+earlier-join (Some x) (Some y) None = refl
+earlier-join (Some x) (Some y) (Some z) = let same : min (min x y) z ≡ min x (min y z) = omega arith in ap (λ n. Some n) same
+
+-- one tap more
+pub sooner-more : (p : Plan Event) (clock : ℕ) (w : World) (tap : ℕ) (first next all_of : Option ℕ) → tap < length w.taps → next ≡ earlier first (comes p clock tap (due_at w tap))
+    → earlier first (next_turn p clock tap (drop tap (dues w))) ≡ all_of → earlier next (next_turn p clock (tap + 1) (drop (tap + 1) (dues w))) ≡ all_of
+sooner-more p clock w tap first next all_of there is so_far =
+    let rest = next_turn p clock (tap + 1) (drop (tap + 1) (dues w)) in
+    ap (λ (o : Option ℕ). earlier o rest) is ∙ earlier-join first (comes p clock tap (due_at w tap)) rest
+    ∙ ap (λ (ds : List (Option ℕ)). earlier first (next_turn p clock tap ds)) (sym (dues-from w tap there)) ∙ so_far
+
+-- no tap is left
+pub sooner-all : (p : Plan Event) (clock : ℕ) (w : World) (tap : ℕ) (first all_of : Option ℕ) → length w.taps ≤ tap → earlier first (next_turn p clock tap (drop tap (dues w))) ≡ all_of → first ≡ all_of
+sooner-all p clock w tap first all_of past so_far =
+    let none : drop tap (dues w) ≡ [] = drop_all tap (dues w) (omega (arith, past, length-map w.taps (due_in w))) in
+    by first ∙ ap (λ (ds : List (Option ℕ)). earlier first (next_turn p clock tap ds)) (sym none) ∙ so_far
+  where
+    by : (o : Option ℕ) → o ≡ earlier o None
+    by None = refl
+    by (Some n) = refl

@@ -36,19 +36,27 @@ stops-too (At moment wf) f g x y so stops = by (model_fault wf) stops
     by None stops = stops
     by (Some r) stops = so (moment, r) stops
 
--- a refused event stops those that it begins
-pub refused-stops : (now : ℕ) (w : World) (e : Event) (es : List Event) (fault : WorldFault) → Refuses w e (step w e) fault → Stops Err (At now fault) (all bus now (e ∷ es) w)
-refused-stops now w e es fault refuses = by (step w e) refl refuses
+-- a fault of an event stops those that it begins
+pub refused-stops : (now : ℕ) (w : World) (e : Event) (es : List Event) (fault : WorldFault) → IfSome (model_fault fault) (λ f. step w e ≡ Err f) → Stops Err (At now fault) (all bus now (e ∷ es) w)
+refused-stops now w e es fault refused = by (model_fault fault) refused
   where
-    named : (o : Option Fault) (g : Fault) → o ≡ Some g → step w e ≡ Err g → IfSome o (λ r. all bus now (e ∷ es) w ≡ Err (now, r))
-    named None g none is = absurd cc
-    named (Some r) g some is = let same : r ≡ g = cc in ap (λ o. and_then now o (all bus now es)) is ∙ ap (λ x. Err (now, x)) (sym same)
+    by : (o : Option Fault) → IfSome o (λ f. step w e ≡ Err f) → IfSome o (λ r. all bus now (e ∷ es) w ≡ Err (now, r))
+    by None is = is
+    by (Some f) is = ap (λ o. and_then now o (all bus now es)) is
 
-    unnamed : (o : Option Fault) → o ≡ None → IfSome o (λ r. all bus now (e ∷ es) w ≡ Err (now, r))
+-- why an event is refused, memory apart
+pub refused-by : (w : World) (e : Event) (fault : WorldFault) → Refuses w e (step w e) fault → IfSome (model_fault fault) (λ f. step w e ≡ Err f)
+refused-by w e fault refuses = by (step w e) refl refuses
+  where
+    named : (o : Option Fault) (g : Fault) → o ≡ Some g → step w e ≡ Err g → IfSome o (λ f. step w e ≡ Err f)
+    named None g none is = absurd cc
+    named (Some r) g some is = let same : r ≡ g = cc in is ∙ ap (λ x. Err x) (sym same)
+
+    unnamed : (o : Option Fault) → o ≡ None → IfSome o (λ f. step w e ≡ Err f)
     unnamed None none = tt
     unnamed (Some r) none = absurd cc
 
-    by : (o : Result (World × Reply) Fault) → step w e ≡ o → Refuses w e o fault → Stops Err (At now fault) (all bus now (e ∷ es) w)
+    by : (o : Result (World × Reply) Fault) → step w e ≡ o → Refuses w e o fault → IfSome (model_fault fault) (λ f. step w e ≡ Err f)
     by (Err g) is why = named (model_fault fault) g (ap model_fault why ∙ model-world g) is
     by (Ok next) is why = unnamed (model_fault fault) (ap model_fault why.1)
 
@@ -134,7 +142,7 @@ rest-ending : (k : ℕ) (p : Plan Event) (before here : List Event) (t : Option 
 rest-ending k p before here None d = refl
 rest-ending k p before here (Some moment) d = front-front before here (run k bus p moment d)
 
-regroup : {E : Type 0} (xs a b c d : List E) → (((xs ++ a) ++ b) ++ c) ++ d ≡ xs ++ (a ++ (b ++ (c ++ d)))
+pub regroup : {E : Type 0} (xs a b c d : List E) → (((xs ++ a) ++ b) ++ c) ++ d ≡ xs ++ (a ++ (b ++ (c ++ d)))
 regroup xs a b c d = simp (append_assoc) refl
 
 -- an instant that is played is one of the run

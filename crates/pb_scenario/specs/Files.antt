@@ -25,6 +25,8 @@ use Rattle.pb_scenario.specs.declared.keys.Path.{Path}
 use Rattle.pb_scenario.specs.declared.keys.Path.TheVariants as path
 use Rattle.pb_scenario.specs.declared.faults.ScenarioFault.{ScenarioFault}
 use Rattle.pb_scenario.specs.declared.faults.ScenarioFault.TheVariants as fault
+use Rattle.pb_scenario.specs.declared.versions.Version.{Version}
+use Rattle.pb_scenario.specs.declared.versions.Version.TheVariants.{Undelayed, Delayed}
 use Rattle.pb_scenario.specs.declared.words.Word.{Word}
 use Rattle.pb_scenario.specs.declared.words.Word.TheVariants as word
 use Rattle.pb_scenario.specs.Keys.{key_name, top_keys, bus_keys, tap_keys, step_keys}
@@ -64,9 +66,14 @@ abbrev pub checked : Params → Option ParamFault → Result Params Fault
 checked p None = Ok p
 checked p (Some f) = Err (ParamsFault f)
 
-unfoldable pub params_in : Section → Members → Result Params Fault
-params_in at bus =
-    and_then (known bus_keys at bus) (λ _.
+-- how many bit times later telegrams are at the taps of others
+abbrev pub delay_in : Version → Section → Members → Result ℕ Fault
+delay_in Undelayed at bus = Ok 0
+delay_in Delayed at bus = word32 at key.Ttd bus
+
+unfoldable pub params_in : Version → Section → Members → Result Params Fault
+params_in version at bus =
+    and_then (known (bus_keys version) at bus) (λ _.
     and_then (word32 at key.Tsl bus) (λ tsl.
     and_then (word32 at key.Tid1 bus) (λ tid1.
     and_then (word32 at key.Tid2 bus) (λ tid2.
@@ -76,8 +83,9 @@ params_in at bus =
     and_then (word32 at key.Gap bus) (λ gap.
     and_then (word32 at key.Hsa bus) (λ hsa.
     and_then (word32 at key.Retries bus) (λ retries.
-    let p : Params = record { tsl = tsl; tid1 = tid1; tid2 = tid2; tsdr = tsdr; lag = lag; ttr = ttr; gap = gap; hsa = hsa; retries = retries; ttd = 0 } in
-    checked p (first_fault (param_faults p))))))))))))
+    and_then (delay_in version at bus) (λ ttd.
+    let p : Params = record { tsl = tsl; tid1 = tid1; tid2 = tid2; tsdr = tsdr; lag = lag; ttr = ttr; gap = gap; hsa = hsa; retries = retries; ttd = ttd } in
+    checked p (first_fault (param_faults p)))))))))))))
 
 -- ---- the taps
 
@@ -113,8 +121,12 @@ named [] specs = []
 named (name ∷ names) [] = []
 named (name ∷ names) (spec ∷ specs) = record { name = name; spec = spec } ∷ named names specs
 
-abbrev pub taps_in : Items → Result (List NamedTap) Fault
-taps_in items = if nat_lt 32 (count items) then Err TooMany else taps_from [] 0 items
+abbrev pub most_taps : Version → ℕ
+most_taps Undelayed = 32
+most_taps Delayed = 127
+
+abbrev pub taps_in : Version → Items → Result (List NamedTap) Fault
+taps_in version items = if nat_lt (most_taps version) (count items) then Err TooMany else taps_from [] 0 items
 
 -- ---- the steps
 
@@ -191,11 +203,12 @@ listed_steps names at k table = and_then (typed as_array at k table) (steps_in n
 
 -- ---- the file
 
-abbrev pub checked_version : ℤ → Result (Unit {0}) Fault
-checked_version z = if int_eq z (pos 1) then Ok tt else Err BadVersion
+-- the version of a number
+abbrev pub version_of : ℤ → Result Version Fault
+version_of z = if int_eq z (pos 1) then Ok Undelayed else if int_eq z (pos 2) then Ok Delayed else Err BadVersion
 
-abbrev pub version_in : Section → Members → Result (Unit {0}) Fault
-version_in at top = and_then (typed as_integer at key.Version top) checked_version
+abbrev pub version_in : Section → Members → Result Version Fault
+version_in at top = and_then (typed as_integer at key.Version top) version_of
 
 -- the scenario of some taps with the steps that the table of a file has
 unfoldable pub with_steps : Members → ℕ → Params → List NamedTap → Result ScenarioView Fault
@@ -207,13 +220,13 @@ with_steps top until params taps =
 -- what the table of a whole file describes
 unfoldable pub scenario_in : Members → Result ScenarioView Fault
 scenario_in top =
-    and_then (version_in Top top) (λ _.
+    and_then (version_in Top top) (λ version.
     and_then (known top_keys Top top) (λ _.
     and_then (number 1 until_limit Top key.Until top) (λ until.
     and_then (typed as_table Top key.Bus top) (λ bus.
-    and_then (params_in Bus bus) (λ params.
+    and_then (params_in version Bus bus) (λ params.
     and_then (typed as_array Top key.Tap top) (λ list.
-    and_then (taps_in list) (with_steps top until params)))))))
+    and_then (taps_in version list) (with_steps top until params)))))))
 
 -- the file is text in UTF-8, and as TOML it is this table
 pub record IsToml (file : List ℕ) (top : Members) : Type 0 where

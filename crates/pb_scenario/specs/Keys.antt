@@ -3,6 +3,8 @@ use Rattle.std.specs.Prelude.{ℕ, Bool, List, [], ◌∷◌, codes, bytes_eq, O
 use Rattle.std.specs.List.{list_any}
 use Rattle.pb_scenario.specs.declared.keys.Key.{Key}
 use Rattle.pb_scenario.specs.declared.keys.Key.TheVariants as key
+use Rattle.pb_scenario.specs.declared.versions.Version.{Version}
+use Rattle.pb_scenario.specs.declared.versions.Version.TheVariants.{Undelayed, Delayed}
 use Rattle.pb_scenario.specs.declared.words.Word.{Word}
 use Rattle.pb_scenario.specs.declared.words.Word.TheVariants as word
 
@@ -21,6 +23,7 @@ key_name key.Ttr = codes "ttr"
 key_name key.Gap = codes "gap"
 key_name key.Hsa = codes "hsa"
 key_name key.Retries = codes "retries"
+key_name key.Ttd = codes "ttd"
 key_name key.Name = codes "name"
 key_name key.Kind = codes "kind"
 key_name key.Address = codes "address"
@@ -42,8 +45,10 @@ is_named keys text = list_any (λ k. bytes_eq (key_name k) text) keys
 abbrev pub top_keys : List Key
 top_keys = key.Version ∷ key.Until ∷ key.Bus ∷ key.Tap ∷ key.Step ∷ []
 
-abbrev pub bus_keys : List Key
-bus_keys = key.Tsl ∷ key.Tid1 ∷ key.Tid2 ∷ key.Tsdr ∷ key.Lag ∷ key.Ttr ∷ key.Gap ∷ key.Hsa ∷ key.Retries ∷ []
+-- a version that has a cable delay has its key
+abbrev pub bus_keys : Version → List Key
+bus_keys Undelayed = key.Tsl ∷ key.Tid1 ∷ key.Tid2 ∷ key.Tsdr ∷ key.Lag ∷ key.Ttr ∷ key.Gap ∷ key.Hsa ∷ key.Retries ∷ []
+bus_keys Delayed = key.Tsl ∷ key.Tid1 ∷ key.Tid2 ∷ key.Tsdr ∷ key.Lag ∷ key.Ttr ∷ key.Gap ∷ key.Hsa ∷ key.Retries ∷ key.Ttd ∷ []
 
 abbrev pub tap_keys : List Key
 tap_keys = key.Name ∷ key.Kind ∷ key.Address ∷ key.Reply ∷ []

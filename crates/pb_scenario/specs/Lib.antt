@@ -6,7 +6,11 @@ pub mod Keys
 pub mod Words
 pub mod Said
 pub mod Faults
+pub mod Stages
+pub mod Watching
+pub mod Recording
 pub mod Plays
+pub mod Judged
 pub mod Fields
 pub mod Tables
 pub mod Files

@@ -1,17 +1,15 @@
 -- What comes of events and instants that are played.
-use Rattle.std.specs.Prelude.{◌≡◌, ℕ, suc, ◌<◌, ◌≤◌, List, ◌++◌, length, map, Option, Some, None, Result, Ok, Err, MatchResult, IfSome}
+use Rattle.std.specs.Prelude.{◌≡◌, ℕ, suc, ◌<◌, ◌≤◌, Bool, List, [], ◌∷◌, ◌++◌, length, Option, Some, None, Result, Ok, Err, MatchResult, IfSome, if◌then◌else◌}
 use Rattle.pb_model.specs.World as model
-use Rattle.pb_taps.specs.Events.{event_of}
 use Rattle.pb_runs.specs.Runs.{Plan, all, run, with_front}
 use Rattle.pb_runs.specs.Bus.{bus}
+use Rattle.pb_runs.specs.Scenarios as runs
+use Rattle.pb_runs.specs.Scenarios.{Scenario}
 use Rattle.pb_plan.specs.Walks.{WalkView, plan_in}
 use Rattle.pb_scenario.specs.declared.faults.RunFault.{RunFault}
 use Rattle.pb_scenario.specs.declared.faults.RunFault.TheVariants.{New, At}
-use Rattle.pb_scenario.specs.declared.plays.Play.{Play}
 use Rattle.pb_scenario.specs.Faults.{model_fault}
-
-abbrev pub events_in : Play → List model.Event
-events_in p = map event_of p.events.items
+use Rattle.pb_scenario.specs.Stages.{StageView, ComesOn}
 
 -- a fault of a moment is that of an outcome, or memory was refused
 abbrev pub Stops : {X : Type 0} → (ℕ × model.Fault → X) → RunFault → X → Type 0
@@ -20,14 +18,18 @@ Stops refused (At moment f) outcome = IfSome (model_fault f) (λ g. outcome ≡ 
 
 -- ---- events of a moment
 
--- they have happened, and stand behind the others
-pub record Happened (now : ℕ) (old : Play) (es : List model.Event) (new : Play) : Type 0 where
+-- they have happened, behind those by which the world had come
+pub record Happened (now : ℕ) (old : StageView) (es : List model.Event) (new : StageView) : Type 0 where
   pub world : all bus now es old.world ≡ Ok new.world
-  pub events : events_in new ≡ events_in old ++ es
+  pub comes : ComesOn old es new
 
 -- they happen, or the first that is refused says why
-abbrev pub Plays : ℕ → Play → List model.Event → Result (Unit {0}) RunFault → Play → Type 0
+abbrev pub Plays : ℕ → StageView → List model.Event → Result (Unit {0}) RunFault → StageView → Type 0
 Plays now old es result new = MatchResult result (λ _. Happened now old es new) (λ fault. Stops Err fault (all bus now es old.world))
+
+-- the turn of a tap, if it takes it
+abbrev pub turn_if : Bool → ℕ → List model.Event
+turn_if b tap = if b then model.Turn tap ∷ [] else []
 
 -- ---- instants
 
@@ -36,17 +38,25 @@ abbrev pub run_with : List model.Event → Plan model.Event → ℕ → Option �
 run_with events p left None w = Some (Ok (w, events))
 run_with events p left (Some moment) w = with_front events (run left bus p moment w)
 
--- the run of a walk, of which a part is played
-abbrev pub rest_of : WalkView → Play → ℕ → Option ℕ → Option (Result (model.World × List model.Event) (ℕ × model.Fault))
-rest_of walk play left moment = run_with (events_in play) (plan_in walk) left moment play.world
-
--- after an instant of a walk the run goes on at the next one, if there is one
-pub record GoesOn (walk : WalkView) (old : Play) (next : Option ℕ) (new : Play) : Type 0 where
-  pub rest : (left : ℕ) → rest_of walk old (suc left) (Some walk.clock) ≡ rest_of walk new left next
+-- the events of an instant of a walk have happened, and behind them the run goes on at the next instant, if there is one
+pub record GoesOn (walk : WalkView) (old : StageView) (next : Option ℕ) (new : StageView) : Type 0 where
+  pub events : List model.Event
+  pub comes : ComesOn old events new
+  pub rest : (before : List model.Event) (left : ℕ)
+      → run_with before (plan_in walk) (suc left) (Some walk.clock) old.world ≡ run_with (before ++ events) (plan_in walk) left next new.world
   pub later : IfSome next (λ moment. (walk.clock < moment) × (moment ≤ walk.until))
   pub taps : length new.world.taps ≡ length old.world.taps
 
+-- a fault ends the run of a walk in its instant, whatever came before
+abbrev pub EndsIn : WalkView → StageView → RunFault → Type 0
+EndsIn walk old fault = (before : List model.Event) (left : ℕ) → Stops (λ refused. Some (Err refused)) fault (run_with before (plan_in walk) (suc left) (Some walk.clock) old.world)
+
 -- an instant of a walk, or why the run ends in it
-abbrev pub Goes : WalkView → Play → Result (Option ℕ) RunFault → Play → Type 0
-Goes walk old result new = MatchResult result (λ next. GoesOn walk old next new)
-    (λ fault. (left : ℕ) → Stops (λ refused. Some (Err refused)) fault (rest_of walk old (suc left) (Some walk.clock)))
+abbrev pub Goes : WalkView → StageView → Result (Option ℕ) RunFault → StageView → Type 0
+Goes walk old result new = MatchResult result (λ next. GoesOn walk old next new) (EndsIn walk old)
+
+-- ---- the run
+
+-- a stage has come from a world by the events of a scenario's run
+abbrev pub IsPlayed : Scenario → model.World → StageView → Type 0
+IsPlayed s first v = (events : List model.Event) × (runs.events_of s ≡ Some (Ok events)) × v.comes first events

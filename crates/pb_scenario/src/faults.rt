@@ -5,13 +5,13 @@ use thiserror::Error;
 
 /// Why a scenario file is refused: the first fault that applies. The version comes first, then the table of the
 /// whole file with its unknown keys, the end, the bus, the taps and the steps; in each table first its unknown
-/// keys by their bytes, and then its keys in their order.
+/// keys by their bytes, and then its keys in their order; in that of a step first what it does.
 #[derive(Debug, PartialEq, Eq, Drop, Error)]
 pub enum ScenarioFault {
     /// 1: the file is no TOML.
     #[error("NotToml")]
     NotToml,
-    /// 2: the version is not 1.
+    /// 2: the version is neither 1 nor 2.
     #[error("BadVersion")]
     BadVersion,
     /// 3: a key is missing.
@@ -38,7 +38,7 @@ pub enum ScenarioFault {
     /// 10: the parameters of the bus are refused.
     #[error("Params {number}", number = .0.number())]
     Params(ParamFault),
-    /// 11: there are more than 32 taps, or more than 10,000 steps.
+    /// 11: there are more than 32 taps, or 127 in version 2, or more than 10,000 steps.
     #[error("TooMany")]
     TooMany,
     /// 12: memory was refused.

@@ -15,33 +15,20 @@ use crate::keys::{Key, Path, Section};
 use crate::scenarios::Scenario;
 use crate::steps::steps_in;
 use crate::taps::taps_in;
+use crate::versions::{Version, version_in};
 use indexmap::IndexSet;
 use pb_plan::Step;
 use pb_timers::BusParams;
 use std::alloc::Global;
 use toml::{Table, Value};
 
-/// The version of a file.
-const VERSION: i64 = 1;
-
 /// The last end that a scenario may have.
 const LAST_END: u64 = 10_000_000;
 
 const TOP_KEYS: [Key; 5] = [Key::Version, Key::Until, Key::Bus, Key::Tap, Key::Step];
 
-const BUS_KEYS: [Key; 9] = [
-    Key::Tsl,
-    Key::Tid1,
-    Key::Tid2,
-    Key::Tsdr,
-    Key::Lag,
-    Key::Ttr,
-    Key::Gap,
-    Key::Hsa,
-    Key::Retries,
-];
-
-/// The scenario that a file describes, in TOML.
+/// The scenario that a file describes, in TOML. In version 1 a bus delays nothing, and has 32 taps at most; in version 2 the
+/// file says the cable delay, in bit times, and there are 127 taps at most.
 ///
 /// Faults: the first that applies, in the order in which a file is looked at: `NotToml` where the file is no
 /// TOML in UTF-8, then that of its table; or `NoMemory`.
@@ -65,28 +52,17 @@ fn scenario_in(alloc: Global, table: &Table) -> Result<Scenario, ScenarioFault>
         section: Section::Top,
         table,
     };
-    check_version(top)?;
+    let version = version_in(top)?;
     top.known(alloc, &TOP_KEYS)?;
     let until = top.number(Key::Until, 1, LAST_END)?;
     let bus = Fields {
         section: Section::Bus,
         table: top.table(Key::Bus)?,
     };
-    let params = params_in(alloc, bus)?;
-    let taps = taps_in(alloc, top.list(Key::Tap)?)?;
+    let params = params_in(alloc, bus, version)?;
+    let taps = taps_in(alloc, top.list(Key::Tap)?, version)?;
     let steps = steps_at(alloc, top, &taps.names)?;
     Ok(Scenario::new(params, taps.specs, taps.names, steps, until))
-}
-
-/// Whether the file has the version that is read.
-fn check_version(top: Fields<'_>) -> Result<(), ScenarioFault>
-    ensures { Answers (λ x. x) result (files.version_in top.entry.section (members top.entry)) }
-{
-    if top.integer(Key::Version)? == VERSION {
-        Ok(())
-    } else {
-        Err(ScenarioFault::BadVersion)
-    }
 }
 
 /// The steps on taps with names; none where the key is missing.
@@ -109,10 +85,10 @@ fn steps_at(
 
 /// The parameters of the bus.
 #[tactic(auto, unfolding(crate::specs::Files::params_in), using(crate::proofs::Chains::then_ok, crate::proofs::Chains::then_tells, crate::proofs::Chains::then_tells_next))]
-fn params_in(alloc: Global, bus: Fields<'_>) -> Result<BusParams, ScenarioFault>
-    ensures { Answers (λ p. p) result (files.params_in bus.entry.section (members bus.entry)) }
+fn params_in(alloc: Global, bus: Fields<'_>, version: Version) -> Result<BusParams, ScenarioFault>
+    ensures { Answers (λ p. p) result (files.params_in version bus.entry.section (members bus.entry)) }
 {
-    bus.known(alloc, &BUS_KEYS)?;
+    bus.known(alloc, version.bus_keys())?;
     let made = BusParams::new(
         parameter(bus, Key::Tsl)?,
         parameter(bus, Key::Tid1)?,
@@ -123,11 +99,21 @@ fn params_in(alloc: Global, bus: Fields<'_>) -> Result<BusParams, ScenarioFault>
         parameter(bus, Key::Gap)?,
         parameter(bus, Key::Hsa)?,
         parameter(bus, Key::Retries)?,
-        0,
+        delay_in(bus, version)?,
     );
     match made {
         Ok(params) => Ok(params),
         Err(fault) => Err(ScenarioFault::Params(fault)),
+    }
+}
+
+/// The cable delay of the bus: none where the version has no key for it.
+fn delay_in(bus: Fields<'_>, version: Version) -> Result<u32, ScenarioFault>
+    ensures { Answers (λ n. n) result (files.delay_in version bus.entry.section (members bus.entry)) }
+{
+    match version {
+        Version::Undelayed => Ok(0),
+        Version::Delayed => parameter(bus, Key::Ttd),
     }
 }
 

@@ -1,4 +1,5 @@
-//! Scenarios: a bus with named taps, and what happens on it from outside. The text of a trace.
+//! Scenarios: a bus with named taps, and what happens on it from outside; its run on one thread, as a list of events
+//! or judged as they happen. The text of a trace.
 #![tactic(auto)]
 
 mod faults;
@@ -6,17 +7,20 @@ mod fields;
 mod files;
 mod keys;
 mod plays;
+mod recorded;
 mod runs;
 mod scenarios;
+mod stages;
 mod steps;
 mod taps;
 mod texts;
+mod versions;
 mod words;
 
 pub use faults::{RunFault, ScenarioFault};
 pub use files::read;
 pub use keys::{Key, Path, Section, UnknownKey};
-pub use runs::events_of;
+pub use runs::{audit_of, events_of};
 pub use scenarios::Scenario;
 pub use texts::trace_text;
 

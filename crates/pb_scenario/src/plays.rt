@@ -1,142 +1,189 @@
-ghost use Rattle.std.specs.Prelude.{◌≡◌, ◌≤◌, IfOk};
-ghost use Rattle.std.specs.Option.{option_map};
+ghost use Rattle.std.specs.Prelude.{◌≡◌, ◌≤◌, ◌<◌, ◌∷◌, [], Ok, IfErr, OnOk, length, map};
+ghost use Rattle.std.specs.Option.{option_map, option_to_list};
 ghost use Rattle.pb_timers.specs.Timers.{last_moment};
+ghost use Rattle.pb_model.specs.World.{new_world};
 ghost use Rattle.pb_taps.specs.Events.{event_of};
-ghost use Rattle.pb_runs.specs.Bus.{dues};
-ghost use Rattle.pb_plan.specs.Steps.{deed_of};
-ghost use Rattle.pb_scenario.specs.Said.{said_in};
+ghost use Rattle.pb_bus.specs.Worlds.{due_at};
+ghost use Rattle.pb_runs.specs.Runs.{next_turn, turns, wants};
+ghost use Rattle.pb_runs.specs.Bus.{bus, dues};
+ghost use Rattle.pb_plan.specs.Steps.{deed_of, steps_of};
+ghost use Rattle.pb_plan.specs.Walks.{passes, plan_in};
+ghost use Rattle.pb_scenario.specs.Faults.{EndsBy};
+ghost use Rattle.pb_scenario.specs.Said.{said_by, said_in};
+ghost use Rattle.pb_scenario.specs.Stages.{IsReady};
+ghost use Rattle.pb_scenario.specs.Plays.{Goes, IsPlayed, Plays, turn_if};
 
 use crate::faults::RunFault;
+use crate::scenarios::Scenario;
+use crate::stages::Stage;
 use pb_plan::{Deed, Step, Walk};
-use pb_taps::{Event, WorldFault};
+use pb_taps::{Event, NewFault};
 use pb_timers::Moment;
-use pb_world::World;
-use std::alloc::{AllocError, Global};
+use std::alloc::Global;
 
-/// A scenario that is played: the world there, and the events that it has taken.
-#[derive(Drop)]
-pub(crate) struct Play {
-    pub(crate) world: World,
-    pub(crate) events: Vec<Event>,
-}
-
-impl Play {
-    ghost use Rattle.std.specs.Prelude.{◌≡◌, ◌≤◌, ◌∷◌, [], length, map};
-    ghost use Rattle.std.specs.Option.{option_map, option_to_list};
-    ghost use Rattle.pb_timers.specs.Timers.{last_moment};
-    ghost use Rattle.pb_model.specs.World.{Turn};
-    ghost use Rattle.pb_taps.specs.Events.{event_of};
-    ghost use Rattle.pb_plan.specs.Steps.{deed_of, steps_of};
-    ghost use Rattle.pb_plan.specs.Walks.{passes};
-    ghost use Rattle.pb_scenario.specs.Said.{said_by, said_in};
-    ghost use Rattle.pb_scenario.specs.Plays.{Goes, Plays};
-
-    /// Nothing is played on a world yet.
-    pub(crate) fn new(alloc: Global, world: World) -> Play
-        ensures world { result.world ≡ world }
-        ensures events { result.events.items ≡ [] }
-    {
-        Play {
-            world,
-            events: Vec::new(alloc),
-        }
-    }
-
-    /// Plays the instant at which a walk through the scenario is, and answers the next one, if there is one.
-    pub(crate) fn instant(
-        &mut self,
-        alloc: Global,
-        walk: &Walk<'_>,
-    ) -> Result<Option<u64>, RunFault>
-        requires clock { walk.now.clock ≤ last_moment }
-        requires taps { length self.old.world.taps ≡ walk.now.taps }
-        ensures { Goes walk.now self.old result self.new }
-    {
-        let now = moment_of(walk);
-        self.steps(alloc, now, walk.today(), false)?;
-        let Ok(due) = dues(alloc, &self.world) else {
-            return Err(no_memory_at(now));
-        };
-        let Ok(turns) = walk.turns(alloc, &due) else {
-            return Err(no_memory_at(now));
-        };
-        self.turns(alloc, now, &turns)?;
-        self.steps(alloc, now, walk.today(), true)?;
-        let Ok(due_after) = dues(alloc, &self.world) else {
-            return Err(no_memory_at(now));
-        };
-        let next = walk.next(&due_after, self.world.next_change());
-        self.pass(alloc, now, walk.pass_to(next))?;
-        Ok(next)
-    }
-
-    /// What some steps of a moment say before the turns or after them happens.
-    fn steps(
-        &mut self,
-        alloc: Global,
-        now: Moment,
-        steps: &[Step],
-        late: bool,
-    ) -> Result<(), RunFault>
-        ensures { Plays now self.old (said_by late (steps_of steps.now)) result self.new }
-    {
-        for step in steps {
-            self.deed(alloc, now, &step.deed, late)?;
-        }
-        Ok(())
-    }
-
-    /// What a deed says then happens, if it says anything.
-    fn deed(&mut self, alloc: Global, now: Moment, deed: &Deed, late: bool) -> Result<(), RunFault>
-        ensures { Plays now self.old (option_to_list (said_in late (deed_of deed.now))) result self.new }
-    {
-        match said(deed, late) {
-            Some(event) => self.happens(alloc, now, event.copy()),
-            None => Ok(()),
-        }
-    }
-
-    /// Some taps take their turns.
-    fn turns(&mut self, alloc: Global, now: Moment, taps: &[usize]) -> Result<(), RunFault>
-        ensures { Plays now self.old (map Turn taps.now) result self.new }
-    {
-        for tap in taps {
-            self.happens(alloc, now, Event::Turn(*tap))?;
-        }
-        Ok(())
-    }
-
-    /// Time passes, in bit times, if it does.
-    fn pass(&mut self, alloc: Global, now: Moment, bits: Option<u64>) -> Result<(), RunFault>
-        ensures { Plays now self.old (passes bits) result self.new }
-    {
-        match bits {
-            Some(bits) => self.happens(alloc, now, Event::Pass(bits)),
-            None => Ok(()),
-        }
-    }
-
-    /// An event happens at a moment.
-    fn happens(&mut self, alloc: Global, now: Moment, event: Event) -> Result<(), RunFault>
-        ensures { Plays now self.old (event_of event ∷ []) result self.new }
-    {
-        let kept = event.copy();
-        self.world
-            .apply(alloc, event)
-            .map_err(|fault| RunFault::At(now, fault))?;
-        self.events.push(kept).map_err(|_| no_memory_at(now))
-    }
-}
-
-/// When each tap of a world is due. Its fault: memory was refused.
-fn dues(alloc: Global, world: &World) -> Result<Vec<Option<Moment>>, AllocError>
-    ensures { IfOk result (λ due. due.items ≡ dues world.entry.now) }
+/// Plays a scenario's run on a stage with its new world.
+///
+/// Faults: `New` for want of memory; `At` with the clock where an event is refused, also for want of memory.
+pub(crate) fn play<S: Stage>(
+    alloc: Global,
+    scenario: &Scenario,
+    stage: &mut S,
+) -> Result<(), RunFault>
+    requires new { new_world scenario.now.scenario.params scenario.now.scenario.taps
+        ≡ Ok (S.view stage.old).world }
+    requires begins { (S.view stage.old).comes (S.view stage.old).world [] }
+    ensures played { OnOk result
+        (IsPlayed scenario.now.scenario (S.view stage.old).world (S.view stage.new)) }
+    ensures fault { IfErr result (EndsBy scenario.now.scenario) }
 {
-    let mut due = Vec::with_capacity(alloc, world.taps())?;
-    for tap in 0..world.taps() {
-        due.push(world.due(tap))?;
+    let Ok(mut walk) = scenario.walk(alloc) else {
+        return Err(RunFault::New(NewFault::NoMemory));
+    };
+    while let Some(at) = play_instant(alloc, stage, &walk)? {
+        walk.go_to(at);
     }
-    Ok(due)
+    Ok(())
+}
+
+/// Plays the instant at which a walk through the scenario is, and answers the next one, if there is one.
+fn play_instant<S: Stage>(
+    alloc: Global,
+    stage: &mut S,
+    walk: &Walk<'_>,
+) -> Result<Option<u64>, RunFault>
+    requires clock { walk.now.clock ≤ last_moment }
+    requires taps { length (S.view stage.old).world.taps ≡ walk.now.taps }
+    requires ready { IsReady (S.view stage.old) }
+    ensures { Goes walk.now (S.view stage.old) result (S.view stage.new) }
+{
+    let now = moment_of(walk);
+    play_steps(alloc, stage, now, walk.today(), false)?;
+    play_turns(alloc, stage, now, walk)?;
+    play_steps(alloc, stage, now, walk.today(), true)?;
+    let next = walk.next_by(next_turn(stage, walk), stage.bus().next_change());
+    play_pass(alloc, stage, now, walk.pass_to(next))?;
+    Ok(next)
+}
+
+/// What some steps of a moment say before the turns or after them happens.
+fn play_steps<S: Stage>(
+    alloc: Global,
+    stage: &mut S,
+    now: Moment,
+    steps: &[Step],
+    late: bool,
+) -> Result<(), RunFault>
+    requires { IsReady (S.view stage.old) }
+    ensures { Plays now (S.view stage.old) (said_by late (steps_of steps.now)) result (S.view stage.new) }
+{
+    for step in steps {
+        play_deed(alloc, stage, now, &step.deed, late)?;
+    }
+    Ok(())
+}
+
+/// What a deed says then happens, if it says anything.
+fn play_deed<S: Stage>(
+    alloc: Global,
+    stage: &mut S,
+    now: Moment,
+    deed: &Deed,
+    late: bool,
+) -> Result<(), RunFault>
+    requires { IsReady (S.view stage.old) }
+    ensures { Plays now (S.view stage.old) (option_to_list (said_in late (deed_of deed.now))) result
+        (S.view stage.new) }
+{
+    match said(deed, late) {
+        Some(event) => happens(alloc, stage, now, event),
+        None => Ok(()),
+    }
+}
+
+/// The taps that are due and aren't withheld take their turns. A turn leaves when the other taps are due, so each is
+/// asked when the taps before it have had their turns.
+fn play_turns<S: Stage>(
+    alloc: Global,
+    stage: &mut S,
+    now: Moment,
+    walk: &Walk<'_>,
+) -> Result<(), RunFault>
+    requires taps { length (S.view stage.old).world.taps ≡ walk.now.taps }
+    requires ready { IsReady (S.view stage.old) }
+    ensures { Plays now (S.view stage.old)
+        (turns bus (plan_in walk.now) walk.now.clock (S.view stage.old).world) result (S.view stage.new) }
+{
+    for tap in 0..walk.taps() {
+        play_turn(alloc, stage, now, walk, tap)?;
+    }
+    Ok(())
+}
+
+/// A tap takes its turn, if it is due now and isn't withheld.
+fn play_turn<S: Stage>(
+    alloc: Global,
+    stage: &mut S,
+    now: Moment,
+    walk: &Walk<'_>,
+    tap: usize,
+) -> Result<(), RunFault>
+    requires tap { tap < walk.now.taps }
+    requires ready { IsReady (S.view stage.old) }
+    ensures { Plays now (S.view stage.old)
+        (turn_if (wants (plan_in walk.now) walk.now.clock tap (due_at (S.view stage.old).world tap)) tap)
+        result (S.view stage.new) }
+{
+    if walk.wants(tap, stage.bus().due(tap)) {
+        happens(alloc, stage, now, &Event::Turn(tap))
+    } else {
+        Ok(())
+    }
+}
+
+/// Time passes, in bit times, if it does.
+fn play_pass<S: Stage>(
+    alloc: Global,
+    stage: &mut S,
+    now: Moment,
+    bits: Option<u64>,
+) -> Result<(), RunFault>
+    requires { IsReady (S.view stage.old) }
+    ensures { Plays now (S.view stage.old) (passes bits) result (S.view stage.new) }
+{
+    match bits {
+        Some(bits) => happens(alloc, stage, now, &Event::Pass(bits)),
+        None => Ok(()),
+    }
+}
+
+/// An event happens at a moment.
+fn happens<S: Stage>(
+    alloc: Global,
+    stage: &mut S,
+    now: Moment,
+    event: &Event,
+) -> Result<(), RunFault>
+    requires { IsReady (S.view stage.old) }
+    ensures { Plays now (S.view stage.old) (event_of event.now ∷ []) result (S.view stage.new) }
+{
+    match stage.apply(alloc, event) {
+        Ok(()) => Ok(()),
+        Err(fault) => Err(RunFault::At(now, fault)),
+    }
+}
+
+/// The first moment after now at which a tap may take a turn next.
+fn next_turn<S: Stage>(stage: &S, walk: &Walk<'_>) -> Option<u64>
+    requires taps { length (S.view stage.now).world.taps ≡ walk.now.taps }
+    requires ready { IsReady (S.view stage.now) }
+    ensures { result
+        ≡ next_turn (plan_in walk.now) walk.now.clock 0 (dues (S.view stage.entry.now).world) }
+{
+    let mut first = None;
+    for tap in 0..walk.taps() {
+        first = walk.sooner(first, tap, stage.bus().due(tap));
+    }
+    first
 }
 
 /// What a deed says before the turns or after them.
@@ -156,11 +203,4 @@ fn moment_of(walk: &Walk<'_>) -> Moment
     ensures { result ≡ walk.now.clock }
 {
     Moment::new(walk.now()).unwrap()
-}
-
-/// That memory was refused at a moment.
-fn no_memory_at(now: Moment) -> RunFault
-    ensures { result ≡ RunFault.At now WorldFault.NoMemory }
-{
-    RunFault::At(now, WorldFault::NoMemory)
 }

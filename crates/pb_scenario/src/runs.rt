@@ -2,12 +2,15 @@ ghost use Rattle.std.specs.Prelude.{◌≡◌, Some, Ok, IfOk, IfErr, map};
 ghost use Rattle.pb_taps.specs.Events.{event_of};
 ghost use Rattle.pb_runs.specs.Scenarios as runs;
 ghost use Rattle.pb_scenario.specs.Faults.{EndsBy};
+ghost use Rattle.pb_scenario.specs.Judged.{FindsInRun};
 
 use crate::faults::RunFault;
-use crate::plays::Play;
+use crate::plays::play;
+use crate::recorded::Recorded;
 use crate::scenarios::Scenario;
-use pb_taps::{Event, NewFault};
-use pb_world::World;
+use pb_audit::{Audit, new_watched};
+use pb_bus::new_bus;
+use pb_taps::Event;
 use std::alloc::Global;
 
 /// The events of the run of a scenario on one thread: at each instant, those of its steps, the turns of the
@@ -21,16 +24,26 @@ pub fn events_of(alloc: Global, scenario: &Scenario) -> Result<Vec<Event>, RunFa
         (λ events. runs.events_of scenario.now.scenario ≡ Some (Ok (map event_of events.items))) }
     ensures fault { IfErr result (EndsBy scenario.now.scenario) }
 {
-    let world = match World::new(alloc, *scenario.params(), scenario.taps()) {
-        Ok(world) => world,
+    let bus = match new_bus(alloc, *scenario.params(), scenario.taps()) {
+        Ok(bus) => bus,
         Err(fault) => return Err(RunFault::New(fault)),
     };
-    let Ok(mut walk) = scenario.walk(alloc) else {
-        return Err(RunFault::New(NewFault::NoMemory));
+    let mut recorded = Recorded::new(alloc, bus);
+    play(alloc, scenario, &mut recorded)?;
+    Ok(recorded.events)
+}
+
+/// What an audit of the events of a scenario's run on one thread finds: each is judged as it happens, and none is kept.
+///
+/// Faults: those of [`events_of`]. An audit of events that a run has taken has none.
+pub fn audit_of(alloc: Global, scenario: &Scenario) -> Result<Audit, RunFault>
+    ensures ok { IfOk result (FindsInRun scenario.now.scenario) }
+    ensures fault { IfErr result (EndsBy scenario.now.scenario) }
+{
+    let mut watched = match new_watched(alloc, *scenario.params(), scenario.taps()) {
+        Ok(watched) => watched,
+        Err(fault) => return Err(RunFault::New(fault)),
     };
-    let mut play = Play::new(alloc, world);
-    while let Some(at) = play.instant(alloc, &walk)? {
-        walk.go_to(at);
-    }
-    Ok(play.events)
+    play(alloc, scenario, &mut watched)?;
+    Ok(watched.judge())
 }

@@ -14,15 +14,13 @@ use crate::faults::ScenarioFault;
 use crate::fields::Fields;
 use crate::files::item;
 use crate::keys::{Key, Section};
+use crate::versions::Version;
 use crate::words::kind_of;
 use arrayvec::ArrayVec;
 use indexmap::IndexSet;
 use pb_taps::{Kind, TapSpec};
 use std::alloc::{AllocError, Global};
 use toml::Value;
-
-/// How many taps a bus may have.
-const MOST_TAPS: usize = 32;
 
 const TAP_KEYS: [Key; 4] = [Key::Name, Key::Kind, Key::Address, Key::Reply];
 
@@ -33,13 +31,17 @@ pub(crate) struct Taps {
     pub(crate) names: IndexSet<String>,
 }
 
-/// The taps that a list describes.
+/// The taps that a list describes in a file of a version.
 #[tactic(auto, unfolding(crate::specs::Files::taps_from))]
-pub(crate) fn taps_in(alloc: Global, items: &[Value]) -> Result<Taps, ScenarioFault>
-    ensures taps { Answers taps_of result (files.taps_in (items_view items.now)) }
+pub(crate) fn taps_in(
+    alloc: Global,
+    items: &[Value],
+    version: Version,
+) -> Result<Taps, ScenarioFault>
+    ensures taps { Answers taps_of result (files.taps_in version (items_view items.now)) }
     ensures named { IfOk result (λ taps. length taps.names.keys ≡ length taps.specs.items) }
 {
-    if items.len() > MOST_TAPS {
+    if items.len() > version.most_taps() {
         return Err(ScenarioFault::TooMany);
     }
     let mut taps = Taps {

@@ -1,12 +1,12 @@
 use crate::keys::{Key, Path, Section};
 use crate::words::{Word, is_name, kind_of, service_of, word_of};
-use crate::{RunFault, ScenarioFault, events_of, read, trace_text};
+use crate::{RunFault, ScenarioFault, audit_of, events_of, read, trace_text};
 use pb_cycles::Service;
 use pb_medium::Entry;
 use pb_plan::Deed;
 use pb_taps::{Event, Kind, NewFault, WorldFault};
 use pb_timers::{Moment, ParamFault};
-use pb_world::{World, run};
+use pb_world::{Audit, World, audit, run};
 use std::alloc::{AllocError, AllocGlobal, Global};
 use std::process::Abort;
 
@@ -53,11 +53,8 @@ fn paths_name_table_and_key(rt: HostRuntime) {
     assert!(rt; spelled(Path::Item(Section::Tap(0))).as_str() == "tap[0]");
 }
 
-/// A file of two taps; what stands before the bus, the second tap and the steps are given.
-fn file(alloc: Global, top: &str, second: &str, steps: &str) -> Result<String, AllocError> {
-    format!(in alloc;
-        "{top}
-[bus]
+/// A bus that delays nothing.
+const BUS: &str = "[bus]
 tsl = 100
 tid1 = 37
 tid2 = 60
@@ -66,7 +63,13 @@ lag = 0
 ttr = 10000
 gap = 10
 hsa = 5
-retries = 1
+retries = 1";
+
+/// A file of two taps; what stands before the bus, the second tap and the steps are given.
+fn file(alloc: Global, top: &str, second: &str, steps: &str) -> Result<String, AllocError> {
+    format!(in alloc;
+        "{top}
+{BUS}
 [[tap]]
 name = \"a\"
 kind = \"master\"
@@ -270,6 +273,88 @@ fn plays_with_a_cable_delay(rt: HostRuntime) {
     assert!(rt; shown.as_slice() == expected.as_bytes());
 }
 
+/// The text of the fault of a file with a version and a line at the end of its bus, or the cable delay that was read.
+fn delay_in(rt: &(impl AllocGlobal + Abort), version: u8, line: &str) -> String {
+    let alloc = rt.alloc();
+    let text = format!(in alloc;
+        "version = {version}\nuntil = 9\n{BUS}\n{line}\n[[tap]]\n{SECOND}"
+    ).expect(rt, "memory");
+    let shown = match read(alloc, text.as_bytes()) {
+        Ok(scenario) => format!(in alloc; "{}", scenario.params().ttd()),
+        Err(fault) => format!(in alloc; "{} {fault}", fault.number()),
+    };
+    shown.expect(rt, "memory")
+}
+
+/// A file of version 2 has a cable delay, and one of version 1 none.
+#[test]
+fn version_2_has_a_cable_delay(rt: HostRuntime) {
+    let delay = |version: u8, line: &str| delay_in(&rt, version, line);
+    assert_eq!(rt; delay(1, "").as_str(), "0");
+    assert_eq!(rt; delay(2, "ttd = 0").as_str(), "0");
+    assert_eq!(rt; delay(2, "ttd = 19").as_str(), "19");
+    assert_eq!(rt; delay(2, "ttd = 20").as_str(), "10 Params 9");
+    assert_eq!(rt; delay(2, "").as_str(), "3 Missing bus.ttd");
+    assert_eq!(rt; delay(1, "ttd = 0").as_str(), "6 Unknown bus.ttd");
+    assert_eq!(rt; delay(2, "ttd = true").as_str(), "4 BadKind bus.ttd");
+    assert_eq!(rt; delay(2, "ttd = 4294967296").as_str(), "5 BadValue bus.ttd");
+    assert_eq!(rt; delay(2, "ttd = -1").as_str(), "5 BadValue bus.ttd");
+    assert_eq!(rt; delay(3, "ttd = 0").as_str(), "2 BadVersion");
+}
+
+/// How many taps are read of a file with so many, or the number of the fault.
+fn taps_in(
+    rt: &(impl AllocGlobal + Abort),
+    version: u8,
+    line: &str,
+    taps: usize,
+) -> Result<usize, u8> {
+    let alloc = rt.alloc();
+    let mut text = format!(in alloc; "version = {version}\nuntil = 9\n{BUS}\n{line}\n").expect(
+        rt, "memory",
+    );
+    for tap in 0..taps {
+        write!(
+            text,
+            "[[tap]]\nname = \"t{tap}\"\nkind = \"passive\"\naddress = 9\n"
+        )
+        .expect(rt, "memory");
+    }
+    match read(alloc, text.as_bytes()) {
+        Ok(scenario) => Ok(scenario.taps().len()),
+        Err(fault) => Err(fault.number()),
+    }
+}
+
+/// A whole segment fits into a file of version 2, and 32 taps into one of version 1.
+#[test]
+fn a_segment_has_127_taps(rt: HostRuntime) {
+    assert_eq!(rt; taps_in(&rt, 1, "", 32), Ok(32));
+    assert_eq!(rt; taps_in(&rt, 1, "", 33), Err(11));
+    assert_eq!(rt; taps_in(&rt, 2, "ttd = 0", 127), Ok(127));
+    assert_eq!(rt; taps_in(&rt, 2, "ttd = 0", 128), Err(11));
+}
+
+/// Two masters wait out their time-outs at one clock, since one starts later by what makes them differ.
+#[test]
+fn an_audit_follows_the_run(rt: HostRuntime) {
+    let alloc = rt.alloc();
+    let second = "name = \"b\"\nkind = \"master\"\naddress = 2";
+    let steps =
+        "[[step]]\nat = 0\ndo = \"start\"\ntap = \"b\"\n[[step]]\nat = 200\ndo = \"start\"\ntap = \"a\"";
+    let text = file(alloc, "version = 1\nuntil = 1100", second, steps).expect(&rt, "memory");
+    let scenario = read(alloc, text.as_bytes()).expect(&rt, "a scenario");
+    let found = audit_of(alloc, &scenario).expect(&rt, "a run");
+    let expected = Audit {
+        premise: Some((4, Moment::new(1000).expect(&rt, "a moment"))),
+        illegal: Some(1),
+    };
+    assert_eq!(rt; found, expected);
+    let events = events_of(alloc, &scenario).expect(&rt, "a run");
+    let listed = audit(alloc, *scenario.params(), scenario.taps(), &events).expect(&rt, "an audit");
+    assert_eq!(rt; found, listed);
+}
+
 /// A run ends where a step is refused, and where there is no new world.
 #[test]
 fn a_run_ends_by_a_fault(rt: HostRuntime) {
@@ -326,6 +411,30 @@ fn refused_memory_in_a_run(rt: HostRuntime) {
     };
     match events_of(rt.alloc(), &scenario) {
         Ok(events) => assert_eq!(rt; events.len(), 9),
+        Err(RunFault::New(fault)) => {
+            assert_eq!(rt; fault, NewFault::NoMemory);
+            let _ = println!(rt; "refused");
+        }
+        Err(RunFault::At(_, fault)) => {
+            assert_eq!(rt; fault, WorldFault::NoMemory);
+            let _ = println!(rt; "refused");
+        }
+    }
+}
+
+/// Run with one allocation refused: a run is judged, or memory was refused, of the new world or at a moment.
+#[test]
+fn refused_memory_in_an_audit(rt: HostRuntime) {
+    let Ok(text) = file(rt.alloc(), "version = 1\nuntil = 900", SECOND, START) else {
+        let _ = println!(rt; "refused");
+        return;
+    };
+    let Ok(scenario) = read(rt.alloc(), text.as_bytes()) else {
+        let _ = println!(rt; "refused");
+        return;
+    };
+    match audit_of(rt.alloc(), &scenario) {
+        Ok(found) => assert!(rt; found.premise.is_none() && found.illegal.is_none()),
         Err(RunFault::New(fault)) => {
             assert_eq!(rt; fault, NewFault::NoMemory);
             let _ = println!(rt; "refused");

@@ -7,7 +7,7 @@ ghost use Rattle.pb_scenario.specs.Texts.{entries_text, letter_of, span_text};
 use crate::scenarios::Scenario;
 use arrayvec::ArrayVec;
 use itoa::{Buffer, Integer};
-use pb_medium::{Entry, Heard, Record};
+use pb_medium::{Entry, Heard, Reception, Record};
 use std::alloc::{AllocError, Global};
 
 /// The most octets that a telegram has.
@@ -95,11 +95,11 @@ fn push_octets(text: &mut Vec<u8>, octets: &ArrayVec<u8, 255>) -> Result<(), All
 }
 
 /// Appends a letter for each tap.
-fn push_letters(text: &mut Vec<u8>, heard: &[Heard]) -> Result<(), AllocError>
-    ensures { OnOk result (text.new.items ≡ text.old.items ++ map letter_of (map heard_of heard.now)) }
+fn push_letters(text: &mut Vec<u8>, heard: &Reception) -> Result<(), AllocError>
+    ensures { OnOk result (text.new.items ≡ text.old.items ++ map letter_of heard.now) }
 {
-    for way in heard {
-        text.push(letter(*way))?;
+    for tap in 0..heard.len() {
+        text.push(letter(heard.at(tap)))?;
     }
     Ok(())
 }

@@ -3,3 +3,4 @@ pub mod Showing
 pub mod Standing
 pub mod Replaying
 pub mod Agreeing
+mod Placed

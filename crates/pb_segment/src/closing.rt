@@ -1,9 +1,10 @@
 ghost use Rattle.std.specs.Prelude.{◌≡◌, ◌+◌, ◌<◌, ◌↔◌, ℕ, All, IsTrue, length, map, slice_index, sum};
+ghost use Rattle.pb_segment.specs.Blocks.{happened_in};
 ghost use Rattle.pb_segment.specs.Histories.{StandsFrom, is_of, is_turn_of, told};
 ghost use Rattle.pb_segment.specs.Seats.{Agrees, accepted};
 
+use crate::blocks::Blocks;
 use crate::faults::CloseFault;
-use crate::histories::Happened;
 use crate::locked::Locked;
 use crate::origins::Origin;
 use crate::outlooks::Outlook;
@@ -63,9 +64,9 @@ impl<L: Ledger> Locked<L> {
 }
 
 /// Whether receipts are those of an owner's events in a history, of which there are so many.
-fn agree(history: &Vec<Happened>, owner: Owner, count: usize, receipts: &Vec<Receipt>) -> bool
-    requires { count ≡ length (told (is_of owner) history.now.items) }
-    ensures { IsTrue result ↔ (told (is_of owner) history.now.items ≡ receipts.now.items) }
+fn agree(history: &Blocks, owner: Owner, count: usize, receipts: &Vec<Receipt>) -> bool
+    requires { count ≡ length (told (is_of owner) (happened_in history.now)) }
+    ensures { IsTrue result ↔ (told (is_of owner) (happened_in history.now) ≡ receipts.now.items) }
 {
     if receipts.len() != count {
         return false;
@@ -83,8 +84,8 @@ fn agree(history: &Vec<Happened>, owner: Owner, count: usize, receipts: &Vec<Rec
 }
 
 /// Whether a receipt is of an event of an owner, at a place or a later one.
-fn stands(history: &Vec<Happened>, owner: Owner, from: usize, receipt: &Receipt) -> bool
-    ensures { IsTrue result ↔ StandsFrom (is_of owner) history.now.items from receipt.now }
+fn stands(history: &Blocks, owner: Owner, from: usize, receipt: &Receipt) -> bool
+    ensures { IsTrue result ↔ StandsFrom (is_of owner) (happened_in history.now) from receipt.now }
 {
     let Some(happened) = history.get(receipt.place) else {
         return false;
@@ -95,15 +96,11 @@ fn stands(history: &Vec<Happened>, owner: Owner, from: usize, receipt: &Receipt)
 }
 
 /// Whether the receipts of each seat of a tap are those of the tap's turns, of which the counts are given.
-fn all_agree<L: Ledger>(
-    history: &Vec<Happened>,
-    turns: &Vec<usize>,
-    seats: &Vec<TapSeat<L>>,
-) -> bool
+fn all_agree<L: Ledger>(history: &Blocks, turns: &Vec<usize>, seats: &Vec<TapSeat<L>>) -> bool
     requires parts { L.parts ≡ length turns.now.items + 1 }
     requires counts { (tap : ℕ) → tap < length turns.now.items
-        → slice_index turns.now.items tap ≡ length (told (is_turn_of tap) history.now.items) }
-    ensures { IsTrue result ↔ All (Agrees history.now.items) seats.now.items }
+        → slice_index turns.now.items tap ≡ length (told (is_turn_of tap) (happened_in history.now)) }
+    ensures { IsTrue result ↔ All (Agrees (happened_in history.now)) seats.now.items }
 {
     for place in 0..seats.len() {
         if !seat_agrees(history, turns, &seats[place]) {
@@ -113,11 +110,11 @@ fn all_agree<L: Ledger>(
     true
 }
 
-fn seat_agrees<L: Ledger>(history: &Vec<Happened>, turns: &Vec<usize>, seat: &TapSeat<L>) -> bool
+fn seat_agrees<L: Ledger>(history: &Blocks, turns: &Vec<usize>, seat: &TapSeat<L>) -> bool
     requires parts { L.parts ≡ length turns.now.items + 1 }
     requires counts { (tap : ℕ) → tap < length turns.now.items
-        → slice_index turns.now.items tap ≡ length (told (is_turn_of tap) history.now.items) }
-    ensures { IsTrue result ↔ Agrees history.now.items seat.now }
+        → slice_index turns.now.items tap ≡ length (told (is_turn_of tap) (happened_in history.now)) }
+    ensures { IsTrue result ↔ Agrees (happened_in history.now) seat.now }
 {
     agree(
         history,

@@ -1,5 +1,6 @@
 ghost use Rattle.std.specs.Prelude.{◌≡◌};
 
+use crate::blocks::Blocks;
 use pb_world::{Event, Reply};
 use std::marker::Model;
 
@@ -22,25 +23,27 @@ impl Model for Happened {
 /// The events that a segment has accepted, each with its reply, in order.
 #[derive(Debug, Drop)]
 pub struct History {
-    happened: Vec<Happened>,
+    happened: Blocks,
 }
 
 impl Model for History {
     ghost use Rattle.std.specs.Prelude.{List};
+    ghost use Rattle.pb_segment.specs.Blocks.{happened_in};
     ghost use Rattle.pb_segment.specs.Histories as specs;
 
     ghost Value = { List specs.Happened };
 
-    ghost view = { λ h. h.happened.items };
+    ghost view = { λ h. happened_in h.happened };
 }
 
 impl History {
     ghost use Rattle.std.specs.Prelude.{◌≡◌, None, Some, MatchOption, length, slice_get};
     ghost use Rattle.pb_taps.specs.Events.{event_of, reply_of};
+    ghost use Rattle.pb_segment.specs.Blocks.{happened_in};
 
     /// The history of some events.
-    pub(crate) fn of(happened: Vec<Happened>) -> History
-        ensures { result ≡ happened.items }
+    pub(crate) fn of(happened: Blocks) -> History
+        ensures { result ≡ happened_in happened }
     {
         History { happened }
     }

@@ -3,6 +3,7 @@
 //! keep what they were told; at the end all of it is compared.
 #![tactic(auto)]
 
+mod blocks;
 mod closing;
 mod deeds;
 mod faults;

@@ -2,6 +2,7 @@ ghost use Rattle.std.specs.Prelude.{◌≡◌, ◌+◌, ◌<◌, ℕ, length, sl
 ghost use Rattle.pb_taps.specs.Events.{event_of};
 ghost use Rattle.pb_segment.specs.Counts.{counted, counted_drives};
 
+use crate::blocks::Blocks;
 use crate::deeds::{Deed, carry_out, event_in, speaks};
 use crate::faults::{CommitFault, GlanceFault};
 use crate::histories::Happened;
@@ -22,7 +23,7 @@ pub(crate) struct Locked<L: Ledger> {
     /// Of what the new one was made.
     pub(crate) origin: Origin,
     /// The events that were accepted, in order.
-    pub(crate) history: Vec<Happened>,
+    pub(crate) history: Blocks,
     /// How many turns of each tap were accepted.
     pub(crate) turns: Vec<usize>,
     /// How many other events were.
@@ -35,14 +36,17 @@ pub(crate) struct Locked<L: Ledger> {
 
 impl<L: Ledger> Model for Locked<L> {
     ghost use Rattle.std.specs.Prelude.{◌≡◌, ◌+◌, length};
+    ghost use Rattle.pb_segment.specs.Blocks.{happened_in};
     ghost use Rattle.pb_segment.specs.Locked.{LockedView, IsKept, view_of};
 
     ghost Value = { LockedView };
 
-    ghost view = { λ l. view_of l.world l.origin l.history.items l.turns.items l.drives l.outlooks.items l.limit };
+    ghost view = { λ l. view_of l.world l.origin (happened_in l.history) l.turns.items l.drives
+        l.outlooks.items l.limit };
 
-    ghost invariant = { λ l. IsKept (view_of l.world l.origin l.history.items l.turns.items l.drives l.outlooks.items l.limit)
-        × (l.book.total ≡ length l.history.items) × (L.parts ≡ length l.turns.items + 1) };
+    ghost invariant = { λ l. IsKept (view_of l.world l.origin (happened_in l.history) l.turns.items l.drives
+        l.outlooks.items l.limit)
+        × (l.book.total ≡ length (happened_in l.history)) × (L.parts ≡ length l.turns.items + 1) };
 }
 
 impl<L: Ledger> Locked<L> {
@@ -156,8 +160,8 @@ impl<L: Ledger> Locked<L> {
         seat.outlooks.reserve(1)?;
         let place = self.history.len();
         let shown = Outlook::of(alloc, &self.world, self.turns.len(), place)?;
-        let kept = shown.copy(alloc)?;
-        let seen = shown.copy(alloc)?;
+        let kept = shown.copy()?;
+        let seen = shown.copy()?;
         self.outlooks.push_reserved(kept);
         seat.outlooks.push_reserved(seen);
         Ok(shown)
@@ -190,7 +194,7 @@ impl<L: Ledger> Locked<L> {
         if self.history.len() >= self.limit {
             return Err(CommitFault::HistoryFull);
         }
-        self.history.reserve(1)?;
+        self.history.reserve(alloc)?;
         receipts.reserve(1)?;
         let reply = carry_out(&mut self.world, alloc, deed)?;
         let receipt = Receipt {

@@ -1,6 +1,7 @@
 ghost use Rattle.std.specs.Prelude.{◌≡◌, ◌+◌, ◌<◌, ◌≤◌, [], ℕ, IfOk, OnOk, Some, length, replicate, slice_get};
 ghost use Rattle.pb_segment.specs.Origins.{IsNew, origin_of};
 
+use crate::blocks::Blocks;
 use crate::locked::Locked;
 use crate::origins::Origin;
 use crate::seats::{ConductorSeat, TapSeat};
@@ -67,7 +68,7 @@ impl<L: Ledger> SharedSegment<L> {
         let locked = Locked {
             origin: Origin::of(alloc, &world)?,
             world,
-            history: Vec::new(alloc),
+            history: Blocks::new(alloc),
             turns: no_turns(alloc, taps)?,
             drives: 0,
             outlooks: Vec::new(alloc),

@@ -6,6 +6,7 @@ use pb_timers::Moment;
 use pb_world::World;
 use std::alloc::{AllocError, Global};
 use std::marker::Model;
+use std::sync::Arc;
 
 /// What the conductor is shown of the world after the first `place` events of the history.
 #[derive(Debug, Drop)]
@@ -40,14 +41,14 @@ impl Outlook {
         })
     }
 
-    /// An equal outlook. Its fault: memory was refused.
-    pub(crate) fn copy(&self, alloc: Global) -> Result<Outlook, AllocError>
+    /// An equal outlook, which shares the moments. Its fault: they are shared too often.
+    pub(crate) fn copy(&self) -> Result<Outlook, AllocError>
         ensures { IfOk result (λ o. o ≡ self.entry.now) }
     {
         Ok(Outlook {
             place: self.place,
             now: self.now,
-            due: self.due.copy(alloc)?,
+            due: self.due.copy()?,
             next_change: self.next_change,
         })
     }
@@ -66,15 +67,16 @@ impl Outlook {
 /// When each tap is due, in the order of the taps: None for one that doesn't run, or waits for nothing.
 #[derive(Debug, Drop)]
 pub struct Dues {
-    moments: Vec<Option<Moment>>,
+    moments: Arc<Vec<Option<Moment>>, Global>,
 }
 
 impl Model for Dues {
+    ghost use Rattle.std.specs.Arc.{arc_value};
     ghost use Rattle.std.specs.Prelude.{List, Option, ℕ};
 
     ghost Value = { List (Option ℕ) };
 
-    ghost view = { λ d. d.moments.items };
+    ghost view = { λ d. (arc_value d.moments).items };
 }
 
 impl Dues {
@@ -87,11 +89,12 @@ impl Dues {
         &self.moments
     }
 
-    fn copy(&self, alloc: Global) -> Result<Dues, AllocError>
+    /// The same moments, which are shared.
+    fn copy(&self) -> Result<Dues, AllocError>
         ensures { IfOk result (λ d. d ≡ self.now) }
     {
         Ok(Dues {
-            moments: self.moments.to_vec(alloc)?,
+            moments: Arc::try_clone(&self.moments)?,
         })
     }
 
@@ -126,5 +129,7 @@ fn due_moments(alloc: Global, world: &World, taps: usize) -> Result<Dues, AllocE
     for tap in 0..taps {
         moments.push(world.due(tap))?;
     }
-    Ok(Dues { moments })
+    Ok(Dues {
+        moments: Arc::new(alloc, moments)?,
+    })
 }

@@ -2,7 +2,8 @@ ghost use Rattle.std.specs.Prelude.{◌≡◌, ◌+◌, ◌<◌, ◌≤◌, leng
 ghost use Rattle.pb_segment.specs.Origins.{IsNew};
 
 use crate::{
-    CloseFault, CommitFault, ConductorSeat, GlanceFault, Outlook, Receipt, SharedSegment, TapSeat,
+    CloseFault, CommitFault, ConductorSeat, GlanceFault, History, Outlook, Receipt, SharedSegment,
+    TapSeat,
 };
 use arrayvec::ArrayVec;
 use pb_station::decide;
@@ -57,6 +58,7 @@ fn two_decisions<L: Ledger, R: AllocGlobal + Abort + Wait>(rt: &R, blank: Blank,
     );
     let mut second = seats.pop().expect(rt, "the second seat");
     let mut first = seats.pop().expect(rt, "the first seat");
+    assert_eq!(rt; (first.tap(), second.tap()), (0, 1));
     let before = segment
         .outlook(rt, alloc, &mut conductor)
         .expect(rt, "an outlook");
@@ -167,6 +169,50 @@ fn a_full_history_takes_no_more(rt: HostRuntime) {
     let world = two_masters(&rt);
     let blank = Blank::new(world.taps() as u64 + 1);
     full_history::<Brand, HostRuntime>(&rt, blank, world);
+}
+
+/// One event more than a block of a history has room for.
+const PASSES: u64 = 1025;
+
+/// Passes of 1, 2, 3 and so on bit times are reported in their order.
+fn long_history<L: Ledger, R: AllocGlobal + Abort + Wait>(rt: &R, blank: Blank, world: World)
+    requires name { blank.name ≡ L.name }
+    requires parts { blank.parts ≡ L.parts }
+    requires one_each { blank.parts ≡ length world.taps + 1 }
+    requires new { IsNew world }
+{
+    let alloc = rt.alloc();
+    let (segment, mut conductor, seats) = SharedSegment::<L>::new(alloc, blank, world).expect(
+        rt,
+        "a segment",
+    );
+    for bits in 1..=PASSES {
+        segment
+            .drive(rt, alloc, &mut conductor, Event::Pass(bits))
+            .expect(rt, "a pass");
+    }
+    let Ok(report) = segment.close(conductor, seats) else {
+        panic!(rt; "not closed");
+    };
+    reports_passes(rt, report.history());
+}
+
+fn reports_passes(rt: &impl Abort, history: &History) {
+    let mut clock: u64 = 0;
+    for (place, bits) in (1..=PASSES).enumerate() {
+        clock = clock.wrapping_add(bits);
+        let (event, reply) = history.at(place).expect(rt, "an event");
+        assert!(rt; *event == Event::Pass(bits), "{place}");
+        assert_eq!(rt; reply.now.get(), clock);
+    }
+    assert_eq!(rt; history.len() as u64, PASSES);
+}
+
+#[test]
+fn a_long_history_is_reported_in_order(rt: HostRuntime) {
+    let world = two_masters(&rt);
+    let blank = Blank::new(world.taps() as u64 + 1);
+    long_history::<Brand, HostRuntime>(&rt, blank, world);
 }
 
 /// How many events of each seat are to be accepted, and how often it is tried.

@@ -1,4 +1,3 @@
 pub mod Reading
 pub mod Outcomes
 pub mod Tellings
-pub mod Kept

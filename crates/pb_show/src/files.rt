@@ -8,8 +8,7 @@ use crate::audits::findings;
 use crate::faults::{run_line, scenario_line};
 use crate::shown::Shown;
 use pb_runs::the_events_of_a_run_lead_to_its_end;
-use pb_scenario::{Scenario, ScenarioFault, events_of, read};
-use pb_world::audit;
+use pb_scenario::{Scenario, ScenarioFault, audit_of, read};
 use std::alloc::{AllocError, Global};
 
 /// What is written for the audit of a scenario file: a line for the first premise that its run on one thread breaks,
@@ -50,12 +49,8 @@ fn audited_scenario(alloc: Global, scenario: &Scenario) -> Result<Shown, AllocEr
     ensures { IfOk result (λ shown. shown_of shown ≡ audit_of_scenario scenario.now.scenario) }
 {
     the_events_of_a_run_lead_to_its_end();
-    match events_of(alloc, scenario) {
-        // The events of a run are accepted, so an audit of them can only lack memory.
-        Ok(events) => match audit(alloc, *scenario.params(), scenario.taps(), &events) {
-            Ok(audit) => findings(alloc, &audit),
-            Err(_) => Err(AllocError),
-        },
+    match audit_of(alloc, scenario) {
+        Ok(audit) => findings(alloc, &audit),
         Err(fault) => Ok(Shown::refusal(run_line(alloc, fault)?)),
     }
 }

@@ -20,7 +20,7 @@ pub fn last_lines(alloc: Global, text: &[u8], lines: usize) -> Result<Vec<u8>, A
     Ok(last)
 }
 
-/// Keeps the last lines of a text.
+/// The last lines of a text, found from its end.
 fn kept_lines<'a>(
     alloc: Global,
     text: &'a [u8],
@@ -30,8 +30,12 @@ fn kept_lines<'a>(
         (λ kept. map (λ line. line.now) kept.items ≡ keep_last lines (lines_of text.entry.now)) }
 {
     let mut kept = HeapCircularBuffer::with_capacity(alloc, lines)?;
-    for line in text.lines_with_terminator() {
-        kept.push_back(line);
+    let mut before = text.lines_with_terminator();
+    while kept.len() < lines {
+        let Some(line) = before.next_back() else {
+            break;
+        };
+        kept.push_front(line);
     }
     Ok(kept)
 }

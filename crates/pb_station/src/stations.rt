@@ -15,7 +15,7 @@ use pb_rotation::Rotation;
 use pb_telegram::copy_octets;
 use pb_timers::{BusParams, Moment};
 use pb_tokenfsm::{Listening, Offline, PassiveIdle, Phase};
-use std::alloc::{AllocError, Global};
+use std::alloc::{AllocError, AllocFailed, Global};
 use std::marker::Model;
 use thiserror::Error;
 
@@ -30,6 +30,12 @@ impl From<AllocError> for NoMemory {
     }
 }
 
+impl From<AllocFailed<Core>> for NoMemory {
+    fn from(_: AllocFailed<Core>) -> NoMemory {
+        NoMemory
+    }
+}
+
 /// A station at a tap of the bus.
 #[derive(Debug, Drop)]
 pub struct Station {
@@ -37,7 +43,8 @@ pub struct Station {
     params: BusParams,
     master: bool,
     reply_data: ArrayVec<u8, 246>,
-    core: Core,
+    /// In a box, so that to move a station moves little.
+    core: Box<Core>,
 }
 
 impl Model for Station {
@@ -48,7 +55,7 @@ impl Model for Station {
 
     ghost view = { station_view };
 
-    ghost invariant = { λ s. HasReceived (station_of s.core) };
+    ghost invariant = { λ s. HasReceived (station_of s.core.value) };
 }
 
 /// What a station keeps that has neither heard nor said anything since a moment.
@@ -101,7 +108,7 @@ fn stop_core(core: &mut Core)
 }
 
 impl Station {
-    ghost use Rattle.std.specs.Prelude.{◌≡◌, ◌≤◌, ◌<◌, List, length, Some, None, map, is_some, IsTrue, ◌↔◌, IfOk, OnOk, OnErr, MatchResult};
+    ghost use Rattle.std.specs.Prelude.{◌≡◌, ◌≤◌, ◌<◌, List, nat_le, length, Some, None, map, is_some, IsTrue, ◌↔◌, IfOk, OnOk, OnErr, MatchResult};
     ghost use Rattle.pb_timers.specs.Timers.{Params};
     ghost use Rattle.pb_turn.specs.Stations as turn;
     ghost use Rattle.pb_tokenfsm.specs.Phases.{phase_of};
@@ -112,7 +119,7 @@ impl Station {
     /// A station that doesn't run, at a tap, counted from 0: a master or a passive station, with an address,
     /// 0 to 126, the caller's condition, and the data that it replies to a request for data.
     ///
-    /// Fault: `NoMemory` where memory was refused, for the queue of its requests.
+    /// Fault: `NoMemory` where memory was refused, for what it keeps or the requests that wait.
     pub fn new(
         alloc: Global,
         tap: usize,
@@ -137,6 +144,7 @@ impl Station {
             kept: new_kept(Address::new(address), &params, data, beginning()),
             waiting,
         };
+        let core = Box::new(alloc, core)?;
         Ok(Station {
             tap,
             params,
@@ -197,10 +205,17 @@ impl Station {
     }
 
     /// The requests that wait for the token.
-    pub fn queue(&self) -> &Queue
-        ensures { result.now ≡ self.now.station.cycles.queue }
+    pub fn queue(&self) -> Queue
+        ensures { result ≡ self.now.station.cycles.queue }
     {
         self.core.waiting.queue()
+    }
+
+    /// Whether 16 requests of a request's priority wait, so that it would be handed back.
+    pub fn is_full_for(&self, request: &Request) -> bool
+        ensures { result ≡ nat_le 16 (length (turn.list_for self.now.station.cycles.queue request.now)) }
+    {
+        self.core.waiting.is_full_for(request)
     }
 
     /// How many requests of others it has executed since its start: those that are no repeats. The count stays
@@ -249,11 +264,11 @@ impl Station {
 
     /// An equal station.
     ///
-    /// Fault: `NoMemory` where memory was refused, for the queue of its requests.
+    /// Fault: `NoMemory` where memory was refused, for what it keeps or the requests that wait.
     pub fn copy(&self, alloc: Global) -> Result<Station, NoMemory>
         ensures { IfOk result (λ s. s ≡ self.now) }
     {
-        let core = self.core.copy(alloc)?;
+        let core = Box::new(alloc, self.core.copy(alloc)?)?;
         Ok(Station {
             tap: self.tap,
             params: self.params,

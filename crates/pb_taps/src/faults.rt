@@ -13,7 +13,7 @@ pub enum NewFault {
     /// 1: there is no tap.
     #[error("NoTaps")]
     NoTaps,
-    /// 2: there are more than 32 taps.
+    /// 2: there are more than 127 taps.
     #[error("TooManyTaps")]
     TooManyTaps,
     /// 3: a master's address is over the highest station address, or a passive station's over 126; the
@@ -64,10 +64,10 @@ pub enum WorldFault {
     /// 2: the tap runs, or a telegram of its own is in the air.
     #[error("Running")]
     Running,
-    /// 3: the tap doesn't run.
+    /// 3: the tap doesn't run, or a request is to wait at a passive one.
     #[error("NotRunning")]
     NotRunning,
-    /// 4: nothing that could be damaged is in the air.
+    /// 4: nothing that could be damaged is in the air, or that could be lost still wholly to come.
     #[error("NothingInAir")]
     NothingInAir,
     /// 5: a stretch of time without a bit time.

@@ -21,12 +21,12 @@ use pb_timers::BusParams;
 use std::alloc::Global;
 
 /// How many taps a bus may have.
-const TAP_LIMIT: usize = 32;
+const TAP_LIMIT: usize = 127;
 
 /// The highest address of a station.
 const HIGHEST_ADDRESS: u32 = 126;
 
-/// The first fault of some taps: `NoTaps`; `TooManyTaps` over 32; `BadAddress` with the least tap whose address is
+/// The first fault of some taps: `NoTaps`; `TooManyTaps` over 127; `BadAddress` with the least tap whose address is
 /// too high for its kind.
 pub fn check_taps(params: &BusParams, specs: &[TapSpec]) -> Result<(), NewFault>
     ensures ok { OnOk result (first_fault (new_faults params.now (map spec_of specs.now)) ≡ None) }

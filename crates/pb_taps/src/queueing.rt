@@ -6,9 +6,6 @@ use crate::faults::WorldFault;
 use crate::taps::Tap;
 use pb_cycles::Request;
 
-/// How many requests of a priority a station has waiting at most.
-const QUEUE_LIMIT: usize = 16;
-
 /// Has a request wait at the station of a tap. Faults, the first that applies: `NoSuchTap`; `NotRunning` for a tap
 /// that is stopped, or passive; `QueueFull`.
 pub fn queue(taps: &mut [Tap], tap: usize, request: Request) -> Result<(), WorldFault>
@@ -58,13 +55,7 @@ fn takes_requests(tap: &Tap) -> bool
 fn has_no_room(tap: &Tap, request: &Request) -> bool
     ensures { result ≡ has_no_room tap.now request.now }
 {
-    let queue = tap.station.queue();
-    let waiting = if request.high() {
-        queue.len_high()
-    } else {
-        queue.len_low()
-    };
-    waiting >= QUEUE_LIMIT
+    tap.station.is_full_for(request)
 }
 
 /// A request has the address and the data of one, by its type.

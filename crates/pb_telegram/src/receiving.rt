@@ -28,6 +28,9 @@ const TOKEN_LENGTH: u64 = 3;
 
 /// Takes the characters of a telegram one at a time, as a receiver takes them off the bus, and keeps
 /// no list of them (IEC 61158-4-3, telegram formats).
+///
+/// What most octets and each answer pass through is put in its place where it is called, so that a telegram is
+/// made where it is wanted and not moved there.
 #[derive(Drop)]
 pub struct Receiver {
     /// How many characters came.
@@ -124,6 +127,7 @@ impl Receiver {
     }
 
     /// Takes the next character; fewer than 2^64 - 1 came before it, the caller's condition.
+    #[inline(always)]
     pub fn feed(&mut self, char: RxChar)
         requires { self.old.fed < 2 ^ 64 - 1 }
         ensures more { self.new ≡ received_more self.old char }
@@ -172,6 +176,7 @@ impl Receiver {
     }
 
     /// What [`Receiver::end`] would answer now, with the same faults.
+    #[inline(always)]
     pub fn answer(&self) -> Result<Telegram, TelegramFault>
         ensures telegram { (chars : List RxChar) → StandsFor self.now chars → IfOk result (Spells chars) }
         ensures sound { (chars : List RxChar) → StandsFor self.now chars
@@ -191,6 +196,7 @@ impl Receiver {
     }
 
     /// What octets spell, of which there is at least one.
+    #[inline(always)]
     fn telegram(&self) -> Result<Telegram, TelegramFault>
         requires { 0 < self.now.fed }
         ensures { Finds self.now (form_faults self.now) (λ telegram. telegram) result }
@@ -206,6 +212,7 @@ impl Receiver {
         }
     }
 
+    #[inline(always)]
     fn short(&self) -> Result<ShortTelegram, TelegramFault>
         requires { self.now.start ≡ sd1 }
         ensures { Finds self.now (plain_faults self.now 4) Short result }
@@ -223,6 +230,7 @@ impl Receiver {
         })
     }
 
+    #[inline(always)]
     fn var(&self) -> Result<VarTelegram, TelegramFault>
         requires { self.now.start ≡ sd2 }
         ensures { Finds self.now (var_faults self.now) Var result }
@@ -253,6 +261,7 @@ impl Receiver {
         })
     }
 
+    #[inline(always)]
     fn fixed(&self) -> Result<Fixed8Telegram, TelegramFault>
         requires { self.now.start ≡ sd3 }
         ensures { Finds self.now (plain_faults self.now 12) Fixed8 result }
@@ -273,6 +282,7 @@ impl Receiver {
         })
     }
 
+    #[inline(always)]
     fn token(&self) -> Result<TokenTelegram, TelegramFault>
         requires { self.now.start ≡ sd4 }
         ensures { Finds self.now (token_faults self.now) Token result }
@@ -293,6 +303,7 @@ impl Receiver {
     }
 
     /// The first fault of a telegram with a control octet, from its addresses on.
+    #[inline(always)]
     fn framed_fault(&self) -> Option<TelegramFault>
         requires { check_at self.now.start self.now.length_octet + 2 ≤ self.now.fed }
         ensures { result ≡ first_fault (faults_from_addresses self.now) }
@@ -317,6 +328,7 @@ impl Receiver {
 
     /// Takes the octet of the next character, or 0 for a damaged one. Most octets are a start or of a
     /// unit: what else is around a unit stands in a call of its own, for speed.
+    #[inline(always)]
     fn take(&mut self, octet: u8)
         requires { self.old.fed < 2 ^ 64 - 1 }
         ensures { self.new ≡ taken self.old octet }
@@ -358,6 +370,7 @@ impl Receiver {
         }
     }
 
+    #[inline(always)]
     fn take_start(&mut self, octet: u8)
         requires { self.old.fed ≡ 0 }
         ensures { self.new ≡ record (self.old) { fed = 1; start = octet; length_octet = 0 } }

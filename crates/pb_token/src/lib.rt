@@ -22,8 +22,8 @@ pub use examples::{
     the_premises_can_be_met,
 };
 pub use runs::{
-    a_run_keeps_its_bus, a_stopped_station_is_offline, premises_are_kept_by_beginnings,
-    runs_append, the_data_to_reply_stays,
+    a_run_keeps_its_bus, a_stopped_station_is_offline, no_holder_keeps_a_reply,
+    premises_are_kept_by_beginnings, runs_append, the_data_to_reply_stays,
 };
 pub use silence::{no_master_is_left_in_silence, the_silence_bound_is_reached};
 pub use theorem::{

@@ -4,8 +4,8 @@ ghost use Rattle.pb_theorem.specs.Headline.{SilenceBound};
 ghost use Rattle.pb_token.specs.Promises.{SilenceAtSpeakers, SilenceAtTap, IsReached};
 ghost use Rattle.pb_token.specs.Examples.{long_bus, long_silence};
 
-/// No master that runs is left in silence for longer than its time-out, the lag and the cable delay: also where
-/// two stations have one address, or two masters have waited out their time-outs together.
+/// No master that runs, and isn't offline, is left in silence for longer than its time-out, the lag and the cable
+/// delay: also where two stations have one address, or two masters have waited out their time-outs together.
 pub fn no_master_is_left_in_silence()
     ensures bound { SilenceBound }
     ensures at_speakers { SilenceAtSpeakers }

@@ -9,7 +9,7 @@
 mod worlds;
 
 pub use pb_audit::{Audit, AuditFault, audit};
-pub use pb_medium::{Entry, Heard, Record};
+pub use pb_medium::{Entry, Heard, Reception, Record};
 pub use pb_station::Station;
 pub use pb_taps::{Event, Kind, NewFault, Reply, TapSpec, WorldFault};
 pub use worlds::{World, run};

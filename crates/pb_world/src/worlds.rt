@@ -48,7 +48,7 @@ impl World {
 
     /// A world whose taps don't run yet, at clock 0.
     ///
-    /// Faults, the first that applies: `NoTaps` for an empty list; `TooManyTaps` over 32; `BadAddress` with
+    /// Faults, the first that applies: `NoTaps` for an empty list; `TooManyTaps` over 127; `BadAddress` with
     /// the least tap that is a master with an address over the highest station address, or a passive
     /// station with one over 126; `NoMemory`. Equal addresses are taken.
     ///
@@ -72,8 +72,8 @@ impl World {
     ///   what began and ended. Faults: `ZeroTime`; `TooFar` with that end; `ClockFull` past
     ///   1,000,000,000,000; `InboxFull` with the least tap that would have more than 64 unread marks.
     /// - `Damage`: what a tap hears of the speaker's telegram in the air is damaged, at a place or at every
-    ///   character. Faults: `NoSuchTap`; `NothingInAir` where the speaker sends nothing, is the tap itself,
-    ///   or the place isn't among the octets that were meant; `NoMemory`.
+    ///   character. Faults: `NoSuchTap`; `NothingInAir` where nothing of the speaker's is on its way to the tap,
+    ///   it is the tap itself, or the place isn't among the octets that were meant; `NoMemory`.
     /// - `Start`: the station starts afresh: a master listens for the ring. Faults: `NoSuchTap`; `Running`
     ///   where it runs or a telegram of its own is in the air.
     /// - `Stop`: the station stops, and drops its unread marks and a reply that it has not sent yet. A telegram
@@ -144,8 +144,9 @@ impl World {
     }
 
     /// The next moment at which something changes on the bus, apart from turns, in bit times: the least among the
-    /// ends in the air, and the next bit time where a telegram or noise begins now, or a tap has started now while
-    /// something was in the air. None where nothing is to come.
+    /// ends in the air, at their speakers and at the other taps; the bit time behind that in which a telegram reaches
+    /// the other taps, or noise begins; and the next bit time where a tap has started now amid something that began
+    /// before. None where nothing is to come.
     pub fn next_change(&self) -> Option<Moment>
         ensures { result ≡ next_change self.entry.now }
     {

@@ -1,42 +1,104 @@
-use super::{master, request, usual};
-use pb_world::{AuditFault, Event, NewFault, World, WorldFault, audit};
+use super::{due, master, next_change, phase_name, two_masters, usual};
+use pb_world::{AuditFault, Entry, Event, NewFault, World, WorldFault, audit};
 
-/// Run with one allocation refused: a world is made and each event done, or the fault is `NoMemory`
-/// and nothing has changed.
+/// Two masters form a ring, with one allocation refused: the fault is `NoMemory` then, nothing has changed, and the
+/// same event done again gives what it gives with ample memory.
 #[test]
 fn refused_memory_in_a_world(rt: HostRuntime) {
     let alloc = rt.alloc();
-    let mut world = match World::new(alloc, usual(&rt), &[master(1), master(2)]) {
-        Ok(world) => world,
-        Err(fault) => {
+    let mut world = World::new(alloc, usual(&rt), &[master(1), master(2)]).unwrap_or_else(
+        |fault| {
             assert_eq!(rt; fault, NewFault::NoMemory);
             let _ = println!(rt; "refused");
-            return;
-        }
-    };
-    let damage = Event::Damage {
-        tap: 1,
-        speaker: 0,
-        place: None,
-    };
+            two_masters(&rt)
+        },
+    );
     for event in [
         Event::Start(0),
-        Event::Queue {
-            tap: 0,
-            request: request(&rt),
-        },
+        Event::Start(1),
         Event::Pass(800),
         Event::Turn(0),
-        damage,
-        Event::Stop(0),
-        Event::Noise(50),
+        Event::Pass(1),
+        Event::Turn(1),
+        Event::Pass(32),
+        Event::Turn(1),
+        Event::Pass(37),
+        Event::Turn(0),
+        Event::Pass(1),
+        Event::Turn(1),
+        Event::Pass(32),
+        Event::Turn(1),
+        Event::Pass(37),
+        Event::Turn(0),
+        Event::Pass(1),
+        Event::Turn(1),
+        Event::Pass(65),
+        Event::Turn(1),
+        Event::Pass(11),
+        Event::Turn(1),
+        Event::Pass(1),
+        Event::Turn(0),
+        Event::Pass(65),
+        Event::Turn(0),
+        Event::Pass(37),
+        Event::Turn(0),
+        Event::Pass(1),
+        Event::Turn(1),
+        Event::Pass(32),
+        Event::Turn(1),
+        Event::Pass(37),
+        Event::Turn(1),
+        Event::Pass(1),
+        Event::Turn(0),
+        Event::Pass(65),
+        Event::Turn(0),
+        Event::Pass(100),
+        Event::Turn(1),
+        Event::Pass(1),
+        Event::Turn(0),
+        Event::Pass(32),
+        Event::Turn(0),
+        Event::Pass(11),
     ] {
-        let before = (world.now(), world.trace().len(), world.due(0));
-        if let Err(fault) = world.apply(alloc, event) {
+        let before = Seen::of(&world);
+        if let Err(fault) = world.apply(alloc, event.copy()) {
             assert_eq!(rt; fault, WorldFault::NoMemory);
-            assert!(rt; (world.now(), world.trace().len(), world.due(0)) == before);
+            assert_eq!(rt; Seen::of(&world), before);
             let _ = println!(rt; "refused");
-            return;
+            world.apply(alloc, event).expect(&rt, "an event");
+        }
+    }
+    let begins = [800u64, 870, 940, 1017, 1120, 1190, 1356];
+    assert!(rt; world.trace().iter().map(begin_of).eq(begins));
+    assert_eq!(rt; phase_name(&world, 0), Some("Use"));
+    assert_eq!(rt; phase_name(&world, 1), Some("Checking"));
+}
+
+fn begin_of(entry: &Entry) -> u64 {
+    match entry {
+        Entry::Sent(record) => record.begin,
+        Entry::Noise { begin, .. } => *begin,
+    }
+}
+
+/// What can be seen of a world of two taps.
+#[derive(Clone, Copy, Debug, PartialEq, Eq)]
+struct Seen {
+    now: u64,
+    next_change: Option<u64>,
+    telegrams: usize,
+    dues: [Option<u64>; 2],
+    phases: [Option<&'static str>; 2],
+}
+
+impl Seen {
+    fn of(world: &World) -> Seen {
+        Seen {
+            now: world.now().get(),
+            next_change: next_change(world),
+            telegrams: world.trace().len(),
+            dues: [due(world, 0), due(world, 1)],
+            phases: [phase_name(world, 0), phase_name(world, 1)],
         }
     }
 }

@@ -13,7 +13,6 @@ fn sixteen_requests_wait_in_order(rt: HostRuntime) -> Result<(), Fail> {
     assert_eq!(rt; refused.err().map(|refused| refused.request.da()), Some(16));
     let refused = queue.push_low(request(17, Service::Sda, false, "-")?);
     assert_eq!(rt; refused.err().map(|refused| refused.request.da()), Some(17));
-    assert_eq!(rt; queue.copy().len_high(), 16);
     for da in 0..16 {
         assert_eq!(rt; queue.take_high().map(|request| request.da()), Some(da));
         assert_eq!(rt; queue.take_low().map(|request| request.da()), Some(da));
@@ -22,5 +21,20 @@ fn sixteen_requests_wait_in_order(rt: HostRuntime) -> Result<(), Fail> {
     assert!(rt; queue.take_low().is_none());
     assert_eq!(rt; queue.len_high(), 0);
     assert_eq!(rt; queue.len_low(), 0);
+    Ok(())
+}
+
+#[test]
+fn a_queue_of_requests_has_them_in_order(rt: HostRuntime) -> Result<(), Fail> {
+    let high = [
+        request(1, Service::Sda, true, "-")?,
+        request(2, Service::Sda, true, "-")?,
+    ];
+    let low = [request(3, Service::Sda, false, "-")?];
+    let mut queue = Queue::of(&high, &low);
+    assert_eq!(rt; (queue.len_high(), queue.len_low()), (2, 1));
+    assert_eq!(rt; queue.take_high().map(|request| request.da()), Some(1));
+    assert_eq!(rt; queue.take_high().map(|request| request.da()), Some(2));
+    assert_eq!(rt; queue.take_low().map(|request| request.da()), Some(3));
     Ok(())
 }

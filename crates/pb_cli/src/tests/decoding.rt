@@ -1,7 +1,7 @@
 use crate::{CountedReader, CountedWriter, Status, decode_lines};
 use std::test::Fail;
 
-const LINES: [(&str, &str); 30] = [
+const LINES: [(&str, &str); 35] = [
     ("dc0302", "token da=3 sa=2"),
     ("DC 03 02", "token da=3 sa=2"),
     ("d C\t0 302 ", "token da=3 sa=2"),
@@ -23,16 +23,24 @@ const LINES: [(&str, &str); 30] = [
         "a205027d0102030405060708a816",
         "fixed da=5 sa=2 fc=7d unit=0102030405060708",
     ),
+    (
+        "a205027d00000000000000008416",
+        "fixed da=5 sa=2 fc=7d unit=0000000000000000",
+    ),
     (" \t", "fault 1 Empty"),
     ("--0302", "fault 2 Faulty 0"),
     ("dc03 --", "fault 2 Faulty 2"),
     ("77", "fault 3 BadStart"),
     ("1003", "fault 4 Truncated"),
+    ("680505687f0244ffc416", "fault 4 Truncated"),
+    ("a205027d000000000000000084", "fault 4 Truncated"),
     ("680303680201444716", "fault 5 BadLength"),
+    ("68fafa68", "fault 5 BadLength"),
     ("680405687f0244ffc416", "fault 6 LengthsDiffer"),
     ("680404697f0244ffc416", "fault 7 BadSecondStart"),
     ("dc7f02", "fault 8 BadAddress"),
     ("dc8302", "fault 8 BadAddress"),
+    ("68040468007f44ffc216", "fault 8 BadAddress"),
     ("10027f49ca16", "fault 8 BadAddress"),
     ("100302c9ce16", "fault 9 BadFc"),
     ("100302c90017", "fault 9 BadFc"),

@@ -1,4 +1,4 @@
-use Rattle.std.proofs.Common.{ap, arith, sym, ℕ, ◌<◌, length, get_or, ◌∙◌}
+use Rattle.std.proofs.Common.{ap, arith, ℕ, ◌<◌, length, get_or, ◌∙◌}
 use Rattle.std.specs.Prelude.{max}
 use Rattle.std.proofs.lemmas.List.{length-set}
 use Rattle.pb_turn.specs.Spans.{Span}
@@ -12,7 +12,7 @@ loop-tap-preserved c =
     let before = c.args.latest.now in
     let with_it : ℕ → ℕ = λ k. max (get_or before k 0) (active_at c.args.delay k (entry_of c.args.entry.now)).end in
     let tap = c.loop-tap.tap in
-    let there : tap < length c.loop-tap.latest = omega (arith, c.loop-tap-test.true, c.loop-tap.invariant.count, c.told-latest) in
+    let there : tap < length c.loop-tap.latest = omega (arith, c.loop-tap-test.true, c.requires, c.loop-tap.invariant.count, c.told-latest) in
     record {
       count = length-set c.loop-tap.latest tap c.max.result ∙ c.loop-tap.invariant.count;
       so_far = renewed with_it c.loop-tap.latest before tap c.max.result there
@@ -21,7 +21,10 @@ loop-tap-preserved c =
           c.loop-tap.invariant.so_far;
     }
 
-pub returns : goal.returns
-returns c = λ tap small.
+pub returns-clause-size : goal.returns-clause-size
+returns-clause-size c = c.loop-tap.invariant.count
+
+pub returns-clause-more : goal.returns-clause-more
+returns-clause-more c = λ tap small.
     let with_it : ℕ → ℕ = λ k. max (get_or c.args.latest.now k 0) (active_at c.args.delay k (entry_of c.args.entry.now)).end in
     all-renewed with_it c.loop-tap.latest c.args.latest.now c.loop-tap.tap c.loop-tap.invariant.so_far tap (omega (arith, small, c.loop-tap-test.false))

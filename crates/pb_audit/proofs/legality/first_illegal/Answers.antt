@@ -1,5 +1,5 @@
 -- The pass stops at the first entry that may not come, or goes on behind it.
-use Rattle.std.proofs.Common.{◌≡◌, ◌∙◌, ap, sym, subst, refl, arith, map, drop, take, ◌+◌, ℕ}
+use Rattle.std.proofs.Common.{◌∙◌, ap, sym, subst, refl, arith, map, drop, take, ◌+◌}
 use Rattle.std.specs.Option.{option_map}
 use Rattle.std.proofs.lemmas.List.{take-map}
 use Rattle.pb_model.specs.Trace.{entry_begin}

@@ -2,7 +2,7 @@ use Rattle.std.proofs.Common.{◌∙◌, ap, map}
 use Rattle.pb_theorem.specs.Quiet.{is_active}
 use Rattle.pb_bus.specs.Buses.{world_of}
 use Rattle.pb_medium.specs.Entries.{entry_of}
-use Rattle.pb_medium.specs.Traces.{over_of, recent_of}
+use Rattle.pb_medium.specs.Traces.{over_of}
 use Rattle.pb_audit.proofs.Premising.{active-recent}
 use Rattle.pb_audit.proofs.premises.is_heard.Goals as goal
 

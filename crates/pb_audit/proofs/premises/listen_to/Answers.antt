@@ -1,4 +1,4 @@
-use Rattle.std.proofs.Common.{◌≡◌, ap, sym, subst, arith, ℕ, ◌+◌, ◌<◌, List, Bool, true, false, length, get_or, slice_set, nat_lt, if◌then◌else◌, ◌∙◌}
+use Rattle.std.proofs.Common.{◌≡◌, ap, sym, subst, arith, ℕ, ◌+◌, ◌<◌, List, Bool, length, get_or, nat_lt, if◌then◌else◌, ◌∙◌}
 use Rattle.std.proofs.lemmas.List.{length-map}
 use Rattle.pb_theorem.specs.Quiet.{is_active}
 use Rattle.pb_bus.specs.Buses.{world_of}

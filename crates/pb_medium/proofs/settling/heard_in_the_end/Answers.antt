@@ -1,49 +1,48 @@
 -- One more tap after another.
-use Rattle.std.proofs.Common.{◌≡◌, ◌+◌, ◌<◌, List, [], ◌++◌, ◌∷◌, ◌∙◌, ap, sym, map, length, take, get_or, arith}
+use Rattle.std.proofs.Common.{◌≡◌, ◌+◌, ◌<◌, ◌≤◌, List, ◌∙◌, ap, sym, map, length, set, get_or, arith}
 use Rattle.std.specs.Prelude.{slice_get}
-use Rattle.std.proofs.Math.ListN.{get_or-map}
-use Rattle.std.proofs.lemmas.List.{length-map, map-append, take_more, take_all}
-use Rattle.pb_model.specs.Trace as model
+use Rattle.pb_model.specs.Trace.{Heard, Pending}
 use Rattle.pb_model.specs.Medium.{heard_by}
-use Rattle.pb_medium.specs.declared.entries.Heard.{Heard}
-use Rattle.pb_medium.specs.declared.entries.Heard.TheVariants as heard
-use Rattle.pb_medium.specs.Entries.{entry_of, heard_of, record_of}
+use Rattle.pb_medium.specs.Entries.{entry_of, record_of}
 use Rattle.pb_medium.specs.Settling.{heard_with}
 use Rattle.pb_taps.specs.Taps.{tap_of}
+use Rattle.pb_taps.proofs.Replacing.{replaced-more, replaced-all, replaced-at}
+use Rattle.pb_medium.proofs.Receiving.{replaced-length}
 use Rattle.pb_medium.proofs.Settled.{heard_by-at, heard_by-length}
 use Rattle.pb_medium.proofs.settling.heard_in_the_end.Goals as goal
 
+pub settle_at-requires : goal.settle_at-requires
+settle_at-requires c =
+    let before = c.args.telegram.now.heard in
+    let all = heard_by c.args.delay (map entry_of c.args.entries.now) (record_of c.args.telegram.now) 0 (map tap_of c.args.taps.now) before in
+    let same : length all ≡ length before = heard_by-length c.args.delay (map entry_of c.args.entries.now) (record_of c.args.telegram.now) 0 (map tap_of c.args.taps.now) before in
+    omega (arith, c.loop-position-test.true, c.len-position-end.ensures, ap (λ (hs : List Heard). length hs) c.loop-position.invariant, replaced-length all before c.loop-position.position same)
+
 pub loop-position-preserved : goal.loop-position-preserved
 loop-position-preserved c =
-    let trace = map entry_of c.args.entries.now in
+    let es = map entry_of c.args.entries.now in
     let r = record_of c.args.telegram.now in
-    let before = c.args.telegram.now.heard.items in
+    let taps = map tap_of c.args.taps.now in
+    let before = c.args.telegram.now.heard in
     let at = c.loop-position.position in
-    let read : c.deref-before-items.result.now ≡ before = c.deref-before-items.ensures.0 in
-    let within : at < length (map heard_of before) = omega (arith, c.loop-position-test.true, ap length read, length-map before heard_of) in
+    let all = heard_by c.args.delay es r 0 taps before in
+    let same : length all ≡ length before = heard_by-length c.args.delay es r 0 taps before in
+    let within : at < length before = omega (arith, c.loop-position-test.true, c.len-position-end.ensures) in
     let none : 0 + at ≡ at = omega arith in
-    record {
-      so_far =
-          let taps = map tap_of c.args.taps.now in
-          let all = heard_by c.args.delay trace r 0 taps (map heard_of before) in
-          let is : heard_of c.heard_at.result ≡ get_or all at model.Own =
-          c.heard_at.ensures
-          ∙ ap (λ (hs : List Heard). heard_with c.args.delay trace r at (slice_get taps at) (heard_of (get_or hs at heard.Own))) read
-          ∙ ap (heard_with c.args.delay trace r at (slice_get taps at)) (sym (get_or-map heard_of before at heard.Own))
-          ∙ sym (heard_by-at c.args.delay trace r 0 taps (map heard_of before) at at model.Own none within) in
-          ap (map heard_of) c.push.ensures.items ∙ map-append heard_of c.loop-position.heard.items (c.heard_at.result ∷ [])
-          ∙ ap (λ (hs : List model.Heard). hs ++ heard_of c.heard_at.result ∷ []) (c.loop-position.invariant.so_far)
-          ∙ ap (λ (h : model.Heard). take at all ++ h ∷ []) is
-          ∙ sym (take_more all at model.Own (omega (arith, within, heard_by-length c.args.delay trace r 0 taps (map heard_of before))));
-      count = omega (arith, c.push.ensures.len, c.loop-position.invariant.count);
-    }
+    let settled : Heard → Heard = heard_with c.args.delay es r at (slice_get taps at) in
+    let new : Heard = settled (get_or c.loop-position.heard at Pending) in
+    let is : new ≡ get_or all at Pending =
+    ap (λ (hs : List Heard). settled (get_or hs at Pending)) c.loop-position.invariant
+    ∙ ap settled (replaced-at all before at Pending same within)
+    ∙ sym (heard_by-at c.args.delay es r 0 taps before at at Pending none within) in
+    c.settle_at.ensures ∙ ap (λ (hs : List Heard). set hs at new) c.loop-position.invariant ∙ replaced-more all before at new Pending same within is
 
 pub returns : goal.returns
 returns c =
-    let trace = map entry_of c.args.entries.now in
+    let es = map entry_of c.args.entries.now in
     let r = record_of c.args.telegram.now in
-    let before = c.args.telegram.now.heard.items in
     let taps = map tap_of c.args.taps.now in
-    c.loop-position.invariant.so_far
-    ∙ take_all c.loop-position.position (heard_by c.args.delay trace r 0 taps (map heard_of before))
-    (omega (arith, c.loop-position-test.false, ap length c.deref-before-items.ensures.0, length-map before heard_of, heard_by-length c.args.delay trace r 0 taps (map heard_of before)))
+    let before = c.args.telegram.now.heard in
+    let same : length (heard_by c.args.delay es r 0 taps before) ≡ length before = heard_by-length c.args.delay es r 0 taps before in
+    let over : length before ≤ c.loop-position.position = omega (arith, c.loop-position-test.false, c.len-position-end.ensures) in
+    c.loop-position.invariant ∙ replaced-all (heard_by c.args.delay es r 0 taps before) before c.loop-position.position same over

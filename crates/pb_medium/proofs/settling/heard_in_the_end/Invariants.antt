@@ -1,13 +1,11 @@
--- What the telegram was to the taps before the position.
-use Rattle.std.proofs.Common.{◌≡◌, map, length, take}
+-- The telegram has settled at the taps before the position.
+use Rattle.std.proofs.Common.{◌≡◌, ◌++◌, map, take, drop}
 use Rattle.pb_model.specs.Medium.{heard_by}
-use Rattle.pb_medium.specs.Entries.{entry_of, heard_of, record_of}
+use Rattle.pb_medium.specs.Entries.{entry_of, record_of}
 use Rattle.pb_taps.specs.Taps.{tap_of}
 use Rattle.pb_medium.proofs.settling.heard_in_the_end.Given as goal
 
 abbrev pub invariant-loop-position : goal.invariant-loop-position
-invariant-loop-position l = record {
-  so_far : map heard_of l.heard.items
-      ≡ take l.position (heard_by l.delay (map entry_of l.entries) (record_of l.telegram) 0 (map tap_of l.taps) (map heard_of l.telegram.heard.items));
-  count : length l.heard.items ≡ l.position;
-}
+invariant-loop-position l =
+    l.heard
+    ≡ take l.position (heard_by l.delay (map entry_of l.entries) (record_of l.telegram) 0 (map tap_of l.taps) l.telegram.heard) ++ drop l.position l.telegram.heard

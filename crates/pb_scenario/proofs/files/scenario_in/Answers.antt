@@ -38,20 +38,21 @@ returns-in_err-steps c =
     let bus = table_view c.in_ok-table.field-0.now in
     let list = array_view c.in_ok-list.field-0.now in
     let taps = c.in_ok-taps.taps in
+    let version = c.in_ok-version.version in
     let f = c.in_err-steps.field-0.0 in
     let as_many : length (names_of taps.names.keys) ≡ length (map spec_of taps.specs.items) = count-names taps.names.keys ∙ c.in_ok-taps.ensures.named ∙ sym (length-map taps.specs.items spec_of) in
     let names : map (λ (t : NamedTap). t.name) (taps_of taps) ≡ names_of taps.names.keys = named-names (names_of taps.names.keys) (map spec_of taps.specs.items) as_many in
-    let read : taps_in list ≡ Ok (taps_of taps) = ap (λ vs. taps_in (items_view vs)) (sym c.deref.ensures.value) ∙ c.in_ok-taps.ensures.taps in
+    let read : taps_in version list ≡ Ok (taps_of taps) = ap (λ vs. taps_in version (items_view vs)) (sym c.deref.ensures.value) ∙ c.in_ok-taps.ensures.taps in
     let told : Tells f (if_there [] (listed_steps (map (λ (t : NamedTap). t.name) (taps_of taps))) Top key.Step top) =
     subst (λ ns. Tells f (if_there [] (listed_steps ns) Top key.Step top)) (sym names) c.in_err-steps.ensures.steps in
     in-err _ _ c.from_residual-in_err-steps.result f c.from_residual-in_err-steps.ensures.0 c.from_residual-in_err-steps.ensures.1
-    (then_tells_next f (version_in Top top) _ _ c.in_ok-check_version.ensures
+    (then_tells_next f (version_in Top top) version _ c.in_ok-version.ensures
     (then_tells_next f (known top_keys Top top) _ _ c.in_ok-known.ensures
     (then_tells_next f (number 1 until_limit Top key.Until top) c.in_ok-until.until _ c.in_ok-until.ensures.value
     (then_tells_next f (typed as_table Top key.Bus top) bus _ c.in_ok-table.ensures
-    (then_tells_next f (params_in Bus bus) c.in_ok-params.params _ c.in_ok-params.ensures
+    (then_tells_next f (params_in version Bus bus) c.in_ok-params.params _ c.in_ok-params.ensures
     (then_tells_next f (typed as_array Top key.Tap top) list _ c.in_ok-list.ensures
-    (then_tells_next f (taps_in list) (taps_of taps) _ read
+    (then_tells_next f (taps_in version list) (taps_of taps) _ read
     (then_tells f (if_there [] (listed_steps (map (λ (t : NamedTap). t.name) (taps_of taps))) Top key.Step top) _ told))))))))
 
 pub returns : goal.returns
@@ -61,22 +62,23 @@ returns c =
     let bus = table_view c.in_ok-table.field-0.now in
     let list = array_view c.in_ok-list.field-0.now in
     let taps = c.in_ok-taps.taps in
+    let version = c.in_ok-version.version in
     let until = c.in_ok-until.until in
     let params = c.in_ok-params.params in
     let steps = steps_of c.in_ok-steps.steps.items in
     let as_many : length (names_of taps.names.keys) ≡ length (map spec_of taps.specs.items) = count-names taps.names.keys ∙ c.in_ok-taps.ensures.named ∙ sym (length-map taps.specs.items spec_of) in
     let names : map (λ (t : NamedTap). t.name) (taps_of taps) ≡ names_of taps.names.keys = named-names (names_of taps.names.keys) (map spec_of taps.specs.items) as_many in
     let specs : map (λ (t : NamedTap). t.spec) (taps_of taps) ≡ map spec_of taps.specs.items = named-specs (names_of taps.names.keys) (map spec_of taps.specs.items) as_many in
-    let read : taps_in list ≡ Ok (taps_of taps) = ap (λ vs. taps_in (items_view vs)) (sym c.deref.ensures.value) ∙ c.in_ok-taps.ensures.taps in
+    let read : taps_in version list ≡ Ok (taps_of taps) = ap (λ vs. taps_in version (items_view vs)) (sym c.deref.ensures.value) ∙ c.in_ok-taps.ensures.taps in
     let found : if_there [] (listed_steps (map (λ (t : NamedTap). t.name) (taps_of taps))) Top key.Step top ≡ Ok steps =
     ap (λ ns. if_there [] (listed_steps ns) Top key.Step top) names ∙ c.in_ok-steps.ensures.steps in
     let whole = made-of c.new.result params (map (λ (t : NamedTap). t.spec) (taps_of taps)) (map (λ (t : NamedTap). t.name) (taps_of taps)) steps until
     c.new.ensures.params (c.new.ensures.taps ∙ sym specs) (c.new.ensures.names ∙ sym names) c.new.ensures.steps c.new.ensures.until in
-    then_ok (version_in Top top) _ _ _ c.in_ok-check_version.ensures
+    then_ok (version_in Top top) version _ _ c.in_ok-version.ensures
     (then_ok (known top_keys Top top) _ _ _ c.in_ok-known.ensures
     (then_ok (number 1 until_limit Top key.Until top) until _ _ c.in_ok-until.ensures.value
     (then_ok (typed as_table Top key.Bus top) bus _ _ c.in_ok-table.ensures
-    (then_ok (params_in Bus bus) params _ _ c.in_ok-params.ensures
+    (then_ok (params_in version Bus bus) params _ _ c.in_ok-params.ensures
     (then_ok (typed as_array Top key.Tap top) list _ _ c.in_ok-list.ensures
-    (then_ok (taps_in list) (taps_of taps) _ _ read
+    (then_ok (taps_in version list) (taps_of taps) _ _ read
     (then_ok (if_there [] (listed_steps (map (λ (t : NamedTap). t.name) (taps_of taps))) Top key.Step top) steps _ _ found (ap (λ s. Ok s) whole))))))))

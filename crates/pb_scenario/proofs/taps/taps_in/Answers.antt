@@ -1,25 +1,25 @@
 -- One tap more is read, or the first fault ends the reading.
-use Rattle.std.proofs.Common.{◌≡◌, ◌∙◌, ◌+◌, ◌++◌, ◌∷◌, [], Ok, drop, length, map, ap, sym, subst, length-append}
+use Rattle.std.proofs.Common.{arith, ◌≡◌, ◌∙◌, ◌+◌, ◌++◌, ◌∷◌, [], Ok, drop, length, map, ap, sym, subst, length-append}
 use Rattle.std.proofs.lemmas.List.{length-map}
 use Rattle.toml.specs.View.{items_view}
 use Rattle.pb_taps.specs.Taps.{spec_of}
 use Rattle.pb_scenario.specs.Scenarios.{names_of}
 use Rattle.pb_scenario.specs.Fields.{Tells, and_then}
 use Rattle.pb_scenario.specs.Tables.{members, tap_of, taps_of}
-use Rattle.pb_scenario.specs.Files.{tap_in, taps_from}
+use Rattle.pb_scenario.specs.Files.{most_taps, tap_in, taps_from}
 use Rattle.pb_scenario.proofs.Listing.{few-items, many-items, no-tap, bad-tap, tap-read, taps-read, tap-added, count-names, on-ok}
 use Rattle.pb_scenario.proofs.Moving.{in-err}
 use Rattle.pb_scenario.proofs.taps.taps_in.Goals as goal
 
-pub returns-then-items-gt-MOST_TAPS-clause-taps : goal.returns-then-items-gt-MOST_TAPS-clause-taps
-returns-then-items-gt-MOST_TAPS-clause-taps c = many-items 32 c.args.items.now _ c.if-items-gt-MOST_TAPS.true
+pub returns-then-items-most_taps-clause-taps : goal.returns-then-items-most_taps-clause-taps
+returns-then-items-most_taps-clause-taps c = many-items (most_taps c.args.version) c.args.items.now _ (omega (arith, c.if-items-most_taps.true, c.most_taps.ensures))
 
 pub returns-in_err-fields-clause-taps : goal.returns-in_err-fields-clause-taps
 returns-in_err-fields-clause-taps c =
     let vs = c.args.items.now in
     let l = c.loop-tap in
     let f = c.in_err-fields.field-0.0 in
-    let whole = few-items 32 vs (taps_from [] 0 (items_view vs)) c.if-items-gt-MOST_TAPS.false ∙ l.invariant.taps in
+    let whole = few-items (most_taps c.args.version) vs (taps_from [] 0 (items_view vs)) (omega (arith, c.if-items-most_taps.false, c.most_taps.ensures)) ∙ l.invariant.taps in
     in-err _ _ c.from_residual.result f c.from_residual.ensures.0 c.from_residual.ensures.1
     (subst (λ r. Tells f r) (sym whole)
     (no-tap (names_of l.taps.names.keys) l.tap vs c.index-items-tap.result c.loop-tap-test.true c.index-items-tap.is f (taps_of l.taps) c.in_err-fields.ensures.members))
@@ -31,7 +31,7 @@ returns-in_err-added-clause-taps c =
     let names = names_of l.taps.names.keys in
     let f = c.in_err-added.field-0.0 in
     let fields = c.in_ok-fields.fields in
-    let whole = few-items 32 vs (taps_from [] 0 (items_view vs)) c.if-items-gt-MOST_TAPS.false ∙ l.invariant.taps in
+    let whole = few-items (most_taps c.args.version) vs (taps_from [] 0 (items_view vs)) (omega (arith, c.if-items-most_taps.false, c.most_taps.ensures)) ∙ l.invariant.taps in
     let told = subst (λ at. Tells f (tap_in names at (members fields))) c.in_ok-fields.ensures.section c.in_err-added.ensures.tap in
     in-err _ _ c.from_residual-in_err-added.result f c.from_residual-in_err-added.ensures.0 c.from_residual-in_err-added.ensures.1
     (subst (λ r. Tells f r) (sym whole)
@@ -65,4 +65,4 @@ pub returns-clause-taps : goal.returns-clause-taps
 returns-clause-taps c =
     let vs = c.args.items.now in
     let l = c.loop-tap in
-    few-items 32 vs (taps_from [] 0 (items_view vs)) c.if-items-gt-MOST_TAPS.false ∙ l.invariant.taps ∙ taps-read (names_of l.taps.names.keys) l.tap vs (taps_of l.taps) c.loop-tap-test.false
+    few-items (most_taps c.args.version) vs (taps_from [] 0 (items_view vs)) (omega (arith, c.if-items-most_taps.false, c.most_taps.ensures)) ∙ l.invariant.taps ∙ taps-read (names_of l.taps.names.keys) l.tap vs (taps_of l.taps) c.loop-tap-test.false

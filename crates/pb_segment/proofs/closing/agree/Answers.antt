@@ -2,6 +2,7 @@ use Rattle.std.proofs.Common.{rules, arith, ◌≡◌, ◌+◌, ◌≤◌, ℕ, 
 use Rattle.std.proofs.lemmas.Bool.{false≢true}
 use Rattle.std.specs.Prelude.{slice_get}
 use Rattle.std.proofs.lemmas.Grind.{elements}
+use Rattle.pb_segment.specs.Blocks.{happened_in}
 use Rattle.pb_segment.specs.Histories.{Receipt, StandsFrom, StandInOrder, is_of, told}
 use Rattle.pb_segment.proofs.Standing.{told_in_order, in_order_told, next_stands, left_stand, end_stands, stands_inside}
 use Rattle.pb_segment.proofs.closing.agree.Goals as goal
@@ -10,7 +11,7 @@ use Rattle.pb_segment.proofs.closing.agree.Goals.{then-receipt-events-via-then-r
 pub loop-next-preserved : goal.loop-next-preserved
 loop-next-preserved c =
     let is = is_of c.args.owner in
-    let hs = c.args.history.now.items in
+    let hs = happened_in c.args.history.now in
     let rs = c.args.receipts.now.items in
     let r = c.index-receipt.result.now in
     let from = c.loop-next.from in
@@ -25,7 +26,7 @@ loop-next-preserved c =
 pub returns : goal.returns
 returns c =
     let is = is_of c.args.owner in
-    let hs = c.args.history.now.items in
+    let hs = happened_in c.args.history.now in
     let rs = c.args.receipts.now.items in
     let over : length rs ≤ c.loop-next.next = search rules in
     let many : length rs ≡ length (told is hs) = search rules in
@@ -34,7 +35,7 @@ returns c =
 pub returns-then-receipt-events : goal.returns-then-receipt-events
 returns-then-receipt-events c =
     let is = is_of c.args.owner in
-    let hs = c.args.history.now.items in
+    let hs = happened_in c.args.history.now in
     let rs = c.args.receipts.now.items in
     let r = c.index-receipt.result.now in
     let from = c.loop-next.from in

@@ -1,9 +1,13 @@
-use Rattle.std.proofs.Common.{◌≡◌, map}
-use Rattle.circular_buffer.specs.Buffer.{keep_last}
+use Rattle.std.proofs.Common.{◌≡◌, ◌≤◌, ◌++◌, length, map}
+use Rattle.bstr.specs.Text.{lines_of}
 use Rattle.pb_show.proofs.tails.kept_lines.Given as goal
 
-abbrev pub invariant-loop-line : goal.invariant-loop-line
-invariant-loop-line l = record {
-  items : map (λ line. line.now) l.kept.items ≡ keep_last l.lines (map (λ line. line.now) l.yielded);
-  capacity : l.kept.capacity ≡ l.lines;
+abbrev pub invariant-loop-before : goal.invariant-loop-before
+invariant-loop-before l = record {
+  lines : lines_of l.fn.text ≡ l.before ++ map (λ line. line.now) l.kept.items;
+  capacity : l.kept.capacity ≡ l.fn.lines;
+  room : length l.kept.items ≤ l.fn.lines;
 }
+
+abbrev pub decreases-loop-before : goal.decreases-loop-before
+decreases-loop-before l = length l.before

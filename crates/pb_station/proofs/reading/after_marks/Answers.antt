@@ -1,4 +1,4 @@
-use Rattle.std.proofs.Common.{refl, ◌∙◌, map, arith, ◌≤◌, length}
+use Rattle.std.proofs.Common.{refl, map, arith, ◌≤◌, length}
 use Rattle.pb_tokenfsm.specs.Phases.{phase_of}
 use Rattle.pb_core.specs.Cores.{station_with}
 use Rattle.pb_station.specs.MarkViews.{mark_of}

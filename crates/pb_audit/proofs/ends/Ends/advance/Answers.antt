@@ -1,7 +1,6 @@
-use Rattle.std.proofs.Common.{◌≡◌, ◌∙◌, ap, sym, subst, refl, arith, map, take, ◌++◌, ◌∷◌, [], ◌+◌, ◌<◌, ◌≤◌, ℕ, length}
+use Rattle.std.proofs.Common.{◌≡◌, ◌∙◌, ap, sym, subst, refl, arith, map, take, ◌++◌, ◌∷◌, [], ◌+◌}
 use Rattle.std.proofs.lemmas.List.{length-map}
 use Rattle.pb_turn.specs.Spans.{Span}
-use Rattle.pb_model.specs.Medium.{reaches_taps}
 use Rattle.pb_medium.specs.Entries.{entry_of}
 use Rattle.pb_taps.proofs.Items.{passed-at}
 use Rattle.pb_audit.proofs.Legal.{ends-later, ends-more}
@@ -21,7 +20,7 @@ loop-place-preserved c =
     let more : take (c.loop-place.self.begun + 1) es ≡ take c.loop-place.self.begun es ++ entry_of x ∷ [] = subst (λ n. take (n + 1) es ≡ take n es ++ entry_of x ∷ []) (sym here) passed in
     record {
       here = refl;
-      are = ends-more c.args.delay c.args.moment es (entry_of x) c.loop-place.self (record { begun = place + 1; latest = c.take_on.new.latest }) c.loop-place.invariant.are
-          (ap (λ n. n + 1) (sym here)) c.take_on.array_long (omega (arith, here, long, c.loop-place-test.true)) more
-          (omega (arith, c.if-begin-moment.false, c.begin.ensures, ap (λ (s : Span). s.begin) c.reaches_taps.ensures)) c.take_on.ensures;
+      are = ends-more c.args.delay c.args.moment es (entry_of x) c.loop-place.self (record c.loop-place.self { begun = place + 1; latest = c.take_on.new.latest }) c.loop-place.invariant.are
+          (ap (λ n. n + 1) (sym here)) refl (c.take_on.ensures.size ∙ c.loop-place.invariant.are.size) (omega (arith, here, long, c.loop-place-test.true)) more
+          (omega (arith, c.if-begin-moment.false, c.begin.ensures, ap (λ (s : Span). s.begin) c.reaches_taps.ensures)) c.take_on.ensures.more;
     }

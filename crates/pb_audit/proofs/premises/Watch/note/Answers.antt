@@ -1,9 +1,7 @@
-use Rattle.std.proofs.Common.{◌∙◌, ap, map}
+use Rattle.std.proofs.Common.{◌∙◌, ap}
 use Rattle.std.specs.Option.{option_map}
-use Rattle.pb_theorem.specs.Premises.{has_namesakes}
 use Rattle.pb_bus.specs.Buses.{world_of}
 use Rattle.pb_audit.specs.Premises.{waited_of, number_of, broken_of, watched_of, met_by}
-use Rattle.pb_taps.specs.Taps.{tap_of}
 use Rattle.pb_audit.proofs.Premising.{after-is}
 use Rattle.pb_audit.proofs.premises.Watch.note.Goals as goal
 
@@ -12,7 +10,7 @@ returns-clause-after c = λ w e sees.
     let f = c.args.foresight in
     let bus = c.args.bus.now in
     after-is (watched_of c.args.self.now) w (world_of bus) e (option_map waited_of c.last_waiting-self.result) (option_map broken_of c.broken_or-self.result)
-    c.has_namesakes-namesakes.result f.loses f.late c.is_met-met.result (option_map number_of c.first_premise-premise.result) c.waiting_taps-waiting.result
-    sees.loses sees.late c.waiting_taps-waiting.ensures c.last_waiting-self.ensures
-    (c.is_met-met.ensures ∙ ap (λ d. met_by d bus.now c.waiting_taps-waiting.result (option_map waited_of c.args.self.now.waited)) c.ttd.ensures)
-    (c.has_namesakes-namesakes.ensures ∙ ap (λ xs. has_namesakes (map tap_of xs)) c.deref.ensures.value) c.first_premise-premise.ensures c.broken_or-self.ensures
+    c.args.self.now.namesakes f.loses f.late c.is_met-met.result (option_map number_of c.first_premise-premise.result) c.waiting_now-waiting.result
+    sees.loses sees.late c.waiting_now-waiting.ensures c.last_waiting-self.ensures
+    (c.is_met-met.ensures ∙ ap (λ d. met_by d bus.now c.waiting_now-waiting.result (option_map waited_of c.args.self.now.waited)) c.ttd.ensures)
+    c.requires.knows.namesakes c.first_premise-premise.ensures c.broken_or-self.ensures

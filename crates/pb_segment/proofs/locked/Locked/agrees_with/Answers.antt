@@ -1,4 +1,5 @@
 use Rattle.std.proofs.Common.{IsTrue, subst, refl}
+use Rattle.pb_segment.specs.Blocks.{happened_in}
 use Rattle.pb_segment.specs.Closing.{AgreesWith}
 use Rattle.pb_segment.specs.Locked.{LockedView, view_of}
 use Rattle.pb_segment.specs.Seats.{ConductorView}
@@ -8,7 +9,7 @@ use Rattle.pb_segment.proofs.locked.Locked.agrees_with.Goals as goal
 pub returns : goal.returns
 returns g c =
     let i = c.self.inside in
-    let l = view_of i.world i.origin i.history.items i.turns.items i.drives i.outlooks.items i.limit in
+    let l = view_of i.world i.origin (happened_in i.history) i.turns.items i.drives i.outlooks.items i.limit in
     let o = c.args.origin.now in
     let seats = c.args.seats.now.items in
     let r = c.all_agree.result in

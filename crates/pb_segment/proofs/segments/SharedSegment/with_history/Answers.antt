@@ -1,5 +1,6 @@
 use Rattle.std.proofs.Common.{rules, ◌≡◌, ◌∙◌, ◌+◌, ℕ, ap, sym, [], List, length, replicate}
 use Rattle.std.proofs.lemmas.List.{length-replicate}
+use Rattle.pb_segment.specs.Blocks.{happened_in}
 use Rattle.pb_segment.specs.Origins.{origin_of}
 use Rattle.pb_segment.proofs.Replaying.{kept_new}
 use Rattle.pb_segment.proofs.segments.SharedSegment.with_history.Goals as goal
@@ -8,7 +9,7 @@ pub invariant_of-locked-2 : goal.invariant_of-locked-2
 invariant_of-locked-2 g c =
     let world = c.args.world in
     let turns = c.in_ok-no_turns.field-0.items in
-    let none : c.new.result.items ≡ [] = search rules in
+    let none : happened_in c.new.result ≡ [] = c.new.ensures in
     let none-2 : c.new-2.result.items ≡ [] = search rules in
     let origin : c.in_ok-of.field-0 ≡ origin_of world = c.in_ok-of.ensures in
     let zeros : turns ≡ replicate (length world.taps) 0 = c.in_ok-no_turns.ensures ∙ ap (λ (n : ℕ). replicate n 0) c.taps-taps.ensures in

@@ -1,0 +1,90 @@
+"""What the measurements of the program share: scenario files of the kinds that `world_plain make` makes, and how programs are
+run and timed."""
+
+import collections
+import json
+import os
+import resource
+import subprocess
+import sys
+import time
+
+TOP = os.path.dirname(os.path.dirname(os.path.abspath(__file__)))
+OURS = f"{TOP}/crates/ringplay/out/ringplay"
+BUS = {"tsl": 100, "tid1": 37, "tid2": 60, "tsdr": 11, "lag": 0, "ttr": 10_000, "gap": 10, "hsa": 5, "retries": 1}
+
+# Seconds by the wall's clock, and of processors for all threads.
+Spent = collections.namedtuple("Spent", "wall processor")
+
+
+def build(folder, name):
+    """Builds a plain program of this folder into another, and answers its path."""
+    path = f"{folder}/{name}"
+    subprocess.run(["rustc", "--edition", "2024", "-O", "-o", path, f"{TOP}/bench/{name}.rs"], check=True)
+    return path
+
+
+def build_ours():
+    """'./ringplay' builds the program where a source is newer than it."""
+    if subprocess.run([f"{TOP}/ringplay", "decode"], stdin=subprocess.DEVNULL).returncode != 0:
+        sys.exit("bench: no program to measure")
+
+
+def output(program, data=b"", *before):
+    """What a program prints; stops where it fails."""
+    done = subprocess.run([*before, *program], input=data, stdout=subprocess.PIPE, stderr=subprocess.PIPE)
+    if done.returncode not in (0, 1):
+        sys.exit(f"bench: {program} ended with {done.returncode}: {done.stderr[-500:].decode()}")
+    return done.stdout, done.stderr
+
+
+def processor_time():
+    """What all programs that have ended have taken."""
+    used = resource.getrusage(resource.RUSAGE_CHILDREN)
+    return used.ru_utime + used.ru_stime
+
+
+def timed(program, data=b""):
+    """What a program takes."""
+    before, began = processor_time(), time.perf_counter()
+    output(program, data)
+    return Spent(time.perf_counter() - began, processor_time() - before)
+
+
+def step(now, event):
+    """What an event is as a step of a scenario, or None for turns and time."""
+    if "Start" in event:
+        return f'{{ at = {now}, do = "start", tap = "t{event["Start"]}" }}'
+    if "Queue" in event:
+        q = event["Queue"]
+        high = "true" if q["high"] else "false"
+        asks = f'service = "{q["service"]}", to = {q["da"]}, high = {high}, unit = "{q.get("unit", "")}"'
+        return f'{{ at = {now}, do = "queue", tap = "t{q["tap"]}", {asks} }}'
+    return None
+
+
+def scenario(data, until):
+    """The scenario file of a list of events: its starts and requests become steps."""
+    now, steps = 0, []
+    for event in data["events"]:
+        if "Pass" in event:
+            now += event["Pass"]
+        elif line := step(now, event):
+            steps.append(line)
+    bus = BUS | {key: value for key, value in data.get("bus", {}).items() if key in BUS}
+    taps = [
+        f'{{ name = "t{place}", kind = "{tap["kind"]}", address = {tap["address"]}, reply = "{tap.get("reply", "")}" }}'
+        for place, tap in enumerate(data["taps"])
+    ]
+    written = ", ".join(f"{key} = {value}" for key, value in bus.items())
+    tables = f"bus = {{ {written} }}\ntap = [{', '.join(taps)}]\nstep = [{', '.join(steps)}]\n"
+    return f"version = 1\nuntil = {until}\n{tables}"
+
+
+def make(plain, folder, kind, until):
+    """The event list of a kind as `world_plain` makes it, and the path of the scenario file whose run it is."""
+    made = output([plain, "make", kind, str(until)])[0]
+    path = f"{folder}/{kind}-{until}.toml"
+    with open(path, "w", encoding="utf-8") as file:
+        file.write(scenario(json.loads(made), until))
+    return made, path

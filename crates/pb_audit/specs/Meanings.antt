@@ -1,0 +1,19 @@
+-- What a telegram says, as far as it matters who may send it.
+use Rattle.std.specs.Prelude.{if◌then◌else◌}
+use Rattle.pb_messages.specs.Messages.{has_bit}
+use Rattle.pb_turn.specs.Arrivals.{Arrival, Token, Framed, Acknowledgement, NoTelegram}
+use Rattle.pb_model.specs.Trace.{Entry, Sent, Noise}
+use Rattle.pb_theorem.specs.Initiators.{telegram_of}
+use Rattle.pb_audit.specs.declared.initiators.Meaning.{Meaning}
+use Rattle.pb_audit.specs.declared.initiators.Meaning.TheVariants as meaning
+
+abbrev pub meaning_of : Arrival → Meaning
+meaning_of (Token da sa) = meaning.Token da sa
+meaning_of (Framed f) = if has_bit f.fc 6 then meaning.Request else meaning.Other
+meaning_of Acknowledgement = meaning.Other
+meaning_of NoTelegram = meaning.Other
+
+-- noise says nothing
+abbrev pub meaning_in : Entry → Meaning
+meaning_in (Noise span) = meaning.Other
+meaning_in (Sent r) = meaning_of (telegram_of r)

@@ -1,0 +1,17 @@
+ghost use Rattle.std.specs.Prelude.{◌≡◌};
+ghost use Rattle.pb_theorem.specs.Initiators.{telegram_of};
+ghost use Rattle.pb_medium.specs.Entries.{record_of};
+ghost use Rattle.pb_audit.specs.Meanings.{meaning_of};
+
+use crate::initiators::Meaning;
+use pb_medium::Record;
+
+/// The last initiator record before an entry.
+#[derive(Clone, Copy, Debug)]
+pub(crate) struct LastInitiator<'a> {
+    pub(crate) telegram: &'a Record,
+    pub(crate) meaning: Meaning,
+    /// Whether nothing was active at its speaker in the slot behind it so far.
+    pub(crate) silent: bool,
+    ghost means: { meaning ≡ meaning_of (telegram_of (record_of telegram.now)) },
+}

@@ -1,0 +1,96 @@
+use pb_cycles::Request;
+use std::alloc::{AllocError, Global};
+use std::marker::Model;
+
+/// How many requests of a priority wait at a station at most.
+const REQUEST_LIMIT: usize = 16;
+
+/// The requests of a priority that wait at a station, first in first out, with room for all that may wait. The room is not
+/// filled, so that a copy moves the requests that wait and nothing else.
+#[derive(Debug, Drop)]
+pub struct RequestList {
+    requests: Vec<Request>,
+}
+
+impl Model for RequestList {
+    ghost use Rattle.std.specs.Prelude.{◌≤◌, List, length};
+    ghost use Rattle.std.specs.Vec.{vec_capacity};
+    ghost use Rattle.pb_messages.specs.RequestFields.{RequestFields};
+
+    ghost Value = { List RequestFields };
+
+    ghost view = { λ l. l.requests.items };
+
+    ghost invariant = { λ l. (16 ≤ vec_capacity l.requests) × (length l.requests.items ≤ 16) };
+}
+
+impl RequestList {
+    ghost use Rattle.std.specs.Prelude.{◌≡◌, ◌≤◌, ◌<◌, [], ◌∷◌, nat_le, length, IfOk, OnOk, OnErr, MatchOption, MatchResult};
+    ghost use Rattle.pb_messages.specs.Queued.{put};
+
+    /// None waits. Its fault: memory was refused.
+    pub fn new(alloc: Global) -> Result<RequestList, AllocError>
+        ensures { IfOk result (λ l. l ≡ []) }
+    {
+        let requests = Vec::with_capacity(alloc, REQUEST_LIMIT)?;
+        Ok(RequestList { requests })
+    }
+
+    /// The same requests. Its fault: memory was refused.
+    pub fn copy(&self, alloc: Global) -> Result<RequestList, AllocError>
+        ensures { IfOk result (λ l. l ≡ self.now) }
+    {
+        let mut requests = Vec::with_capacity(alloc, REQUEST_LIMIT)?;
+        for request in &self.requests {
+            requests.push_reserved(request.copy());
+        }
+        Ok(RequestList { requests })
+    }
+
+    /// They all, the one that has waited longest first.
+    pub fn requests(&self) -> &[Request]
+        ensures value { result.now ≡ self.now }
+        ensures fits { length result.now ≤ 16 }
+    {
+        &self.requests
+    }
+
+    /// Whether as many wait as may wait.
+    pub fn is_full(&self) -> bool
+        ensures { result ≡ nat_le 16 (length self.now) }
+    {
+        self.requests.len() >= REQUEST_LIMIT
+    }
+
+    /// Puts a request behind the others, or hands it back where 16 wait.
+    pub fn push(&mut self, request: Request) -> Result<(), Request>
+        ensures outcome { MatchResult result (λ _. self.new ≡ put self.old request)
+            (λ refused. (refused ≡ request) × (self.new ≡ self.old)) }
+        ensures room { OnOk result (length self.old < 16) }
+        ensures full { OnErr result (length self.old ≡ 16) }
+    {
+        if self.is_full() {
+            return Err(request);
+        }
+        self.requests.push_reserved(request);
+        Ok(())
+    }
+
+    /// Takes the request that has waited longest, if one waits.
+    pub fn take(&mut self) -> Option<Request>
+        ensures { MatchOption result ((self.old ≡ []) × (self.new ≡ self.old))
+            (λ request. self.old ≡ request ∷ self.new) }
+    {
+        if self.requests.is_empty() {
+            return None;
+        }
+        Some(self.requests.remove(0))
+    }
+
+    /// None waits any more.
+    pub fn clear(&mut self)
+        ensures { self.new ≡ [] }
+    {
+        self.requests.clear();
+    }
+}

@@ -1,0 +1,326 @@
+//! How turns are offered, and how conductor and workers wait for one another.
+
+use pb_segment::TapSeat;
+use std::alloc::{AllocError, Global};
+use std::hint::spin_loop;
+use std::sync::atomic::{AtomicBool, AtomicU64, AtomicUsize, Ordering};
+use std::sync::ledger::Ledger;
+use std::sync::{Mutex, Wait};
+use std::thread::Parker;
+
+/// How often one looks whether it may go on before it sleeps: a few microseconds, less than a wake-up takes.
+const LOOKS: u32 = 100;
+
+/// The most offers of a run: a history has no more events.
+pub(crate) const MOST_OFFERS: u64 = 1_000_000;
+
+/// No number of an offer.
+const NONE: u64 = u64::MAX;
+
+/// The offers of a run, each a moment and a tap whose turn it is, numbered from 0 on. Those of an instant are
+/// published together, and an offer lends the seat of its tap.
+#[derive(Drop)]
+pub(crate) struct Pool<L: Ledger> {
+    /// The seat of each tap.
+    seats: Vec<Mutex<TapSeat<L>>>,
+    /// The taps of the instant's offers, in their order.
+    taps: Vec<AtomicUsize>,
+    /// The instant, in bit times.
+    now: AtomicU64,
+    /// The number of the instant's first offer.
+    first: AtomicU64,
+    /// How many offers were published so far.
+    published: AtomicU64,
+    /// How many numbers were drawn so far, for one who only looks.
+    drawn: AtomicU64,
+    /// How many of the instant's offers are not served yet.
+    open: AtomicUsize,
+    /// How many of the crew ask the gate.
+    at_gate: AtomicUsize,
+    /// Whether an offer was served with a fault.
+    failed: AtomicBool,
+    /// Whether no offers come any more.
+    ended: AtomicBool,
+    conductor: Parker,
+    /// Where the helpers wait.
+    beds: Vec<Bed>,
+    /// How many of them wait for any offer.
+    idle: AtomicUsize,
+    /// How many of them wait for the offer whose number they have drawn.
+    holding: AtomicUsize,
+}
+
+/// Where a helper waits.
+#[derive(Drop)]
+struct Bed {
+    helper: Parker,
+    /// Whether it waits for any offer, and nobody has woken it yet.
+    is_idle: AtomicBool,
+    /// The number of the one offer that it waits for, or `NONE`.
+    number: AtomicU64,
+}
+
+impl Bed {
+    fn new() -> Bed {
+        Bed {
+            helper: Parker::new(),
+            is_idle: AtomicBool::new(false),
+            number: AtomicU64::new(NONE),
+        }
+    }
+}
+
+/// An offer: whose turn it is, at which moment.
+#[derive(Clone, Copy, Debug)]
+pub(crate) struct Offer {
+    /// The moment, in bit times.
+    pub(crate) now: u64,
+    /// The tap, counted from 0.
+    pub(crate) tap: usize,
+}
+
+impl<L: Ledger> Pool<L> {
+    /// No offers yet, of turns of the taps of some seats, for so many helpers. Its fault: memory was refused.
+    pub(crate) fn new(
+        alloc: Global,
+        seats: Vec<TapSeat<L>>,
+        helpers: usize,
+    ) -> Result<Pool<L>, AllocError> {
+        let mut taps = Vec::with_capacity(alloc, seats.len())?;
+        let mut lent = Vec::with_capacity(alloc, seats.len())?;
+        for seat in seats {
+            taps.push(AtomicUsize::new(0))?;
+            lent.push(Mutex::new(seat))?;
+        }
+        let mut beds = Vec::with_capacity(alloc, helpers)?;
+        for _ in 0..helpers {
+            beds.push(Bed::new())?;
+        }
+        Ok(Pool {
+            seats: lent,
+            taps,
+            now: AtomicU64::new(0),
+            first: AtomicU64::new(0),
+            published: AtomicU64::new(0),
+            drawn: AtomicU64::new(0),
+            open: AtomicUsize::new(0),
+            at_gate: AtomicUsize::new(0),
+            failed: AtomicBool::new(false),
+            ended: AtomicBool::new(false),
+            conductor: Parker::new(),
+            beds,
+            idle: AtomicUsize::new(0),
+            holding: AtomicUsize::new(0),
+        })
+    }
+
+    /// Offers the turns of some taps at a moment, all together, once all offers before were served. False where a run
+    /// can't have so many offers; then it does nothing.
+    pub(crate) fn publish(&self, now: u64, turns: &[usize]) -> bool {
+        let first = self.published.load(Ordering::SeqCst);
+        let published = first.saturating_add(turns.len() as u64);
+        if published > MOST_OFFERS {
+            return false;
+        }
+        for (place, tap) in self.taps.iter().zip(turns) {
+            place.store(*tap, Ordering::SeqCst);
+        }
+        self.now.store(now, Ordering::SeqCst);
+        self.first.store(first, Ordering::SeqCst);
+        self.open.store(turns.len(), Ordering::SeqCst);
+        self.published.store(published, Ordering::SeqCst);
+        self.wake_holders(published);
+        true
+    }
+
+    /// The offer with a number that was published.
+    pub(crate) fn offer(&self, number: u64) -> Option<Offer> {
+        let place = number.saturating_sub(self.first.load(Ordering::SeqCst));
+        let tap = self.taps.get(place as usize)?;
+        Some(Offer {
+            now: self.now.load(Ordering::SeqCst),
+            tap: tap.load(Ordering::SeqCst),
+        })
+    }
+
+    /// The seat of a tap.
+    pub(crate) fn seat(&self, tap: usize) -> Option<&Mutex<TapSeat<L>>> {
+        self.seats.get(tap)
+    }
+
+    /// A number was drawn.
+    pub(crate) fn note_drawn(&self) {
+        self.drawn.fetch_add(1, Ordering::SeqCst);
+    }
+
+    /// Whether an offer was published whose number nobody has drawn yet.
+    pub(crate) fn has_more(&self) -> bool {
+        self.drawn.load(Ordering::SeqCst) < self.published.load(Ordering::SeqCst)
+    }
+
+    /// One of the crew asks the gate, which may hold it. Where all who are awake do, and there are more offers, it
+    /// wakes a helper.
+    pub(crate) fn enters_gate(&self) {
+        let held = self
+            .at_gate
+            .fetch_add(1, Ordering::SeqCst)
+            .saturating_add(1);
+        if held >= self.awake() && self.has_more() {
+            self.wake_one();
+        }
+    }
+
+    /// The gate has answered.
+    pub(crate) fn leaves_gate(&self) {
+        self.at_gate.fetch_sub(1, Ordering::SeqCst);
+    }
+
+    /// Whether the offer with a number was published.
+    pub(crate) fn is_published(&self, number: u64) -> bool {
+        number < self.published.load(Ordering::SeqCst)
+    }
+
+    /// An offer was served, perhaps with a fault.
+    pub(crate) fn served(&self, failed: bool) {
+        if failed {
+            self.failed.store(true, Ordering::SeqCst);
+        }
+        if self.open.fetch_sub(1, Ordering::SeqCst) == 1 {
+            self.conductor.unpark();
+        }
+    }
+
+    /// The conductor waits until all offers of the instant were served. False where one was with a fault.
+    pub(crate) fn wait_until_served<R: Wait>(&self, rt: &R) -> bool {
+        for _ in 0..LOOKS {
+            if self.is_served() {
+                break;
+            }
+            spin_loop();
+        }
+        for _ in rt.forever() {
+            if self.is_served() {
+                break;
+            }
+            self.conductor.park(rt);
+        }
+        !self.failed.load(Ordering::SeqCst)
+    }
+
+    fn is_served(&self) -> bool {
+        self.open.load(Ordering::SeqCst) == 0
+    }
+
+    /// A helper waits until there is an offer whose number nobody has drawn. False once no offers come any more.
+    pub(crate) fn wait_for_any<R: Wait>(&self, rt: &R, helper: usize) -> bool {
+        let Some(bed) = self.beds.get(helper) else {
+            return false;
+        };
+        for _ in 0..LOOKS {
+            if self.has_more() || self.has_ended() {
+                break;
+            }
+            spin_loop();
+        }
+        for _ in rt.forever() {
+            if self.has_ended() {
+                return false;
+            }
+            if self.has_more() {
+                return true;
+            }
+            self.idle.fetch_add(1, Ordering::SeqCst);
+            bed.is_idle.store(true, Ordering::SeqCst);
+            if !self.has_more() && !self.has_ended() {
+                bed.helper.park(rt);
+            }
+            self.takes_back(bed);
+        }
+        unreachable!()
+    }
+
+    /// A helper waits until the offer with the number that it has drawn was published. False once no offers come any
+    /// more.
+    pub(crate) fn wait_for<R: Wait>(&self, rt: &R, helper: usize, number: u64) -> bool {
+        if self.is_published(number) {
+            return true;
+        }
+        let Some(bed) = self.beds.get(helper) else {
+            return false;
+        };
+        self.holding.fetch_add(1, Ordering::SeqCst);
+        bed.number.store(number, Ordering::SeqCst);
+        for _ in rt.forever() {
+            if self.is_published(number) || self.has_ended() {
+                break;
+            }
+            bed.helper.park(rt);
+        }
+        bed.number.store(NONE, Ordering::SeqCst);
+        self.holding.fetch_sub(1, Ordering::SeqCst);
+        self.is_published(number)
+    }
+
+    /// Sends all helpers home: no offers come any more.
+    pub(crate) fn end(&self) {
+        self.ended.store(true, Ordering::SeqCst);
+        for bed in &self.beds {
+            bed.helper.unpark();
+        }
+    }
+
+    /// The seats of all taps, in their order. Its fault: memory was refused.
+    pub(crate) fn into_seats(self, alloc: Global) -> Result<Vec<TapSeat<L>>, AllocError> {
+        let mut seats = Vec::with_capacity(alloc, self.seats.len())?;
+        for seat in self.seats {
+            seats.push(seat.into_inner())?;
+        }
+        Ok(seats)
+    }
+
+    /// How many of the crew don't wait for an offer.
+    fn awake(&self) -> usize {
+        let crew = self.beds.len().saturating_add(1);
+        crew.saturating_sub(self.idle.load(Ordering::SeqCst))
+            .saturating_sub(self.holding.load(Ordering::SeqCst))
+    }
+
+    /// Whether no offers come any more.
+    fn has_ended(&self) -> bool {
+        self.ended.load(Ordering::SeqCst)
+    }
+
+    /// Wakes a helper that waits for any offer, if there is one.
+    fn wake_one(&self) {
+        if self.idle.load(Ordering::SeqCst) == 0 {
+            return;
+        }
+        for bed in &self.beds {
+            if bed.is_idle.load(Ordering::SeqCst) && self.takes_back(bed) {
+                bed.helper.unpark();
+                return;
+            }
+        }
+    }
+
+    /// A helper doesn't wait for any offer any more. False where somebody has said so before.
+    fn takes_back(&self, bed: &Bed) -> bool {
+        let was_idle = bed.is_idle.swap(false, Ordering::SeqCst);
+        if was_idle {
+            self.idle.fetch_sub(1, Ordering::SeqCst);
+        }
+        was_idle
+    }
+
+    /// Wakes the helpers that wait for an offer of their own among those that were published.
+    fn wake_holders(&self, published: u64) {
+        if self.holding.load(Ordering::SeqCst) == 0 {
+            return;
+        }
+        for bed in &self.beds {
+            if bed.number.load(Ordering::SeqCst) < published {
+                bed.helper.unpark();
+            }
+        }
+    }
+}

@@ -1,0 +1,135 @@
+use crate::entries::Heard;
+use crate::tap_sets::TapSet;
+use std::marker::Model;
+
+/// How a telegram reached each tap of a bus, as a list of `Heard`: kept in sets of taps, so that it is small on a bus
+/// of any size.
+#[derive(Debug, Drop)]
+pub struct Reception {
+    /// How many taps there are.
+    taps: usize,
+    /// The tap that sent it.
+    speaker: usize,
+    /// Taps to which it came whole.
+    whole: TapSet,
+    /// Taps to which it came damaged.
+    damaged: TapSet,
+    /// Taps to which it never came.
+    unheard: TapSet,
+}
+
+impl Model for Reception {
+    ghost use Rattle.std.specs.Prelude.{List, ◌≤◌};
+    ghost use Rattle.pb_model.specs.Trace.{Heard};
+    ghost use Rattle.pb_medium.specs.Receptions.{heard_list};
+
+    ghost Value = { List Heard };
+
+    ghost view = { heard_list };
+
+    ghost invariant = { λ r. r.taps ≤ 127 };
+}
+
+impl Reception {
+    ghost use Rattle.std.specs.Prelude.{◌≡◌, ◌≤◌, ◌<◌, List, get_or, length, slice_get, slice_set, Some};
+    ghost use Rattle.std.specs.Option.{option_map};
+    ghost use Rattle.pb_model.specs.Medium as model;
+    ghost use Rattle.pb_model.specs.Trace as trace;
+    ghost use Rattle.pb_model.specs.World.{tap_limit};
+    ghost use Rattle.pb_medium.specs.Entries.{heard_of};
+
+    /// What a telegram that has just begun is to so many taps: own to its speaker, pending to the others.
+    pub(crate) fn at_first(speaker: usize, taps: usize) -> Reception
+        requires { taps ≤ tap_limit }
+        ensures { (ts : List model.Tap) → length ts ≡ taps → result ≡ trace.heard_at_first speaker 0 ts }
+    {
+        Reception {
+            taps,
+            speaker,
+            whole: TapSet::none(),
+            damaged: TapSet::none(),
+            unheard: TapSet::none(),
+        }
+    }
+
+    /// How many taps there are.
+    pub fn len(&self) -> usize
+        ensures { result ≡ length self.now }
+    {
+        self.taps
+    }
+
+    /// How it reached a tap, if there is one.
+    pub fn get(&self, tap: usize) -> Option<Heard>
+        ensures { option_map heard_of result ≡ slice_get self.now tap }
+    {
+        if tap < self.taps {
+            Some(self.at(tap))
+        } else {
+            None
+        }
+    }
+
+    /// How it reached one of the taps.
+    pub fn at(&self, tap: usize) -> Heard
+        requires { tap < length self.now }
+        ensures { slice_get self.now tap ≡ Some (heard_of result) }
+    {
+        if self.unheard.contains(tap) {
+            Heard::Unheard
+        } else if tap == self.speaker {
+            Heard::Own
+        } else if self.whole.contains(tap) {
+            Heard::Whole
+        } else if self.damaged.contains(tap) {
+            Heard::Damaged
+        } else {
+            Heard::Pending
+        }
+    }
+
+    /// Whether it never comes to a tap.
+    pub(crate) fn is_unheard(&self, tap: usize) -> bool
+        ensures { result ≡ model.is_unheard (slice_get self.now tap) }
+    {
+        if self.unheard.is_empty() {
+            return false;
+        }
+        tap < self.taps && self.unheard.contains(tap)
+    }
+
+    /// It never comes to a tap, if there is one.
+    pub(crate) fn lose(&mut self, tap: usize)
+        ensures { self.new ≡ slice_set self.old tap trace.Unheard }
+    {
+        if tap < self.taps {
+            self.unheard.insert(tap);
+        }
+    }
+
+    /// To a tap to which it was pending it came whole or damaged.
+    pub(crate) fn settle(&mut self, tap: usize, whole: bool)
+        requires { tap < length self.old }
+        ensures { self.new
+            ≡ slice_set self.old tap (model.heard_in_the_end whole (get_or self.old tap trace.Pending)) }
+    {
+        if !whole {
+            self.damaged.insert(tap);
+        } else if !self.damaged.contains(tap) {
+            self.whole.insert(tap);
+        }
+    }
+
+    /// An equal one.
+    pub(crate) fn copy(&self) -> Reception
+        ensures { result ≡ self.now }
+    {
+        Reception {
+            taps: self.taps,
+            speaker: self.speaker,
+            whole: self.whole,
+            damaged: self.damaged,
+            unheard: self.unheard,
+        }
+    }
+}

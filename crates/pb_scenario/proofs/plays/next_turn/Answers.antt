@@ -1,0 +1,24 @@
+-- One tap more is looked at.
+use Rattle.std.proofs.Common.{◌<◌, ◌∙◌, length, ap, arith}
+use Rattle.pb_turn.specs.Stations.{earlier}
+use Rattle.pb_runs.specs.Runs.{comes}
+use Rattle.pb_bus.specs.Worlds.{due_at}
+use Rattle.pb_plan.specs.Walks.{plan_in}
+use Rattle.pb_scenario.proofs.Moving.{sooner-all, sooner-more}
+use Rattle.pb_scenario.proofs.plays.next_turn.Goals as goal
+
+pub loop-tap-preserved : goal.loop-tap-preserved
+loop-tap-preserved g c =
+    let walk = c.args.walk.now in
+    let w = (g.S.Stage.view c.args.stage.now).world in
+    let tap = c.loop-tap.tap in
+    let there : tap < length w.taps = omega (arith, c.loop-tap-test.true, c.taps-tap-end.ensures, c.requires.taps) in
+    let due = c.due.ensures ∙ ap (λ x. due_at x tap) c.bus.ensures.world in
+    sooner-more (plan_in walk) walk.clock w tap c.loop-tap.first c.sooner-first.result _ there
+    (c.sooner-first.ensures ∙ ap (λ d. earlier c.loop-tap.first (comes (plan_in walk) walk.clock tap d)) due) c.loop-tap.invariant
+
+pub returns : goal.returns
+returns g c =
+    let walk = c.args.walk.now in
+    sooner-all (plan_in walk) walk.clock (g.S.Stage.view c.args.stage.now).world c.loop-tap.tap c.loop-tap.first _
+    (omega (arith, c.loop-tap-test.false, c.taps-tap-end.ensures, c.requires.taps)) c.loop-tap.invariant

@@ -1,0 +1,7 @@
+-- The taps so far have turned that want to.
+use Rattle.pb_plan.specs.Walks.{plan_in}
+use Rattle.pb_scenario.proofs.Moving.{HaveTurned}
+use Rattle.pb_scenario.proofs.plays.play_turns.Given as goal
+
+abbrev pub invariant-loop-tap : goal.invariant-loop-tap
+invariant-loop-tap g l = HaveTurned (plan_in l.walk) l.now l.walk.clock l.tap (g.S.Stage.view l.initial.stage) (g.S.Stage.view l.stage)

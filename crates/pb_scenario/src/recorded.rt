@@ -1,0 +1,44 @@
+ghost use Rattle.std.specs.Prelude.{◌≡◌, []};
+
+use crate::stages::Stage;
+use pb_bus::Bus;
+use pb_taps::{Event, WorldFault};
+use std::alloc::Global;
+
+/// A bus, and the events that it has taken.
+#[derive(Drop)]
+pub(crate) struct Recorded {
+    pub(crate) bus: Bus,
+    pub(crate) events: Vec<Event>,
+}
+
+impl Recorded {
+    /// A bus that has taken no events yet.
+    pub(crate) fn new(alloc: Global, bus: Bus) -> Recorded
+        ensures bus { result.bus ≡ bus }
+        ensures events { result.events.items ≡ [] }
+    {
+        Recorded {
+            bus,
+            events: Vec::new(alloc),
+        }
+    }
+}
+
+impl Stage for Recorded {
+    ghost use Rattle.pb_scenario.specs.Recording.{recorded_view};
+
+    ghost view = { recorded_view };
+
+    fn apply(&mut self, alloc: Global, event: &Event) -> Result<(), WorldFault> {
+        self.bus.apply(alloc, event)?;
+        match self.events.push(event.copy()) {
+            Ok(()) => Ok(()),
+            Err(_) => Err(WorldFault::NoMemory),
+        }
+    }
+
+    fn bus(&self) -> &Bus {
+        &self.bus
+    }
+}

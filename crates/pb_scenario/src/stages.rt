@@ -1,0 +1,40 @@
+ghost use Rattle.std.specs.Prelude.{◌≡◌};
+ghost use Rattle.pb_bus.specs.Buses.{world_of, IsKept};
+ghost use Rattle.pb_taps.specs.Events.{event_of};
+ghost use Rattle.pb_scenario.specs.Stages.{StageView, IsReady, Takes};
+
+use pb_audit::Watched;
+use pb_bus::Bus;
+use pb_taps::{Event, WorldFault};
+use std::alloc::Global;
+
+/// What the events of a scenario's run happen on, one after another.
+pub(crate) trait Stage {
+    /// Its world, and from where and by which events it has come there.
+    ghost view: { Self → StageView };
+
+    /// Does an event. Its fault: that of the event on a bus, or that memory was refused.
+    fn apply(&mut self, alloc: Global, event: &Event) -> Result<(), WorldFault>
+        requires { IsReady (view self.old) }
+        ensures { Takes (view self.old) (event_of event.now) result (view self.new) };
+
+    /// The bus.
+    fn bus(&self) -> &Bus
+        requires { IsReady (view self.now) }
+        ensures kept { IsKept result.now }
+        ensures world { world_of result.now ≡ (view self.entry.now).world };
+}
+
+impl Stage for Watched {
+    ghost use Rattle.pb_scenario.specs.Watching.{watched_view};
+
+    ghost view = { watched_view };
+
+    fn apply(&mut self, alloc: Global, event: &Event) -> Result<(), WorldFault> {
+        self.follow(alloc, event)
+    }
+
+    fn bus(&self) -> &Bus {
+        self.bus()
+    }
+}

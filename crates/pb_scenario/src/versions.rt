@@ -1,0 +1,79 @@
+ghost use Rattle.std.specs.Prelude.{◌≡◌, IfOk};
+ghost use Rattle.pb_scenario.specs.Fields.{Answers};
+ghost use Rattle.pb_scenario.specs.Files as files;
+ghost use Rattle.pb_scenario.specs.Tables.{members};
+
+use crate::faults::ScenarioFault;
+use crate::fields::Fields;
+use crate::keys::Key;
+
+/// What a file of a version may say of its bus.
+#[derive(Clone, Copy, Debug, PartialEq, Eq)]
+pub(crate) enum Version {
+    /// 1: a bus without a cable delay, and with 32 taps at most.
+    Undelayed,
+    /// 2: a bus with a cable delay, and with 127 taps at most.
+    Delayed,
+}
+
+const UNDELAYED_KEYS: [Key; 9] = [
+    Key::Tsl,
+    Key::Tid1,
+    Key::Tid2,
+    Key::Tsdr,
+    Key::Lag,
+    Key::Ttr,
+    Key::Gap,
+    Key::Hsa,
+    Key::Retries,
+];
+
+const DELAYED_KEYS: [Key; 10] = [
+    Key::Tsl,
+    Key::Tid1,
+    Key::Tid2,
+    Key::Tsdr,
+    Key::Lag,
+    Key::Ttr,
+    Key::Gap,
+    Key::Hsa,
+    Key::Retries,
+    Key::Ttd,
+];
+
+/// The version of a file.
+pub(crate) fn version_in(top: Fields<'_>) -> Result<Version, ScenarioFault>
+    ensures { Answers (λ v. v) result (files.version_in top.entry.section (members top.entry)) }
+{
+    match top.integer(Key::Version)? {
+        1 => Ok(Version::Undelayed),
+        2 => Ok(Version::Delayed),
+        _ => Err(ScenarioFault::BadVersion),
+    }
+}
+
+impl Version {
+    ghost use Rattle.std.specs.Prelude.{◌≡◌};
+    ghost use Rattle.pb_scenario.specs.Files.{most_taps};
+    ghost use Rattle.pb_scenario.specs.Keys.{bus_keys};
+
+    /// The keys that the table of the bus has.
+    pub(crate) fn bus_keys(self) -> &'static [Key]
+        ensures { result.now ≡ bus_keys self }
+    {
+        match self {
+            Version::Undelayed => &UNDELAYED_KEYS,
+            Version::Delayed => &DELAYED_KEYS,
+        }
+    }
+
+    /// How many taps a bus may have.
+    pub(crate) fn most_taps(self) -> usize
+        ensures { result ≡ most_taps self }
+    {
+        match self {
+            Version::Undelayed => 32,
+            Version::Delayed => 127,
+        }
+    }
+}
