@@ -1,3 +1,1 @@
 mod Streamed
-mod Pairs
-mod SpelledText

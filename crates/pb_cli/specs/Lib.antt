@@ -1,9 +1,7 @@
 pub mod Asking
-pub mod Characters
 pub mod Counted
 pub mod Counts
-pub mod Decoding
 pub mod Playing
 pub mod Reading
-pub mod Texts
+pub mod Statuses
 pub mod Writing

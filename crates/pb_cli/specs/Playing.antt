@@ -3,7 +3,7 @@ use Rattle.std.specs.Prelude.{◌≡◌, ℕ, List, Option, ◌≤◌, IfSome}
 use Rattle.std.specs.Io.KnownBytes.{Appends}
 use Rattle.pb_show.specs.Shown.{Shown}
 use Rattle.pb_show.specs.Plays.{IsRunOf}
-use Rattle.pb_cli.specs.Decoding.{status_of}
+use Rattle.pb_cli.specs.Statuses.{status_of}
 use Rattle.pb_cli.specs.Writing.{AppendsFront}
 use Rattle.pb_cli.specs.declared.faults.Status.{Status}
 

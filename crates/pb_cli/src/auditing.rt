@@ -1,7 +1,7 @@
 ghost use Rattle.std.specs.Prelude.{◌≡◌, ◌≢◌, ◌≤◌, ◌<◌, ◌+◌, length, Err, IfOk, IfErr, OnOk, IfSome, IsErrOf};
 ghost use Rattle.std.specs.Io.KnownBytes.{Appends, Keeps};
 ghost use Rattle.pb_show.specs.Files.{audit_of};
-ghost use Rattle.pb_cli.specs.Decoding.{status_of};
+ghost use Rattle.pb_cli.specs.Statuses.{status_of};
 ghost use Rattle.pb_cli.specs.Reading.{byte_limit, call_limit, IsReadCause};
 ghost use Rattle.pb_cli.specs.Writing.{AppendsFront, IsWriteCause};
 

@@ -1,14 +1,15 @@
 ghost use Rattle.std.specs.Prelude.{◌≡◌, ◌≢◌, ◌≤◌, ◌<◌, ◌+◌, length, Err, IfOk, IfErr, OnOk, IfSome, IsErrOf};
 ghost use Rattle.std.specs.Io.KnownBytes.{Appends, Keeps};
-ghost use Rattle.pb_cli.specs.Decoding.{output_of, refuses, status_of};
+ghost use Rattle.pb_decode.specs.Decoding.{output_of, refuses};
+ghost use Rattle.pb_cli.specs.Statuses.{status_of};
 ghost use Rattle.pb_cli.specs.Reading.{byte_limit, call_limit, IsReadCause};
 ghost use Rattle.pb_cli.specs.Writing.{AppendsFront, IsWriteCause};
 
 use crate::faults::{CliFault, Status};
-use crate::lines::decode;
 use crate::reading::read_input;
 use crate::streams::{Sink, Source};
 use crate::writing::write_out;
+use pb_decode::decode;
 use std::alloc::Global;
 
 /// Reads lines of hex to the end of the reader, and writes a line of text for each: the telegram

@@ -10,17 +10,13 @@
 mod answers;
 mod asking;
 mod auditing;
-mod characters;
 mod counted_reader;
 mod counted_writer;
 mod decoding;
 mod faults;
-mod laws;
-mod lines;
 mod playing;
 mod reading;
 mod streams;
-mod texts;
 mod words;
 mod writing;
 
@@ -30,7 +26,6 @@ pub use counted_reader::CountedReader;
 pub use counted_writer::CountedWriter;
 pub use decoding::decode_lines;
 pub use faults::{CliFault, Status};
-pub use laws::spelled_text_is_the_telegrams;
 pub use playing::play;
 pub use streams::{ReadFault, Sink, Source, WriteFault};
 pub use words::{Ask, AskFault};

@@ -1,4 +1,3 @@
-mod changed_octets;
 mod decoding;
 mod memory;
 mod streams;

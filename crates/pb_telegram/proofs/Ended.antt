@@ -373,3 +373,17 @@ bad_fault r chars place s some bad =
   where
     faulty : (chars : List RxChar) (place : ℕ) → 0 < length chars → place_of_bad chars ≡ Some place → fault_of chars ≡ Some (Faulty place)
     faulty chars place enough at = rw at (grind (arith, nat_tests))
+
+-- ---- a short acknowledgement
+
+pub acknowledged : (r : Received) (chars : List RxChar) → StandsFor r chars → r.fed ≡ 1 → r.bad ≡ None → r.start ≡ sc → Spells chars Ack
+acknowledged r chars s one good start =
+    spells_from_octets chars (spelling Ack) (sym s.bad ∙ good) (one_octet (octets chars) sc (sym s.octets.fed ∙ one) (sym s.octets.start ∙ start))
+
+pub one_acknowledgement : (r : Received) (chars : List RxChar) → StandsFor r chars → Spells chars Ack
+    → (r.fed ≡ 1) × (r.bad ≡ None) × (r.start ≡ sc)
+one_acknowledgement r chars s spelled = (
+  s.octets.fed ∙ ap (λ (cs : List RxChar). length (octets cs)) spelled,
+  s.bad ∙ ap place_of_bad spelled,
+  s.octets.start ∙ ap (λ (cs : List RxChar). slice_index (octets cs) 0) spelled,
+)

@@ -1,9 +1,9 @@
-ghost use Rattle.std.specs.Prelude.{◌≡◌, ◌+◌, ◌-◌, ◌%◌, ◌^◌, ◌<◌, ◌≤◌, ◌⊎◌, List, [], ◌∷◌, ◌++◌, Ok, Some, None, IfOk, IfErr, OnOk, length};
+ghost use Rattle.std.specs.Prelude.{◌≡◌, ◌+◌, ◌-◌, ◌%◌, ◌^◌, ◌<◌, ◌≤◌, ◌⊎◌, List, [], ◌∷◌, ◌++◌, IsTrue, ◌↔◌, Ok, Some, None, IfOk, IfErr, OnOk, length};
 ghost use Rattle.pb_refusals.specs.FirstFault.{first_fault};
 ghost use Rattle.pb_telegram.specs.Grammar.{sd1, sd2, sd3, sd4, Spells};
 ghost use Rattle.pb_telegram.specs.Faults.{fault_of};
 ghost use Rattle.pb_telegram.specs.Receiving.{nothing_received, taken, with_length, with_head, with_unit, with_end, da_from, check_at, received_more, StandsFor, plain_faults, var_faults, token_faults, form_faults, faults_from_addresses, Finds};
-ghost use Rattle.pb_telegram.specs.declared.telegrams.Telegram.TheVariants.{Short, Var, Fixed8, Token};
+ghost use Rattle.pb_telegram.specs.declared.telegrams.Telegram.TheVariants.{Short, Var, Fixed8, Token, Ack};
 ghost use Rattle.pb_telegram.specs.declared.chars.RxChar.{RxChar};
 ghost use Rattle.pb_telegram.specs.declared.telegrams.Telegram.{Telegram};
 
@@ -193,6 +193,15 @@ impl Receiver {
             Some(place) => Err(TelegramFault::Faulty(place)),
             None => self.telegram(),
         }
+    }
+
+    /// Whether the characters spell a short acknowledgement: [`Receiver::answer`] tells that too, but for one who asks this
+    /// first no room for a unit is made (IEC 61158-4-3, telegram formats).
+    #[inline(always)]
+    pub fn is_acknowledgement(&self) -> bool
+        ensures { (chars : List RxChar) → StandsFor self.now chars → IsTrue result ↔ Spells chars Ack }
+    {
+        self.fed == 1 && self.bad.is_none() && self.start == ACKNOWLEDGEMENT
     }
 
     /// What octets spell, of which there is at least one.

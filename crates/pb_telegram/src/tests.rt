@@ -334,6 +334,10 @@ fn a_receiver_is_fed_a_character_at_a_time(rt: HostRuntime) {
     assert_eq!(rt; receiver.answer(), Err(TelegramFault::Empty));
     receiver.feed(RxChar::Good(0xe5));
     assert_eq!(rt; receiver.answer(), Ok(Telegram::Ack));
+    assert!(rt; receiver.is_acknowledgement());
+    receiver.feed(RxChar::Good(0xe5));
+    assert!(rt; !receiver.is_acknowledgement());
+    assert!(rt; !Receiver::new().is_acknowledgement());
 }
 
 /// Octets, and what is found in each front of them: none is Empty, the others are Truncated until they

@@ -22,6 +22,9 @@ use std::sync::Wait;
 use std::thread::Threads;
 use std::{env, fs, io};
 
+#[cfg(test)]
+mod tests;
+
 const DONE: u8 = 0;
 
 const REFUSED: u8 = 1;

@@ -1,0 +1,16 @@
+//! Lines of hex into lines of text: what `ringplay decode` writes for what it has read.
+//!
+//! [`decode`] goes through the lines, has a receiver of pb_telegram take the characters of each, and appends the text of the
+//! telegram that they spell, or of their first fault.
+#![tactic(auto)]
+
+mod characters;
+mod laws;
+mod lines;
+mod texts;
+
+pub use laws::spelled_text_is_the_telegrams;
+pub use lines::{Decoded, decode};
+
+#[cfg(test)]
+mod tests;

@@ -1,0 +1,98 @@
+ghost use Rattle.std.specs.Prelude.{◌≡◌, ◌++◌, ◌||◌, List, IfOk, OnOk, is_some};
+ghost use Rattle.pb_telegram.specs.Faults.{fault_of};
+ghost use Rattle.pb_telegram.specs.Receiving.{StandsFor};
+ghost use Rattle.pb_telegram.specs.declared.chars.RxChar.{RxChar};
+ghost use Rattle.pb_decode.specs.Characters.{characters_of};
+ghost use Rattle.pb_decode.specs.Decoding.{answer_text, hex_text, is_refused, line_text, output_of, refuses};
+
+use crate::characters::feed_characters;
+use crate::laws::spelled_text_is_the_telegrams;
+use crate::texts::{push_acknowledgement, push_fault, push_telegram};
+use bstr::ByteSlice;
+use pb_telegram::{Receiver, what_is_spelled_has_no_fault};
+use std::alloc::{AllocError, Global};
+
+/// Lines of text, and whether one of them is a fault.
+#[derive(Drop)]
+pub struct Decoded {
+    pub text: Vec<u8>,
+    pub is_refused: bool,
+}
+
+/// The lines of text for lines of hex.
+pub fn decode(alloc: Global, input: &[u8]) -> Result<Decoded, AllocError>
+    ensures text { IfOk result (λ decoded. decoded.text.items ≡ output_of input.now) }
+    ensures refused { IfOk result (λ decoded. decoded.is_refused ≡ refuses input.now) }
+{
+    let mut text = Vec::new(alloc);
+    let mut receiver = Receiver::new();
+    let mut is_refused = false;
+    for line in input.lines() {
+        if push_line(&mut text, &mut receiver, line)? {
+            is_refused = true;
+        }
+    }
+    Ok(Decoded { text, is_refused })
+}
+
+/// Appends the line of text for a line of hex, and says whether it is refused; `receiver` is for its
+/// characters.
+fn push_line(text: &mut Vec<u8>, receiver: &mut Receiver, line: &[u8]) -> Result<bool, AllocError>
+    ensures text { OnOk result (text.new.items ≡ text.old.items ++ line_text line.now) }
+    ensures refused { IfOk result (λ refused. refused ≡ is_refused (characters_of line.now)) }
+{
+    let refused = push_hex(text, receiver, line)?;
+    text.push(b'\n')?;
+    Ok(refused)
+}
+
+/// Appends the text of the characters that a line stands for, where it is hex, and says whether the
+/// line is refused.
+fn push_hex(text: &mut Vec<u8>, receiver: &mut Receiver, line: &[u8]) -> Result<bool, AllocError>
+    ensures text { OnOk result (text.new.items ≡ text.old.items ++ hex_text (characters_of line.now)) }
+    ensures refused { IfOk result (λ refused. refused ≡ is_refused (characters_of line.now)) }
+{
+    receiver.restart();
+    if feed_characters(receiver, line) {
+        return push_answer(text, receiver);
+    }
+    text.extend_from_slice(b"fault 0 NotHex")?;
+    Ok(true)
+}
+
+/// Appends the text of the characters that came to a receiver, the telegram that they spell or
+/// their first fault, and says whether it is a fault.
+fn push_answer(text: &mut Vec<u8>, receiver: &Receiver) -> Result<bool, AllocError>
+    ensures text { (chars : List RxChar) → StandsFor receiver.now chars
+        → OnOk result (text.new.items ≡ text.old.items ++ answer_text chars) }
+    ensures refused { (chars : List RxChar) → StandsFor receiver.now chars
+        → IfOk result (λ refused. refused ≡ is_some (fault_of chars)) }
+{
+    if receiver.is_acknowledgement() {
+        what_is_spelled_has_no_fault();
+        spelled_text_is_the_telegrams();
+        push_acknowledgement(text)?;
+        return Ok(false);
+    }
+    push_other_answer(text, receiver)
+}
+
+/// The same, for any other answer.
+fn push_other_answer(text: &mut Vec<u8>, receiver: &Receiver) -> Result<bool, AllocError>
+    ensures text { (chars : List RxChar) → StandsFor receiver.now chars
+        → OnOk result (text.new.items ≡ text.old.items ++ answer_text chars) }
+    ensures refused { (chars : List RxChar) → StandsFor receiver.now chars
+        → IfOk result (λ refused. refused ≡ is_some (fault_of chars)) }
+{
+    match receiver.answer() {
+        Ok(telegram) => {
+            spelled_text_is_the_telegrams();
+            push_telegram(text, telegram)?;
+            Ok(false)
+        }
+        Err(fault) => {
+            push_fault(text, &fault)?;
+            Ok(true)
+        }
+    }
+}
