@@ -1,4 +1,5 @@
 ghost use Rattle.std.specs.Prelude.{◌≡◌, ◌+◌, ◌<◌, ◌≤◌, [], ℕ, IfOk, OnOk, Some, length, replicate, slice_get};
+ghost use Rattle.pb_segment.specs.Locked.{view_of};
 ghost use Rattle.pb_segment.specs.Origins.{IsNew, origin_of};
 
 use crate::blocks::Blocks;
@@ -10,7 +11,7 @@ use pb_station::NoMemory;
 use pb_world::World;
 use std::alloc::{AllocError, Global};
 use std::sync::Mutex;
-use std::sync::ledger::{Blank, Ledger, Share};
+use std::sync::ledger::{Blank, Book, Ledger, Share};
 
 /// The most events that a history may have.
 const MOST_EVENTS: usize = 1_000_000;
@@ -65,22 +66,38 @@ impl<L: Ledger> SharedSegment<L> {
         let taps = world.taps();
         let (book, mut rest) = blank.open::<L>();
         let seats = tap_seats(alloc, &mut rest, taps)?;
-        let locked = Locked {
-            origin: Origin::of(alloc, &world)?,
-            world,
-            history: Blocks::new(alloc),
-            turns: no_turns(alloc, taps)?,
-            drives: 0,
-            outlooks: Vec::new(alloc),
-            limit,
-            book,
-        };
-        let segment = SharedSegment {
-            state: Mutex::new(locked),
-            origin,
-        };
+        let state = Mutex::new(opened(alloc, world, limit, book)?);
+        let segment = SharedSegment { state, origin };
         Ok((segment, conductor_seat(alloc, rest), seats))
     }
+}
+
+/// What stands under the lock at first: a new world, and an empty history that may have so many events. Its fault: memory
+/// was refused.
+fn opened<L: Ledger>(
+    alloc: Global,
+    world: World,
+    limit: usize,
+    book: Book<L>,
+) -> Result<Locked<L>, AllocError>
+    requires new { IsNew world }
+    requires most { limit ≤ 1000000 }
+    requires one_each { L.parts ≡ length world.taps + 1 }
+    requires empty { book.total ≡ 0 }
+    ensures { IfOk result (λ locked. locked
+        ≡ view_of world (origin_of world) [] (replicate (length world.taps) 0) 0 [] limit) }
+{
+    let taps = world.taps();
+    Ok(Locked {
+        origin: Origin::of(alloc, &world)?,
+        world,
+        history: Blocks::new(alloc),
+        turns: no_turns(alloc, taps)?,
+        drives: 0,
+        outlooks: Vec::new(alloc),
+        limit,
+        book,
+    })
 }
 
 /// No turn of any of so many taps.
