@@ -62,6 +62,16 @@ impl Gate for Shut {
     }
 }
 
+/// Lets the first tap through alone.
+#[derive(Drop)]
+struct First;
+
+impl Gate for First {
+    fn between(&self, tap: usize) -> bool {
+        tap == 0
+    }
+}
+
 /// Holds tap 1 until tap 2 has come, for a while.
 #[derive(Drop)]
 struct Meeting {
@@ -131,6 +141,17 @@ fn names_what_stops_it(rt: HostRuntime) {
     assert_eq!(rt; fault_of(OWN_DAMAGE, &Shut(9)), damage);
     let no_taps = Some(FleetFault::New(NewFault::NoTaps));
     assert_eq!(rt; fault_of(NO_TAPS, &Shut(9)), no_taps);
+}
+
+/// Of two taps that the gate doesn't let through in one instant the first is told, whoever came first.
+#[test]
+fn tells_the_least_tap(rt: HostRuntime) {
+    let alloc = rt.alloc();
+    let scenario = scenario(&rt, alloc, THREE_MASTERS);
+    for workers in [1, 3] {
+        let fault = run_fleet(&rt, alloc, &scenario, workers, &First).err();
+        assert_eq!(rt; fault, Some(FleetFault::GateClosed(1)), "{workers}");
+    }
 }
 
 /// Two taps that are due in one instant are decided side by side.
