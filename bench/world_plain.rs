@@ -569,7 +569,8 @@ impl Initiator {
             Telegram::Framed(frame) if frame.replies(da, ts) => match frame.code() {
                 0 | 9 => Outcome::Acked,
                 8 | 10 | 12 | 13 => Outcome::Data(frame.unit.of(air).to_vec()),
-                _ => Outcome::NoResource,
+                1..=3 => Outcome::NoResource,
+                _ => return false,
             },
             _ => return false,
         };
