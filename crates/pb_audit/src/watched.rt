@@ -47,7 +47,7 @@ impl Watched {
 
     /// Does an event, and judges it by the premises.
     ///
-    /// Faults: those of the event on a bus.
+    /// Faults: those of the event on a bus; after one, nothing more can be watched.
     pub fn follow(&mut self, alloc: Global, event: &Event) -> Result<(), WorldFault>
         requires { IsWatched self.old }
         ensures came { OnOk result (GoesOnBy self.old (event_of event.now) self.new) }

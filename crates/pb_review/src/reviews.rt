@@ -6,7 +6,7 @@ use crate::reports::Report;
 use pb_plan::Walk;
 use std::alloc::{AllocError, Global};
 
-/// Whether the history of a report is cut into the instants of a scenario, as its outlooks show them, where
+/// True only where the history of a report is cut into the instants of a scenario, as its outlooks show them, and
 /// the walk through the scenario's steps is at 0: then it leaves the trace of the scenario's run on one
 /// thread. It takes as long as history, outlooks and steps are together. The fault: memory was refused.
 pub fn is_run<R: Report>(alloc: Global, report: &R, mut walk: Walk<'_>) -> Result<bool, AllocError>

@@ -23,7 +23,7 @@ use std::alloc::Global;
 
 /// Plays a scenario's run on a stage with its new world.
 ///
-/// Faults: `New` for want of memory; `At` with the clock where an event is refused, also for want of memory.
+/// Faults: `New` for want of memory; `At` where an event is refused, with the clock then, or where memory was refused for one.
 pub(crate) fn play<S: Stage>(
     alloc: Global,
     scenario: &Scenario,

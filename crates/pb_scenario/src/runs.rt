@@ -17,8 +17,8 @@ use std::alloc::Global;
 /// taps that are due and aren't withheld, that telegrams are lost, and that time passes to the next instant or
 /// to the end. It takes as long as events and steps are together.
 ///
-/// Faults: `New` where there is no new world, also for want of memory; `At` with the clock where an event is
-/// refused, also for want of memory.
+/// Faults: `New` where there is no new world, also for want of memory; `At` where an event is refused, with the
+/// clock then, or where memory was refused for one.
 pub fn events_of(alloc: Global, scenario: &Scenario) -> Result<Vec<Event>, RunFault>
     ensures events { IfOk result
         (λ events. runs.events_of scenario.now.scenario ≡ Some (Ok (map event_of events.items))) }

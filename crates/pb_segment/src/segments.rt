@@ -22,7 +22,7 @@ pub struct SharedSegment<L: Ledger> {
     pub(crate) origin: Origin,
 }
 
-/// A segment that was not closed, with all that was handed in, as it was.
+/// A segment that was not closed, with all that was handed in.
 #[derive(Drop)]
 pub struct CloseRefused<L: Ledger> {
     /// Why.
