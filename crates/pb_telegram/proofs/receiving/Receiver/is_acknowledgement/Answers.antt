@@ -11,6 +11,6 @@ returns-then-is_none c =
     let good : r.bad ≡ None = search rules in
     let same : c.self.inside.start ≡ r.start = search rules in
     λ chars s. (
-    (λ test. acknowledged r chars s one good (sym same ∙ grind (arith, nat_tests))),
-    (λ spelled. let start : c.self.inside.start ≡ sc = same ∙ (one_acknowledgement r chars s spelled).2 in grind (arith, nat_tests)),
+      (λ test. acknowledged r chars s one good (sym same ∙ grind (arith, nat_tests))),
+      (λ spelled. let start : c.self.inside.start ≡ sc = same ∙ (one_acknowledgement r chars s spelled).2 in grind (arith, nat_tests)),
     )
