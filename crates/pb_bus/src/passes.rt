@@ -9,9 +9,10 @@ ghost use Rattle.pb_medium.specs.Senses.{begin_between, end_between};
 ghost use Rattle.pb_bus.specs.Passes.{end_of, unread_after, with_begin, with_end, with_news};
 ghost use Rattle.pb_taps.specs.Taps.{seat_of, tap_of};
 
+use arrayvec::ArrayVec;
 use pb_medium::{Entry, begin_between, burst_characters, end_between};
-use pb_station::Mark;
 use pb_taps::{MARK_LIMIT, Tap};
+use pb_telegram::RxChar;
 use pb_timers::Moment;
 
 /// How many marks a pass tells a tap at most.
@@ -44,8 +45,9 @@ pub(crate) fn tell_all(entries: &[Entry], delay: u32, taps: &mut [Tap], from: Mo
     ensures told { map tap_of taps.new
         ≡ step.told delay (map entry_of entries.now) from to 0 (map tap_of taps.old) }
 {
+    let mut chars = ArrayVec::new();
     for (position, tap) in taps.iter_mut().enumerate() {
-        tell(entries, delay, position, tap, from, to);
+        tell(entries, delay, position, tap, from, to, &mut chars);
     }
 }
 
@@ -68,8 +70,16 @@ fn overflows(
         && unread + news_count(entries, delay, position, tap, from, to) > MARK_LIMIT
 }
 
-/// A pass tells the tap at a position.
-fn tell(entries: &[Entry], delay: u32, position: usize, tap: &mut Tap, from: Moment, to: Moment)
+/// A pass tells the tap at a position, with room for the characters that a mark brings.
+fn tell(
+    entries: &[Entry],
+    delay: u32,
+    position: usize,
+    tap: &mut Tap,
+    from: Moment,
+    to: Moment,
+    chars: &mut ArrayVec<RxChar, 255>,
+)
     requires { unread_after delay position (tap_of tap.old) (map entry_of entries.now) from to ≤ mark_limit }
     ensures told { tap_of tap.new
         ≡ with_news delay position (tap_of tap.old) (map entry_of entries.now) from to }
@@ -81,7 +91,7 @@ fn tell(entries: &[Entry], delay: u32, position: usize, tap: &mut Tap, from: Mom
     let begin = begin_in(entries, delay, position, tap, from, to);
     let end = end_in(entries, delay, position, tap, from, to);
     tell_begin(tap, begin, to);
-    tell_end(entries, delay, position, tap, end, to);
+    tell_end(entries, delay, position, tap, end, to, chars);
 }
 
 /// How many marks a pass tells the tap at a position.
@@ -147,7 +157,7 @@ fn tell_begin(tap: &mut Tap, begin: Option<Moment>, to: Moment)
     ensures { tap.new ≡ with_begin tap.old to begin }
 {
     if let Some(at) = begin {
-        tap.marks.push(Mark::Begin { at, seen: to });
+        tap.marks.push_begin(at, to);
     }
 }
 
@@ -159,17 +169,14 @@ fn tell_end(
     tap: &mut Tap,
     end: Option<Moment>,
     to: Moment,
+    chars: &mut ArrayVec<RxChar, 255>,
 )
     requires { length tap.old.marks + length
         (end_of delay position (tap_of tap.old) (map entry_of entries.now) to end) ≤ mark_limit }
     ensures { tap.new ≡ with_end delay position tap.old (map entry_of entries.now) to end }
 {
     if let Some(at) = end {
-        let chars = burst_characters(entries, delay, position, tap, at.get());
-        tap.marks.push(Mark::End {
-            at,
-            seen: to,
-            chars,
-        });
+        burst_characters(entries, delay, position, tap, at.get(), chars);
+        tap.marks.push_end(at, to, chars);
     }
 }

@@ -7,12 +7,15 @@ use Rattle.pb_turn.specs.Spans.{Span}
 use Rattle.pb_model.specs.Trace.{Record, Entry, characters_at}
 use Rattle.pb_model.specs.Medium.{reaches, is_unheard, sensed, overlaps, sends_during, begins_in, ends_in}
 
+-- during a stretch a tap senses one thing alone, and sends nothing
+abbrev pub is_undisturbed : (delay tap since : ℕ) → List Entry → Span → Bool
+is_undisturbed delay tap since trace span =
+    count_by (overlaps span) (sensed delay tap since trace) == 1 && not (list_any (sends_during tap span) trace)
+
 -- a telegram comes to a tap with nothing else since a moment, while the tap sends nothing
 abbrev pub is_alone : (delay tap since : ℕ) → List Entry → Record → Bool
 is_alone delay tap since trace r =
-    not (r.tap == tap || is_unheard (slice_get r.heard tap))
-    && count_by (overlaps (reaches delay r)) (sensed delay tap since trace) == 1
-    && not (list_any (sends_during tap (reaches delay r)) trace)
+    not (r.tap == tap || is_unheard (slice_get r.heard tap)) && is_undisturbed delay tap since trace (reaches delay r)
 
 -- every character of a telegram went out, and comes good to a tap
 abbrev pub is_undamaged : ℕ → Record → Bool

@@ -1,4 +1,4 @@
-ghost use Rattle.std.specs.Prelude.{◌≡◌, ℕ, ◌-◌, ◌/◌, ◌≤◌, List, map, count_by, length, not, take, if◌then◌else◌};
+ghost use Rattle.std.specs.Prelude.{◌≡◌, ◌∷◌, [], ℕ, ◌-◌, ◌/◌, ◌≤◌, List, map, count_by, length, not, take, if◌then◌else◌};
 ghost use Rattle.std.specs.List.{list_any, list_all};
 ghost use Rattle.std.specs.Option.{option_and_then, option_map};
 ghost use Rattle.pb_timers.specs.Timers as timers;
@@ -10,7 +10,7 @@ ghost use Rattle.pb_model.specs.World as world;
 ghost use Rattle.pb_model.specs.Step as step;
 ghost use Rattle.pb_model.specs.Trace as trace;
 ghost use Rattle.pb_medium.specs.Entries.{entry_of, record_of};
-ghost use Rattle.pb_medium.specs.Senses.{begin_between, end_between, is_alone, is_undamaged};
+ghost use Rattle.pb_medium.specs.Senses.{begin_between, end_between, is_alone, is_undamaged, is_undisturbed};
 ghost use Rattle.pb_taps.specs.Taps.{tap_of};
 
 use crate::entries::{Entry, Record};
@@ -31,6 +31,9 @@ pub fn begin_between(
 ) -> Option<u64>
     ensures { result ≡ begin_between (sensed delay tap since (map entry_of entries.now)) from to }
 {
+    if let [only] = entries {
+        return only_begin(only, delay, tap, since, from, to);
+    }
     let first = entries
         .iter()
         .filter_map(|entry| sensed(entry, delay, tap, since))
@@ -53,6 +56,9 @@ pub fn end_between(
 ) -> Option<u64>
     ensures { result ≡ end_between (sensed delay tap since (map entry_of entries.now)) from to }
 {
+    if let [only] = entries {
+        return only_end(only, delay, tap, since, from, to);
+    }
     let first = entries
         .iter()
         .filter_map(|entry| sensed(entry, delay, tap, since))
@@ -80,21 +86,22 @@ pub(crate) fn fills_burst(
         && is_alone(entries, delay, position, tap.since, telegram)
 }
 
-/// The characters of the burst of a tap that ends at a moment.
+/// The characters of the burst of a tap that ends at a moment, in the place of others.
 pub fn burst_characters(
     entries: &[Entry],
     delay: u32,
     position: usize,
     tap: &Tap,
     moment: u64,
-) -> ArrayVec<RxChar, 255>
-    ensures { result.items
+    chars: &mut ArrayVec<RxChar, 255>,
+)
+    ensures { chars.new.items
         ≡ model.burst_characters delay position (tap_of tap.now) (map entry_of entries.now) moment }
 {
     let filling = entries.iter().find(|entry| fills_burst_to(
         entries, delay, position, tap, moment, entry,
     ));
-    entry_characters(filling, position)
+    entry_characters(filling, position, chars);
 }
 
 /// Whether a telegram of the entries came whole to the tap at a position.
@@ -157,6 +164,32 @@ fn later_end(now: u64, end: u64) -> Option<u64>
     (now < end).then_some(end)
 }
 
+/// When a burst begins at a tap that senses one entry at most, from one moment on and before another.
+#[tactic(auto, using(crate::proofs::Sensing::only_begins))]
+fn only_begin(entry: &Entry, delay: u32, tap: usize, since: u64, from: u64, to: u64) -> Option<u64>
+    ensures { result ≡ begin_between (sensed delay tap since (entry_of entry.now ∷ [])) from to }
+{
+    let begin = entry.reaches_taps(delay).begin().max(since);
+    if begin < from || to <= begin {
+        return None;
+    }
+    let span = sensed(entry, delay, tap, since)?;
+    Some(span.begin())
+}
+
+/// When a burst ends at a tap that senses one entry at most, after one moment, at another at the latest.
+#[tactic(auto, using(crate::proofs::Sensing::only_ends))]
+fn only_end(entry: &Entry, delay: u32, tap: usize, since: u64, from: u64, to: u64) -> Option<u64>
+    ensures { result ≡ end_between (sensed delay tap since (entry_of entry.now ∷ [])) from to }
+{
+    let end = entry.reaches_taps(delay).end();
+    if end <= from || to < end {
+        return None;
+    }
+    let span = sensed(entry, delay, tap, since)?;
+    Some(span.end())
+}
+
 /// Whether a burst begins at a tap, which has sensed since a moment.
 fn burst_begins(entries: &[Entry], delay: u32, tap: usize, since: u64, moment: u64) -> bool
     ensures { result ≡ model.burst_begins (sensed delay tap since (map entry_of entries.now)) moment }
@@ -204,10 +237,31 @@ fn ends_at(entries: &[Entry], delay: u32, tap: usize, since: u64, moment: u64) -
 fn is_alone(entries: &[Entry], delay: u32, position: usize, since: u64, telegram: &Record) -> bool
     ensures { result ≡ is_alone delay position since (map entry_of entries.now) (record_of telegram.now) }
 {
-    let span = telegram.reaches(delay);
-    !(telegram.tap == position || telegram.is_unheard(position))
-        && count_overlapping(entries, delay, position, since, span) == 1
+    if telegram.tap == position || telegram.is_unheard(position) {
+        return false;
+    }
+    is_undisturbed(entries, delay, position, since, telegram.reaches(delay))
+}
+
+/// Whether the tap at a position senses one thing alone during a stretch, and sends nothing.
+fn is_undisturbed(entries: &[Entry], delay: u32, position: usize, since: u64, span: Span) -> bool
+    ensures { result ≡ is_undisturbed delay position since (map entry_of entries.now) span }
+{
+    if let [only] = entries {
+        return is_undisturbed_by(only, delay, position, since, span);
+    }
+    count_overlapping(entries, delay, position, since, span) == 1
         && !sends_in(entries, position, span)
+}
+
+/// The same on a bus where one entry is all that there is.
+fn is_undisturbed_by(entry: &Entry, delay: u32, position: usize, since: u64, span: Span) -> bool
+    ensures { result ≡ is_undisturbed delay position since (entry_of entry.now ∷ []) span }
+{
+    match sensed(entry, delay, position, since) {
+        Some(other) => span.overlaps(other) && !sends_during(entry, position, span),
+        None => false,
+    }
 }
 
 /// Whether an entry is a telegram whose end reaches the taps at a moment, and that fills a burst alone.
@@ -230,15 +284,15 @@ fn fills_burst_to(
 }
 
 /// The characters of a telegram, else one damaged character.
-fn entry_characters(entry: Option<&Entry>, position: usize) -> ArrayVec<RxChar, 255>
-    ensures { result.items ≡ model.entry_characters position (option_map (λ e. entry_of e.now) entry.entry) }
+fn entry_characters(entry: Option<&Entry>, position: usize, chars: &mut ArrayVec<RxChar, 255>)
+    ensures { chars.new.items
+        ≡ model.entry_characters position (option_map (λ e. entry_of e.now) entry.entry) }
 {
     if let Some(Entry::Sent(telegram)) = entry {
-        return characters_at(telegram, position);
+        return characters_at(telegram, position, chars);
     }
-    let mut chars = ArrayVec::new();
+    chars.clear();
     chars.push(RxChar::Bad);
-    chars
 }
 
 /// Whether every character of a telegram went out, and comes good to the tap at a position.
@@ -248,7 +302,8 @@ fn is_undamaged_at(telegram: &Record, position: usize) -> bool
     if telegram.hits.is_empty() {
         return sent_octets(telegram) == telegram.octets.len();
     }
-    let chars = characters_at(telegram, position);
+    let mut chars = ArrayVec::new();
+    characters_at(telegram, position, &mut chars);
     chars.len() == telegram.octets.len() && are_good(&chars)
 }
 
@@ -291,11 +346,14 @@ fn sends_in(entries: &[Entry], position: usize, span: Span) -> bool
 }
 
 /// The characters of a telegram that went out, as the tap at a position gets them.
-fn characters_at(telegram: &Record, position: usize) -> ArrayVec<RxChar, 255>
-    ensures { result.items ≡ trace.characters_at position (record_of telegram.now) }
+fn characters_at(telegram: &Record, position: usize, chars: &mut ArrayVec<RxChar, 255>)
+    ensures { chars.new.items ≡ trace.characters_at position (record_of telegram.now) }
 {
-    let sent = sent_octets(telegram);
-    characters_of(telegram, position, &telegram.octets[..sent])
+    let octets = &telegram.octets[..sent_octets(telegram)];
+    if telegram.hits.is_empty() {
+        return good_characters(octets, chars);
+    }
+    characters_of(telegram, position, octets, chars);
 }
 
 /// How many octets of a telegram went out.
@@ -325,16 +383,32 @@ fn sends_during(entry: &Entry, tap: usize, span: Span) -> bool
     }
 }
 
-/// The characters of octets that went out, as the tap at a position gets them.
-fn characters_of(telegram: &Record, position: usize, octets: &[u8]) -> ArrayVec<RxChar, 255>
+/// The characters of octets that come good.
+fn good_characters(octets: &[u8], chars: &mut ArrayVec<RxChar, 255>)
     requires { length octets.now ≤ 255 }
-    ensures { result.items ≡ trace.characters_from position (record_of telegram.now).hits 0 octets.now }
+    ensures { chars.new.items ≡ trace.characters_from 0 [] 0 octets.now }
 {
-    let mut chars = ArrayVec::new();
+    chars.clear();
+    for octet in octets {
+        chars.push(RxChar::Good(*octet));
+    }
+}
+
+/// The characters of octets that went out, as the tap at a position gets them.
+fn characters_of(
+    telegram: &Record,
+    position: usize,
+    octets: &[u8],
+    chars: &mut ArrayVec<RxChar, 255>,
+)
+    requires { length octets.now ≤ 255 }
+    ensures { chars.new.items
+        ≡ trace.characters_from position (record_of telegram.now).hits 0 octets.now }
+{
+    chars.clear();
     for (place, octet) in octets.iter().enumerate() {
         chars.push(character_at(telegram, position, place, *octet));
     }
-    chars
 }
 
 /// The character at a place of a telegram, as the tap at a position gets it.

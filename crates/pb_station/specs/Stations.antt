@@ -13,4 +13,6 @@ pub record StationView : Type 0 where
   pub station : turn.Station
 
 abbrev pub station_view : Inside → StationView
-station_view s = record { tap = s.tap; params = s.params; master = s.master; reply_data = s.reply_data.items; station = station_of s.core.value }
+station_view s =
+    let parts = s.parts.value in
+    record { tap = parts.tap; params = parts.params; master = parts.master; reply_data = parts.reply_data.items; station = station_of parts.core }

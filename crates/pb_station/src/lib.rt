@@ -12,7 +12,7 @@ mod stations;
 mod turns;
 
 pub use decisions::{Decision, Glance, decide, due};
-pub use marks::Mark;
+pub use marks::{Mark, copy_chars};
 pub use pb_core::SendBuffer;
 pub use stations::{NoMemory, Station};
 

@@ -1,4 +1,4 @@
-ghost use Rattle.std.specs.Prelude.{◌≡◌};
+ghost use Rattle.std.specs.Prelude.{◌≡◌, ◌≤◌, length};
 ghost use Rattle.pb_turn.specs.Marks.{moment_of, seen_at};
 ghost use Rattle.pb_station.specs.MarkViews.{mark_of};
 
@@ -65,9 +65,10 @@ impl Mark {
     }
 }
 
-/// A copy of the characters of a mark.
-fn copy_chars(chars: &ArrayVec<RxChar, 255>) -> ArrayVec<RxChar, 255>
-    ensures { result.items ≡ chars.now.items }
+/// A copy of the characters that a mark brings.
+pub fn copy_chars(chars: &[RxChar]) -> ArrayVec<RxChar, 255>
+    requires { length chars.now ≤ 255 }
+    ensures { result.items ≡ chars.now }
 {
     let mut copy = ArrayVec::new();
     copy.try_extend_from_slice(chars).unwrap();

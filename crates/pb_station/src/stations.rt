@@ -30,8 +30,8 @@ impl From<AllocError> for NoMemory {
     }
 }
 
-impl From<AllocFailed<Core>> for NoMemory {
-    fn from(_: AllocFailed<Core>) -> NoMemory {
+impl From<AllocFailed<Parts>> for NoMemory {
+    fn from(_: AllocFailed<Parts>) -> NoMemory {
         NoMemory
     }
 }
@@ -39,12 +39,18 @@ impl From<AllocFailed<Core>> for NoMemory {
 /// A station at a tap of the bus.
 #[derive(Debug, Drop)]
 pub struct Station {
+    /// In a box, so that to move a station moves little.
+    parts: Box<Parts>,
+}
+
+/// What a station is made of.
+#[derive(Debug, Drop)]
+struct Parts {
     tap: usize,
     params: BusParams,
     master: bool,
     reply_data: ArrayVec<u8, 246>,
-    /// In a box, so that to move a station moves little.
-    core: Box<Core>,
+    core: Core,
 }
 
 impl Model for Station {
@@ -55,7 +61,7 @@ impl Model for Station {
 
     ghost view = { station_view };
 
-    ghost invariant = { λ s. HasReceived (station_of s.core.value) };
+    ghost invariant = { λ s. HasReceived (station_of s.parts.value.core) };
 }
 
 /// What a station keeps that has neither heard nor said anything since a moment.
@@ -144,13 +150,15 @@ impl Station {
             kept: new_kept(Address::new(address), &params, data, beginning()),
             waiting,
         };
-        let core = Box::new(alloc, core)?;
-        Ok(Station {
+        let parts = Parts {
             tap,
             params,
             master,
             reply_data: reply,
             core,
+        };
+        Ok(Station {
+            parts: Box::new(alloc, parts)?,
         })
     }
 
@@ -158,7 +166,7 @@ impl Station {
     pub fn tap(&self) -> usize
         ensures { result ≡ self.now.tap }
     {
-        self.tap
+        self.parts.tap
     }
 
     /// The station's address, 0 to 126.
@@ -166,56 +174,56 @@ impl Station {
         ensures value { result ≡ self.now.station.address }
         ensures bound { result ≤ 126 }
     {
-        self.core.kept.address.get()
+        self.parts.core.kept.address.get()
     }
 
     /// Whether it is a master, and takes part in the passing of the token.
     pub fn is_master(&self) -> bool
         ensures { result ≡ self.now.master }
     {
-        self.master
+        self.parts.master
     }
 
     /// The data that it replies to a request for data.
     pub fn reply_data(&self) -> &[u8]
         ensures { result.now ≡ self.now.reply_data }
     {
-        &self.reply_data
+        &self.parts.reply_data
     }
 
     /// The parameters of its bus.
     pub fn params(&self) -> &BusParams
         ensures { result.now ≡ self.now.params }
     {
-        &self.params
+        &self.parts.params
     }
 
     /// The phase that the station is in.
     pub fn phase(&self) -> &Phase
         ensures { phase_of result.now ≡ self.now.station.phase }
     {
-        &self.core.phase
+        &self.parts.core.phase
     }
 
     /// Its list of active stations.
     pub fn las(&self) -> &Las
         ensures { result.now ≡ self.now.station.las }
     {
-        &self.core.kept.las
+        &self.parts.core.kept.las
     }
 
     /// The requests that wait for the token.
     pub fn queue(&self) -> Queue
         ensures { result ≡ self.now.station.cycles.queue }
     {
-        self.core.waiting.queue()
+        self.parts.core.waiting.queue()
     }
 
     /// Whether 16 requests of a request's priority wait, so that it would be handed back.
     pub fn is_full_for(&self, request: &Request) -> bool
         ensures { result ≡ nat_le 16 (length (turn.list_for self.now.station.cycles.queue request.now)) }
     {
-        self.core.waiting.is_full_for(request)
+        self.parts.core.waiting.is_full_for(request)
     }
 
     /// How many requests of others it has executed since its start: those that are no repeats. The count stays
@@ -223,14 +231,14 @@ impl Station {
     pub fn executed(&self) -> u64
         ensures { result ≡ self.now.station.cycles.responder.executed }
     {
-        self.core.kept.cycles.responder.executed()
+        self.parts.core.kept.cycles.responder.executed()
     }
 
     /// The station of its last message cycle that had an outcome, and that outcome, since its start.
     pub fn last_outcome(&self) -> Option<(u8, Outcome)>
         ensures { result ≡ self.now.station.cycles.last_outcome }
     {
-        copy_outcome(&self.core.kept.cycles.last_outcome)
+        copy_outcome(&self.parts.core.kept.cycles.last_outcome)
     }
 
     /// The station starts at a moment, at most 2^61, the caller's condition: a master listens for the ring,
@@ -240,14 +248,20 @@ impl Station {
         ensures { self.new ≡ record
             self.old { station = turn.started self.old.params self.old.station self.old.master now } }
     {
-        start_core(&mut self.core, &self.params, self.master, now);
+        let Parts {
+            params,
+            master,
+            core,
+            ..
+        } = &mut *self.parts;
+        start_core(core, params, *master, now);
     }
 
     /// The station stops: it is offline, and a reply that is not sent yet is dropped. All else stays.
     pub fn stop(&mut self)
         ensures { self.new ≡ record self.old { station = turn.stopped self.old.station } }
     {
-        stop_core(&mut self.core);
+        stop_core(&mut self.parts.core);
     }
 
     /// A request waits behind the others of its priority. It is handed back where 16 of them wait, and
@@ -259,7 +273,7 @@ impl Station {
         ensures room { OnOk result (length (turn.list_for self.old.station.cycles.queue request) < 16) }
         ensures full { OnErr result (length (turn.list_for self.old.station.cycles.queue request) ≡ 16) }
     {
-        self.core.waiting.push(request)
+        self.parts.core.waiting.push(request)
     }
 
     /// An equal station.
@@ -268,13 +282,16 @@ impl Station {
     pub fn copy(&self, alloc: Global) -> Result<Station, NoMemory>
         ensures { IfOk result (λ s. s ≡ self.now) }
     {
-        let core = Box::new(alloc, self.core.copy(alloc)?)?;
-        Ok(Station {
-            tap: self.tap,
-            params: self.params,
-            master: self.master,
-            reply_data: copy_octets(&self.reply_data),
+        let core = self.parts.core.copy(alloc)?;
+        let parts = Parts {
+            tap: self.parts.tap,
+            params: self.parts.params,
+            master: self.parts.master,
+            reply_data: copy_octets(&self.parts.reply_data),
             core,
+        };
+        Ok(Station {
+            parts: Box::new(alloc, parts)?,
         })
     }
 
@@ -282,11 +299,11 @@ impl Station {
     pub fn is_same(&self, other: &Station) -> bool
         ensures { IsTrue result ↔ (self.now ≡ other.now) }
     {
-        other.tap == self.tap
-            && other.params.is_same(&self.params)
-            && other.master == self.master
-            && other.reply_data == self.reply_data
-            && other.core.is_same(&self.core)
+        other.parts.tap == self.parts.tap
+            && other.parts.params.is_same(&self.parts.params)
+            && other.parts.master == self.parts.master
+            && other.parts.reply_data == self.parts.reply_data
+            && other.parts.core.is_same(&self.parts.core)
     }
 
     /// The station takes its turn at a moment, at most 2^61, with some unread marks, none of them of a later
@@ -297,7 +314,8 @@ impl Station {
         requires over { AreOver now marks.now }
         ensures { (self.new, out.new) ≡ turned self.old marks.now now }
     {
-        take_turn(&mut self.core, &self.params, marks, now, out);
+        let Parts { params, core, .. } = &mut *self.parts;
+        take_turn(core, params, marks, now, out);
     }
 
     /// Whether the station would say anything in that turn. It changes nothing.
@@ -306,13 +324,13 @@ impl Station {
         requires over { AreOver now marks.now }
         ensures { result ≡ is_some (turned self.now marks.now now).1 }
     {
-        would_speak(&self.core, &self.params, marks, now)
+        would_speak(&self.parts.core, &self.parts.params, marks, now)
     }
 
     /// When the station has to take its turn.
     pub(crate) fn due(&self, marks: &[Mark]) -> Option<Moment>
         ensures { result ≡ turn.due_of self.now.params self.now.station (map mark_of marks.now) }
     {
-        due_of(&self.core, &self.params, marks)
+        due_of(&self.parts.core, &self.parts.params, marks)
     }
 }

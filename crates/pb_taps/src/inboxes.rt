@@ -1,7 +1,9 @@
 ghost use Rattle.std.specs.Prelude.{◌≡◌, IsTrue, ◌↔◌, IfOk, map};
 ghost use Rattle.pb_station.specs.MarkViews.{mark_of};
 
-use pb_station::Mark;
+use pb_station::{Mark, copy_chars};
+use pb_telegram::RxChar;
+use pb_timers::Moment;
 use std::alloc::{AllocError, Global};
 use std::marker::Model;
 
@@ -29,7 +31,8 @@ impl Model for Inbox {
 }
 
 impl Inbox {
-    ghost use Rattle.std.specs.Prelude.{◌≡◌, ◌<◌, ◌++◌, [], ◌∷◌, IsTrue, ◌↔◌, IfOk, length, map};
+    ghost use Rattle.std.specs.Prelude.{◌≡◌, ◌≤◌, ◌<◌, ◌++◌, [], ◌∷◌, IsTrue, ◌↔◌, IfOk, length, map};
+    ghost use Rattle.pb_turn.specs.Marks as model;
     ghost use Rattle.pb_model.specs.World.{mark_limit};
     ghost use Rattle.pb_station.specs.MarkViews.{mark_of};
 
@@ -62,12 +65,25 @@ impl Inbox {
         are_same(marks, self.marks())
     }
 
-    /// One more mark, behind the others.
-    pub fn push(&mut self, mark: Mark)
+    /// Activity has begun at a moment, which a mark says behind the others.
+    pub fn push_begin(&mut self, at: Moment, seen: Moment)
         requires { length self.old < mark_limit }
-        ensures { self.new ≡ self.old ++ mark_of mark ∷ [] }
+        ensures { self.new ≡ self.old ++ model.Begin at seen ∷ [] }
     {
-        self.marks.push_reserved(mark);
+        self.marks.push_reserved(Mark::Begin { at, seen });
+    }
+
+    /// Activity has ended at a moment, and brought characters, which a mark says behind the others.
+    pub fn push_end(&mut self, at: Moment, seen: Moment, chars: &[RxChar])
+        requires room { length self.old < mark_limit }
+        requires fits { length chars.now ≤ 255 }
+        ensures { self.new ≡ self.old ++ model.End at seen chars.now ∷ [] }
+    {
+        self.marks.push_reserved(Mark::End {
+            at,
+            seen,
+            chars: copy_chars(chars),
+        });
     }
 
     /// All marks have been read.

@@ -12,6 +12,6 @@ returns-in-Some c =
     let at = c.in-Some.at in
     let characters = burst_characters c.args.delay c.args.position (tap_of t) (map entry_of c.args.entries.now) in
     ap (λ ms. record t { marks = ms }) (
-    c.push.ensures ∙ ap (λ chars. t.marks ++ End at c.args.to chars ∷ []) (c.burst_characters-chars.ensures ∙ ap characters c.get.ensures.value)
+    c.push_end.ensures ∙ ap (λ chars. t.marks ++ End at c.args.to chars ∷ []) (c.deref.ensures.0 ∙ c.burst_characters.ensures ∙ ap characters c.get.ensures.value)
     )
     ∙ ap (with_end c.args.delay c.args.position t (map entry_of c.args.entries.now) c.args.to) (sym c.in-Some.is)
