@@ -146,9 +146,10 @@ fn full_history<L: Ledger, R: AllocGlobal + Abort + Wait>(rt: &R, blank: Blank, 
     requires new { IsNew world }
 {
     let alloc = rt.alloc();
-    let (segment, mut conductor, _seats) = SharedSegment::<L>::with_history(
+    let (segment, mut conductor, mut seats) = SharedSegment::<L>::with_history(
         alloc, blank, world, 2,
     ).expect(rt, "a segment");
+    let mut seat = seats.pop().expect(rt, "a seat");
     for event in [Event::Start(0), Event::Start(1)] {
         segment
             .drive(rt, alloc, &mut conductor, event)
@@ -161,6 +162,10 @@ fn full_history<L: Ledger, R: AllocGlobal + Abort + Wait>(rt: &R, blank: Blank, 
     let fault = segment
         .drive(rt, alloc, &mut conductor, Event::Pass(1))
         .err();
+    assert_eq!(rt; fault, Some(CommitFault::HistoryFull));
+    let glance = segment.glance(rt, alloc, &seat).expect(rt, "a glance");
+    let decision = decide(alloc, glance).expect(rt, "a decision");
+    let fault = segment.commit(rt, alloc, &mut seat, decision).err();
     assert_eq!(rt; fault, Some(CommitFault::HistoryFull));
 }
 
