@@ -364,11 +364,15 @@ fn a_run_ends_by_a_fault(rt: HostRuntime) {
     let scenario = read(alloc, text.as_bytes()).expect(&rt, "a scenario");
     let moment = Moment::new(100).expect(&rt, "a moment");
     let fault = events_of(alloc, &scenario).expect_err(&rt, "a refusal");
+    let told = format!(in alloc; "{fault}").expect(&rt, "memory");
+    assert_eq!(rt; told.as_str(), "NotRunning at 100");
     assert_eq!(rt; fault, RunFault::At(moment, WorldFault::NotRunning));
     let master = "name = \"b\"\nkind = \"master\"\naddress = 6";
     let text = file(alloc, TOP, master, "").expect(&rt, "memory");
     let scenario = read(alloc, text.as_bytes()).expect(&rt, "a scenario");
     let fault = events_of(alloc, &scenario).expect_err(&rt, "no world");
+    let told = format!(in alloc; "{fault}").expect(&rt, "memory");
+    assert_eq!(rt; told.as_str(), "BadAddress 1");
     assert_eq!(rt; fault, RunFault::New(NewFault::BadAddress(1)));
 }
 

@@ -1,4 +1,6 @@
-use crate::audited;
+use crate::{audited, refused_fleet};
+use pb_fleet::FleetFault;
+use pb_segment::{CloseFault, CommitFault};
 
 /// Two masters that start in the instants that make up the difference of their time-outs.
 const FILE: &[u8] = b"version = 1
@@ -38,4 +40,25 @@ fn an_audit_names_premise_and_record(rt: HostRuntime) {
         shown.text.as_slice() == b"premise P4 broken at 1000\nrecord 1 illegal\n".as_slice()
     );
     assert!(rt; shown.is_refused);
+}
+
+/// The lines of faults that no scenario file brings about.
+#[test]
+fn tells_why_a_fleet_stopped(rt: HostRuntime) {
+    let alloc = rt.alloc();
+    let shown = refused_fleet(alloc, FleetFault::NoThread).expect(&rt, "memory");
+    assert!(rt; shown.text.as_slice() == b"no thread\n".as_slice());
+    assert!(rt; shown.is_refused);
+    let shown = refused_fleet(alloc, FleetFault::GateClosed(3)).expect(&rt, "memory");
+    assert!(rt; shown.text.as_slice() == b"gate closed\n".as_slice());
+    let closing = FleetFault::Closing(CloseFault::Disagree);
+    let shown = refused_fleet(alloc, closing).expect(&rt, "memory");
+    assert!(rt; shown.text.as_slice() == b"disagree\n".as_slice());
+    let full = FleetFault::Commit {
+        tap: 1,
+        now: 800,
+        fault: CommitFault::HistoryFull,
+    };
+    let shown = refused_fleet(alloc, full).expect(&rt, "memory");
+    assert!(rt; shown.text.as_slice() == b"history full\n".as_slice());
 }

@@ -104,6 +104,16 @@ ring_with_delay =
     Turn 1 ∷ Pass 37 ∷ Turn 1 ∷ Pass 16 ∷ Turn 0 ∷ Pass 50 ∷ Pass 15 ∷ Turn 0 ∷ Pass 85 ∷ Turn 1 ∷ Pass 16 ∷ Turn 0 ∷
     Pass 17 ∷ Pass 15 ∷ Turn 0 ∷ Pass 1 ∷ []
 
+-- with that delay: claims 15 after one another
+abbrev pub claims_at_the_delay : List Event
+claims_at_the_delay =
+    Start 1 ∷ Pass 215 ∷ Start 0 ∷ Pass 785 ∷ Turn 1 ∷ Pass 15 ∷ Turn 0 ∷ []
+
+-- the second has waited out its time-out and stops, 1 before the first has
+abbrev pub waits_out_next : List Event
+waits_out_next =
+    Start 1 ∷ Pass 201 ∷ Start 0 ∷ Pass 799 ∷ Stop 1 ∷ Pass 1 ∷ Turn 0 ∷ []
+
 -- the last two of three start
 abbrev pub last_two_start : List Event
 last_two_start =

@@ -24,6 +24,7 @@ pub fn scenarios_that_keep_the_premises()
     ensures stopped { verdict_of (master 1 ∷ master 0 ∷ []) runs.stopped_in_silence ≡ kept }
     ensures passive { verdict_of (master 1 ∷ passive 0 ∷ []) runs.first_claims ≡ kept }
     ensures refused { verdict_of two_masters runs.loss_refused ≡ kept }
+    ensures waits_out_next { verdict_of two_masters runs.waits_out_next ≡ kept }
     ensures delay { verdict_on bus_with_delay two_masters runs.ring_with_delay ≡ kept }
 {}
 
@@ -40,6 +41,11 @@ pub fn scenarios_that_break_a_premise()
     ensures after_noise { verdict_of two_masters runs.both_claim_after_noise ≡ breaks 4 1150 (Some 2) false }
     ensures delay { verdict_on bus_with_delay two_masters runs.claims_with_delay
         ≡ breaks 4 1010 (Some 1) false }
+    ensures at_the_delay { verdict_on bus_with_delay two_masters runs.claims_at_the_delay
+        ≡ breaks 4 1015 (Some 1) false }
+    ensures with_lag { verdict_on bus_with_lag two_masters runs.both_claim ≡ breaks 4 1000 (Some 1) false }
+    ensures late_with_delay { verdict_on bus_with_delay two_masters runs.both_are_late
+        ≡ breaks 3 1001 None true }
     ensures least_number { verdict_of two_masters runs.both_are_late ≡ breaks 3 1001 None true }
 {}
 
@@ -83,6 +89,11 @@ pub fn traces_are_judged()
     ensures delayed_too_early { illegal_on bus_with_delay (claimed (by_second 1847 (token 2 2) ∷ []))
         ≡ Some 1 }
     ensures own_not_delayed { illegal_on bus_with_delay (passed (by_first 1003 (token 2 1) ∷ [])) ≡ None }
+    ensures taken_late_with_delay { illegal_on bus_with_delay (passed (takes_at 1003 ∷ [])) ≡ Some 2 }
+    ensures ended_with_delay { illegal_on bus_with_delay
+        (passed (by_second 885 scrap ∷ by_first 1003 (token 2 1) ∷ [])) ≡ Some 3 }
+    ensures begun_with_delay { illegal_on bus_with_delay
+        (passed (by_second 995 scrap ∷ by_first 1003 (token 2 1) ∷ [])) ≡ None }
     ensures to_another { illegal_in (claimed (by_second 1833 (token 1 2) ∷ [])) ≡ Some 1 }
 {}
 

@@ -31,3 +31,12 @@ returns-clause-delay c = refl
 
 pub returns-clause-least_number : goal.returns-clause-least_number
 returns-clause-least_number c = refl
+
+pub returns-clause-at_the_delay : goal.returns-clause-at_the_delay
+returns-clause-at_the_delay c = refl
+
+pub returns-clause-with_lag : goal.returns-clause-with_lag
+returns-clause-with_lag c = refl
+
+pub returns-clause-late_with_delay : goal.returns-clause-late_with_delay
+returns-clause-late_with_delay c = refl

@@ -43,3 +43,6 @@ returns-clause-refused c = refl
 
 pub returns-clause-delay : goal.returns-clause-delay
 returns-clause-delay c = refl
+
+pub returns-clause-waits_out_next : goal.returns-clause-waits_out_next
+returns-clause-waits_out_next c = refl

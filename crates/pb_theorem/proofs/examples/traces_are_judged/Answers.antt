@@ -88,3 +88,12 @@ returns-clause-own_not_delayed c = refl
 
 pub returns-clause-to_another : goal.returns-clause-to_another
 returns-clause-to_another c = refl
+
+pub returns-clause-taken_late_with_delay : goal.returns-clause-taken_late_with_delay
+returns-clause-taken_late_with_delay c = refl
+
+pub returns-clause-ended_with_delay : goal.returns-clause-ended_with_delay
+returns-clause-ended_with_delay c = refl
+
+pub returns-clause-begun_with_delay : goal.returns-clause-begun_with_delay
+returns-clause-begun_with_delay c = refl
