@@ -9,7 +9,7 @@ use std::sync::{Mutex, Wait};
 use std::thread::Parker;
 
 /// How often one looks whether it may go on before it sleeps: a few microseconds, less than a wake-up takes.
-const LOOKS: u32 = 100;
+const LOOKS: u32 = 1000;
 
 /// The most offers of a run: a history has no more events.
 pub(crate) const MOST_OFFERS: u64 = 1_000_000;

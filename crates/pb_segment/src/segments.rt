@@ -10,8 +10,12 @@ use crate::seats::{ConductorSeat, TapSeat};
 use pb_station::{Decision, Glance};
 use pb_world::Event;
 use std::alloc::Global;
+use std::hint::spin_loop;
 use std::sync::ledger::Ledger;
-use std::sync::{Mutex, Wait};
+use std::sync::{Mutex, MutexGuard, Wait};
+
+/// How often one looks whether the lock is free before it sleeps: some microseconds, as long as a call or two hold it.
+const LOOKS: u32 = 1000;
 
 /// One bus for many threads: a world and its history under one lock. The seats of another segment don't fit it:
 /// the type parameter names the ledger of all events that its seats had accepted.
@@ -60,7 +64,7 @@ impl<L: Ledger> SharedSegment<L> {
         ensures tap { IfOk result (λ g. g.tap ≡ seat.now.tap) }
         ensures turn { IfOk result CanBeDecided }
     {
-        self.state.lock(rt).glance(alloc, seat)
+        self.locked(rt).glance(alloc, seat)
     }
 
     /// The tap takes the turn of a decision, if that was made on the tap as it is; the seat is given a receipt.
@@ -82,7 +86,7 @@ impl<L: Ledger> SharedSegment<L> {
         ensures same { OnErr result (seat.new ≡ seat.old) }
         ensures wrong { (result ≡ Err WrongTap) ↔ (decision.tap ≢ seat.old.tap) }
     {
-        self.state.lock(rt).commit(alloc, seat, decision)
+        self.locked(rt).commit(alloc, seat, decision)
     }
 
     /// Lets an event happen that is no turn; the conductor's seat is given a receipt. It may wait for the lock. A
@@ -102,7 +106,7 @@ impl<L: Ledger> SharedSegment<L> {
         ensures same { OnErr result (seat.new ≡ seat.old) }
         ensures wrong { (result ≡ Err WrongTap) ↔ IsTrue (is_turn (event_of event)) }
     {
-        self.state.lock(rt).drive(alloc, seat, event)
+        self.locked(rt).drive(alloc, seat, event)
     }
 
     /// What the conductor sees of the world after all events that were accepted so far, all of its own among them:
@@ -121,7 +125,7 @@ impl<L: Ledger> SharedSegment<L> {
             (λ o. seat.new ≡ record seat.old { outlooks = seat.old.outlooks ++ o ∷ [] }) }
         ensures same { OnErr result (seat.new ≡ seat.old) }
     {
-        self.state.lock(rt).outlook(alloc, seat)
+        self.locked(rt).outlook(alloc, seat)
     }
 
     /// Ends it. The receipts of each seat are then the places of its events in the history, with the replies there,
@@ -163,5 +167,16 @@ impl<L: Ledger> SharedSegment<L> {
             });
         }
         Ok(locked.into_report(conductor, seats))
+    }
+
+    /// What is under the lock, for one who holds it. One who finds it held looks again for a while before it sleeps.
+    fn locked(&self, rt: &impl Wait) -> MutexGuard<'_, Locked<L>> {
+        for _ in 0..LOOKS {
+            if let Some(guard) = self.state.try_lock() {
+                return guard;
+            }
+            spin_loop();
+        }
+        self.state.lock(rt)
     }
 }
