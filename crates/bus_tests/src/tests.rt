@@ -5,7 +5,7 @@ use pb_cycles::{Outcome, Request, Service};
 use pb_station::decide;
 use pb_timers::BusParams;
 use pb_world::{
-    AuditFault, Entry, Event, Heard, Kind, NewFault, TapSpec, World, WorldFault, audit, run,
+    AuditFault, Entry, Event, Heard, Kind, NewFault, Reply, TapSpec, World, WorldFault, audit, run,
 };
 use std::process::Abort;
 
@@ -186,6 +186,38 @@ fn a_turn_is_decided_outside_the_world(rt: HostRuntime) {
     assert_eq!(rt; turn.copy(), taken);
     assert_eq!(rt; phase_name(&other, 0), Some(phase));
     assert_eq!(rt; world.into_trace().len(), 1);
+}
+
+/// Turns that are decided on glances in the room of replaced stations are those that the world takes by itself.
+#[test]
+fn glances_take_the_room_of_replaced_stations(rt: HostRuntime) {
+    let alloc = rt.alloc();
+    let mut world = silent_for_800(&rt);
+    let mut other = silent_for_800(&rt);
+    world.apply(alloc, Event::Start(1)).expect(&rt, "a start");
+    other.apply(alloc, Event::Start(1)).expect(&rt, "a start");
+    for tap in [0, 1, 0, 1] {
+        let taken = take_decided(&rt, &mut world, tap);
+        let turn = other.apply(alloc, Event::Turn(tap)).expect(&rt, "a turn");
+        assert_eq!(rt; taken, Some(turn));
+        assert_eq!(rt; phase_name(&world, tap), phase_name(&other, tap));
+    }
+    assert_eq!(rt; world.into_trace().len(), 1);
+}
+
+/// The turn of a tap, decided on a glance in the room of replaced stations; none where there is no such tap, or the
+/// decision doesn't fit.
+fn take_decided(rt: &(impl AllocGlobal + Abort), world: &mut World, tap: usize) -> Option<Reply> {
+    if tap >= world.taps() {
+        return None;
+    }
+    let alloc = rt.alloc();
+    let glance = world.glance_in_room(alloc, tap).expect(rt, "a glance");
+    let decision = decide(alloc, glance).expect(rt, "a decision");
+    if !world.fits(&decision) {
+        return None;
+    }
+    Some(world.take(alloc, decision).expect(rt, "a turn"))
 }
 
 /// Why an event would be refused is known before, and nothing changes by that.

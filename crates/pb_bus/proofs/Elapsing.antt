@@ -1,12 +1,12 @@
 -- Time passes.
-use Rattle.std.proofs.Common.{◌≡◌, ◌∙◌, ap, sym, refl, ℕ, ◌+◌, ◌<◌, ◌++◌, List, [], ◌∷◌, map, Bool, true, false, if◌then◌else◌, arith, Option, Some, None, Err}
+use Rattle.std.proofs.Common.{◌≡◌, ◌∙◌, ap, sym, refl, ℕ, ◌+◌, ◌++◌, List, [], ◌∷◌, map, Bool, true, false, if◌then◌else◌, Option, Some, None, Err}
 use Rattle.std.specs.Prelude.{is_some, unwrap_or}
 use Rattle.pb_refusals.specs.FirstFault.{first_fault}
 use Rattle.pb_refusals.proofs.FirstFaults.{none_holds, first_fault-append}
 use Rattle.pb_model.specs.Trace.{Heard, Record, Entry, Sent, Noise}
 use Rattle.pb_model.specs.Medium.{Tap, heard_by, entry_at, reaches, ends_between, heard_in_the_end, is_whole_at}
 use Rattle.pb_model.specs.World.{World, Reply, Fault, InboxFull, next_end_of, unless_fault}
-use Rattle.pb_model.specs.Step.{told, first_full, is_past, pass_faults, step_pass}
+use Rattle.pb_model.specs.Step.{told, first_full, step_pass}
 use Rattle.pb_bus.specs.Clocks.{time_faults}
 
 -- ---- what the taps are told

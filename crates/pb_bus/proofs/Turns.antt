@@ -8,6 +8,7 @@ use Rattle.pb_core.specs.declared.sending.SendBuffer.{SendBuffer}
 use Rattle.pb_model.specs.Step.{step, with_said}
 use Rattle.pb_model.specs.World.{Turn}
 use Rattle.pb_station.specs.Decisions.{DecisionView, IsDecision}
+use Rattle.pb_station.specs.declared.spares.Spares.{Spares}
 use Rattle.pb_station.specs.MarkViews.{mark_of}
 use Rattle.pb_station.specs.Stations.{StationView}
 use Rattle.pb_taps.specs.Glancing.{FitsTap}
@@ -61,9 +62,9 @@ turn-follows b i next taps said roomy after kept (u, there, runs) (t, at, are, s
     ∙ ap (λ es. Ok (record w { trace = es; taps = slice_set w.taps i turned }, record { now = b.now; spoke = said })) (sym becomes.entries)
     ∙ ap (λ ts. Ok (record w { trace = entries_of after; taps = ts }, record { now = b.now; spoke = said })) (sym set)
 
-pub turn-kept : (b : Bus) (i : ℕ) (next : List Tap) (taps : Vec Tap) (said : Option (List ℕ)) (roomy after : Trace) (out : SendBuffer) → IsKept b → Runs b.taps.items i
-    → TakesTurn b.taps.items i b.now next said → taps.items ≡ next → Grows b i said roomy after → IsKept (record b { trace = after; taps = taps; sent = out })
-turn-kept b i next taps said roomy after out kept runs (t, at, are, spoken) back grows =
+pub turn-kept : (b : Bus) (i : ℕ) (next : List Tap) (taps : Vec Tap) (said : Option (List ℕ)) (roomy after : Trace) (out : SendBuffer) (spares : Spares) → IsKept b → Runs b.taps.items i
+    → TakesTurn b.taps.items i b.now next said → taps.items ≡ next → Grows b i said roomy after → IsKept (record b { trace = after; taps = taps; sent = out; spares = spares })
+turn-kept b i next taps said roomy after out spares kept runs (t, at, are, spoken) back grows =
     let w = world_of b in
     let items = b.taps.items in
     let becomes = after-room (with_said i said b.now w.taps) b.trace roomy after grows.same grows.becomes in

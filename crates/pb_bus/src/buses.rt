@@ -4,7 +4,7 @@ use crate::starting::start;
 use crate::stopping::stop;
 use pb_cycles::Request;
 use pb_medium::{Hit, Speaker, Trace};
-use pb_station::{Decision, Glance, NoMemory, SendBuffer, Station, due};
+use pb_station::{Decision, Glance, NoMemory, SendBuffer, Spares, Station, due};
 use pb_taps::{
     Event, Tap, WorldFault, check_running, fits, glance, queue, take_decided, take_turn,
 };
@@ -20,6 +20,8 @@ pub struct Bus {
     pub taps: Vec<Tap>,
     /// What the last event has sent.
     pub sent: SendBuffer,
+    /// Stations that decided turns have replaced.
+    pub spares: Spares,
 }
 
 impl Bus {
@@ -90,8 +92,10 @@ impl Bus {
         };
         check_running(&self.taps, decision.tap)?;
         make_room_for(&mut self.trace, &decision)?;
-        take_decided(&mut self.taps, decision, self.now, &mut self.sent);
+        let replaced = take_decided(&mut self.taps, decision, self.now, &mut self.sent);
         self.trace.say(alloc, speaker, &self.sent);
+        self.spares.keep(replaced.was);
+        self.spares.keep(replaced.before);
         Ok(())
     }
 
@@ -205,7 +209,19 @@ impl Bus {
         ensures shows { IfOk result (IsGlance (world_of self.entry.now) tap) }
         ensures turn { IfOk result CanBeDecided }
     {
-        glance(alloc, &self.taps, tap, self.now)
+        glance(alloc, &self.taps, tap, self.now, &mut Spares::new(alloc))
+    }
+
+    /// The same, in the room of stations that decided turns have replaced. Its fault: memory was refused.
+    pub fn glance_in_room(&mut self, alloc: Global, tap: usize) -> Result<Glance, NoMemory>
+        requires kept { IsKept self.old }
+        requires there { tap < length self.old.taps.items }
+        ensures shows { IfOk result (IsGlance (world_of self.old) tap) }
+        ensures turn { IfOk result CanBeDecided }
+        ensures same { world_of self.new ≡ world_of self.old }
+        ensures kept { IsKept self.new }
+    {
+        glance(alloc, &self.taps, tap, self.now, &mut self.spares)
     }
 
     /// Whether a decision was made on its tap as that is now.

@@ -6,7 +6,7 @@ ghost use Rattle.pb_taps.specs.Taps.{spec_of};
 
 use crate::buses::Bus;
 use pb_medium::Trace;
-use pb_station::SendBuffer;
+use pb_station::{SendBuffer, Spares};
 use pb_taps::{NewFault, TapSpec, beginning, check_taps, new_taps};
 use pb_timers::BusParams;
 use std::alloc::Global;
@@ -26,5 +26,6 @@ pub fn new_bus(alloc: Global, params: BusParams, specs: &[TapSpec]) -> Result<Bu
         trace: Trace::new(alloc),
         taps,
         sent: SendBuffer::new(),
+        spares: Spares::new(alloc),
     })
 }

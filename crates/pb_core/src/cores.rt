@@ -1,4 +1,4 @@
-ghost use Rattle.std.specs.Prelude.{◌≡◌, ◌≤◌, IfOk};
+ghost use Rattle.std.specs.Prelude.{◌≡◌, ◌≤◌};
 ghost use Rattle.pb_core.specs.Clocks.{last_end};
 
 use crate::addresses::Address;
@@ -11,7 +11,6 @@ use pb_rotation::Rotation;
 use pb_telegram::copy_octets;
 use pb_timers::Moment;
 use pb_tokenfsm::Phase;
-use std::alloc::{AllocError, Global};
 
 /// What a station keeps beside its phase and the requests that wait.
 #[derive(Debug, Drop)]
@@ -64,6 +63,20 @@ impl Kept {
         self.past.end.get()
     }
 
+    /// Becomes equal to another, in the room that it has.
+    fn copy_from(&mut self, other: &Kept)
+        ensures { self.new ≡ other.now }
+    {
+        self.address = other.address;
+        self.busy = other.busy;
+        self.past = other.past;
+        copy_reply(&mut self.reply, &other.reply);
+        self.las = other.las;
+        self.gap = other.gap;
+        self.rotation = other.rotation;
+        self.cycles.copy_from(&other.cycles);
+    }
+
     /// The same.
     pub fn copy(&self) -> Kept
         ensures { result ≡ self.now }
@@ -82,15 +95,23 @@ impl Kept {
 }
 
 impl Core {
-    /// An equal core. Its fault: memory was refused.
-    pub fn copy(&self, alloc: Global) -> Result<Core, AllocError>
-        ensures { IfOk result (λ c. c ≡ self.now) }
+    /// Becomes equal to another, in the room that it has.
+    pub fn copy_from(&mut self, other: &Core)
+        ensures { self.new ≡ other.now }
     {
-        let waiting = self.waiting.copy(alloc)?;
-        Ok(Core {
-            phase: self.phase.copy(),
-            kept: self.kept.copy(),
-            waiting,
-        })
+        self.phase = other.phase.copy();
+        self.kept.copy_from(&other.kept);
+        self.waiting.copy_from(&other.waiting);
+    }
+}
+
+/// Becomes what another is. It is a call of its own since seldom a reply waits, and its room is then not moved.
+#[inline(never)]
+fn copy_reply(reply: &mut Option<Reply>, other: &Option<Reply>)
+    ensures { reply.new ≡ other.now }
+{
+    match other {
+        Some(waits) => *reply = Some(waits.copy()),
+        None => *reply = None,
     }
 }

@@ -76,6 +76,15 @@ impl Cycles {
         }
     }
 
+    /// Becomes equal to others, in the room that it has.
+    pub fn copy_from(&mut self, other: &Cycles)
+        ensures { self.new ≡ other.now }
+    {
+        self.initiator.copy_from(&other.initiator);
+        self.responder.copy_from(&other.responder);
+        self.last_outcome = copy_outcome(&other.last_outcome);
+    }
+
     /// Equal message cycles.
     pub fn copy(&self) -> Cycles
         ensures { result ≡ self.now }

@@ -36,15 +36,14 @@ impl RequestList {
         Ok(RequestList { requests })
     }
 
-    /// The same requests. Its fault: memory was refused.
-    pub fn copy(&self, alloc: Global) -> Result<RequestList, AllocError>
-        ensures { IfOk result (λ l. l ≡ self.now) }
+    /// The requests of another wait, and none of those that waited.
+    pub fn copy_from(&mut self, other: &RequestList)
+        ensures { self.new ≡ other.now }
     {
-        let mut requests = Vec::with_capacity(alloc, REQUEST_LIMIT)?;
-        for request in &self.requests {
-            requests.push_reserved(request.copy());
+        self.clear();
+        for request in &other.requests {
+            self.requests.push_reserved(request.copy());
         }
-        Ok(RequestList { requests })
     }
 
     /// They all, the one that has waited longest first.

@@ -33,13 +33,12 @@ impl Waiting {
         Ok(Waiting { high, low })
     }
 
-    /// The same requests. Its fault: memory was refused.
-    pub fn copy(&self, alloc: Global) -> Result<Waiting, AllocError>
-        ensures { IfOk result (λ w. w ≡ self.now) }
+    /// The requests of another wait, and none of those that waited.
+    pub fn copy_from(&mut self, other: &Waiting)
+        ensures { self.new ≡ other.now }
     {
-        let high = self.high.copy(alloc)?;
-        let low = self.low.copy(alloc)?;
-        Ok(Waiting { high, low })
+        self.high.copy_from(&other.high);
+        self.low.copy_from(&other.low);
     }
 
     /// Whether the same requests wait in another.

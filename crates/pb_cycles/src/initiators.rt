@@ -33,6 +33,17 @@ impl OpenRequest {
     }
 }
 
+/// Becomes what another is. It is a call of its own since a request is seldom open, and its room is then not moved.
+#[inline(never)]
+fn copy_pending(pending: &mut Option<OpenRequest>, other: &Option<OpenRequest>)
+    ensures { pending.new ≡ other.now }
+{
+    match other {
+        Some(request) => *pending = Some(request.copy()),
+        None => *pending = None,
+    }
+}
+
 /// The side of message cycles that asks: frame count bits, retries, and what replies mean
 /// (EN 50170-2, message cycles).
 #[derive(Debug, PartialEq, Eq, Drop)]
@@ -135,6 +146,15 @@ impl Initiator {
         ensures { result ≡ is_some (retry_of self.now.pending) }
     {
         matches!(&self.pending, Some(request) if request.left > 0)
+    }
+
+    /// Becomes equal to another, in the room that it has.
+    pub fn copy_from(&mut self, other: &Initiator)
+        ensures { self.new ≡ other.now }
+    {
+        self.retries = other.retries;
+        self.counts = other.counts;
+        copy_pending(&mut self.pending, &other.pending);
     }
 
     /// An equal initiator, with which one can see what a turn would do.

@@ -32,6 +32,17 @@ impl Kept {
     }
 }
 
+/// Becomes what another is. It is a call of its own since often nothing is kept, and its room is then not moved.
+#[inline(never)]
+fn copy_kept(kept: &mut Option<Kept>, other: &Option<Kept>)
+    ensures { kept.new ≡ other.now }
+{
+    match other {
+        Some(last) => *kept = Some(last.copy()),
+        None => *kept = None,
+    }
+}
+
 /// The side of message cycles that answers (EN 50170-2, message cycles). It executes a request once,
 /// also where it comes again.
 #[derive(Debug, PartialEq, Eq, Drop)]
@@ -125,6 +136,16 @@ impl Responder {
             kept: None,
             executed: 0,
         }
+    }
+
+    /// Becomes equal to another, in the room that it has.
+    pub fn copy_from(&mut self, other: &Responder)
+        ensures { self.new ≡ other.now }
+    {
+        self.reply.clear();
+        self.reply.try_extend_from_slice(&other.reply).unwrap();
+        self.executed = other.executed;
+        copy_kept(&mut self.kept, &other.kept);
     }
 
     /// An equal responder, with which one can see what a turn would do.

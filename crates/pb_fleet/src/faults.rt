@@ -1,9 +1,8 @@
 ghost use Rattle.std.specs.Prelude.{◌≡◌};
 ghost use Rattle.pb_fleet.specs.Faults.{IsOfPlay};
 
-use pb_segment::{CloseFault, CommitFault};
+use pb_segment::{CloseFault, CommitFault, NewFault};
 use pb_station::NoMemory;
-use pb_world::NewFault;
 use std::alloc::AllocError;
 use thiserror::Error;
 

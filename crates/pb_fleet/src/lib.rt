@@ -14,6 +14,7 @@ mod workers;
 pub use faults::FleetFault;
 pub use fleets::run_fleet;
 pub use gates::Gate;
+pub use pb_segment::{CloseFault, CommitFault};
 pub use pb_tickets::{TicketSeat, Tickets};
 
 #[cfg(test)]

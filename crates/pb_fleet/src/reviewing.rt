@@ -6,8 +6,7 @@ ghost use Rattle.pb_fleet.specs.Played.{LeavesToken, begins};
 use crate::faults::PlayFault;
 use pb_review::{Look, is_run};
 use pb_scenario::Scenario;
-use pb_segment::{CloseFault, History, Outlook, Report};
-use pb_world::Event;
+use pb_segment::{CloseFault, Event, History, Outlook, Report};
 use std::alloc::Global;
 
 /// A history, with the outlooks that were taken.

@@ -1,7 +1,6 @@
 use crate::{FleetFault, Gate, run_fleet};
 use pb_scenario::{Scenario, read};
-use pb_segment::CommitFault;
-use pb_world::{Entry, NewFault, WorldFault};
+use pb_segment::{CommitFault, Entry, NewFault, WorldFault};
 use std::alloc::{AllocError, Global};
 use std::process::Abort;
 use std::sync::Wait;

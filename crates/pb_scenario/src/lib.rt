@@ -20,6 +20,7 @@ mod words;
 pub use faults::{RunFault, ScenarioFault};
 pub use files::read;
 pub use keys::{Key, Path, Section, UnknownKey};
+pub use pb_world::{Audit, Entry, NewFault, WorldFault};
 pub use runs::{audit_of, events_of};
 pub use scenarios::Scenario;
 pub use texts::trace_text;

@@ -20,6 +20,7 @@ mod segments;
 pub use faults::{CloseFault, CommitFault, GlanceFault};
 pub use histories::History;
 pub use outlooks::{Dues, Outlook};
+pub use pb_world::{Entry, Event, NewFault, World, WorldFault};
 pub use receipts::Receipt;
 pub use reports::Report;
 pub use seats::{ConductorSeat, TapSeat};

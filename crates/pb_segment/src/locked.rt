@@ -61,16 +61,17 @@ impl<L: Ledger> Locked<L> {
     ghost use Rattle.pb_segment.specs.Outlooks.{ShowsWorld};
 
     /// What the tap of a seat shows.
-    pub(crate) fn glance(&self, alloc: Global, seat: &TapSeat<L>) -> Result<Glance, GlanceFault>
-        ensures shows { IfOk result (IsGlance self.now.world seat.now.tap) }
+    pub(crate) fn glance(&mut self, alloc: Global, seat: &TapSeat<L>) -> Result<Glance, GlanceFault>
+        ensures shows { IfOk result (IsGlance self.old.world seat.now.tap) }
         ensures turn { IfOk result CanBeDecided }
-        ensures known { OnOk result (KnowsTurns self.now seat.now) }
-        ensures err { IfErr result (RefusesToShow (KnowsTurns self.now seat.now)) }
+        ensures known { OnOk result (KnowsTurns self.old seat.now) }
+        ensures err { IfErr result (RefusesToShow (KnowsTurns self.old seat.now)) }
+        ensures same { self.new ≡ self.old }
     {
         if self.turns[seat.tap] != seat.receipts.len() {
             return Err(GlanceFault::Disagree);
         }
-        let glance = self.world.glance_of(alloc, seat.tap)?;
+        let glance = self.world.glance_in_room(alloc, seat.tap)?;
         Ok(glance)
     }
 

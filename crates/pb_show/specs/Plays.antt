@@ -8,8 +8,8 @@ use Rattle.pb_model.specs.World.{new_world}
 use Rattle.pb_taps.specs.declared.faults.NewFault.TheVariants as new
 use Rattle.pb_taps.specs.declared.faults.WorldFault.TheVariants as world
 use Rattle.pb_runs.specs.Scenarios.{trace_of}
-use Rattle.pb_segment.specs.declared.faults.CommitFault.{CommitFault}
-use Rattle.pb_segment.specs.declared.faults.CommitFault.TheVariants as commit
+use Rattle.pb_fleet.specs.CommitFault.{CommitFault}
+use Rattle.pb_fleet.specs.CommitFault.TheVariants as commit
 use Rattle.pb_fleet.specs.declared.faults.FleetFault.{FleetFault}
 use Rattle.pb_fleet.specs.declared.faults.FleetFault.TheVariants as fleet
 use Rattle.pb_fleet.specs.Faults.{RefusesFleet}

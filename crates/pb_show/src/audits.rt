@@ -6,8 +6,8 @@ ghost use Rattle.pb_show.specs.Shown.{shown_of};
 
 use crate::numbers::push_number;
 use crate::shown::Shown;
+use pb_scenario::Audit;
 use pb_timers::Moment;
-use pb_world::Audit;
 use std::alloc::{AllocError, Global};
 
 /// What is written for what an audit finds.

@@ -2,8 +2,7 @@ ghost use Rattle.std.specs.Prelude.{◌≡◌, ◌++◌, OnOk};
 ghost use Rattle.pb_show.specs.Names.{item_text, key_text, new_name, path_text, section_text, world_name};
 
 use crate::numbers::push_number;
-use pb_scenario::{Path, Section};
-use pb_world::{NewFault, WorldFault};
+use pb_scenario::{NewFault, Path, Section, WorldFault};
 use std::alloc::AllocError;
 
 /// The name of a fault of a new world.

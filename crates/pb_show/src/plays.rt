@@ -8,10 +8,8 @@ ghost use Rattle.pb_show.specs.Shown.{refusal, shown_of};
 use crate::faults::{new_line, refused_line};
 use crate::shown::Shown;
 use crate::tails::last_lines;
-use pb_fleet::FleetFault;
-use pb_scenario::{Scenario, trace_text};
-use pb_segment::CommitFault;
-use pb_world::Entry;
+use pb_fleet::{CommitFault, FleetFault};
+use pb_scenario::{Entry, Scenario, trace_text};
 use std::alloc::{AllocError, Global};
 
 /// What is written for the trace of a scenario's run: a line for each entry, or the last lines of them.

@@ -1,6 +1,5 @@
 use crate::{audited, refused_fleet};
-use pb_fleet::FleetFault;
-use pb_segment::{CloseFault, CommitFault};
+use pb_fleet::{CloseFault, CommitFault, FleetFault};
 
 /// Two masters that start in the instants that make up the difference of their time-outs.
 const FILE: &[u8] = b"version = 1

@@ -68,11 +68,11 @@ pub fn decide(alloc: Global, glance: Glance) -> Result<Decision, NoMemory>
 {
     let Glance {
         tap,
-        station,
+        mut station,
         marks,
         now,
     } = glance;
-    let mut after = station.copy(alloc)?;
+    let mut after = station.copy_in_room(alloc)?;
     let mut out = SendBuffer::new();
     after.take_turn(&marks, now, &mut out);
     Ok(Decision {

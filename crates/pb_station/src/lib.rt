@@ -8,12 +8,14 @@
 mod decisions;
 mod marks;
 mod reading;
+mod spares;
 mod stations;
 mod turns;
 
 pub use decisions::{Decision, Glance, decide, due};
 pub use marks::{Mark, copy_chars};
 pub use pb_core::SendBuffer;
+pub use spares::Spares;
 pub use stations::{NoMemory, Station};
 
 #[cfg(test)]

@@ -41,11 +41,13 @@ impl From<AllocFailed<Parts>> for NoMemory {
 pub struct Station {
     /// In a box, so that to move a station moves little.
     parts: Box<Parts>,
+    /// Where a copy of the station is made, if it has such room.
+    room: Option<Box<Parts>>,
 }
 
 /// What a station is made of.
 #[derive(Debug, Drop)]
-struct Parts {
+pub(crate) struct Parts {
     tap: usize,
     params: BusParams,
     master: bool,
@@ -62,6 +64,22 @@ impl Model for Station {
     ghost view = { station_view };
 
     ghost invariant = { λ s. HasReceived (station_of s.parts.value.core) };
+}
+
+impl Parts {
+    /// Becomes what another is, in the room that it has.
+    fn copy_from(&mut self, other: &Parts)
+        ensures { self.new ≡ other.now }
+    {
+        self.tap = other.tap;
+        self.params = other.params;
+        self.master = other.master;
+        self.reply_data.clear();
+        self.reply_data
+            .try_extend_from_slice(&other.reply_data)
+            .unwrap();
+        self.core.copy_from(&other.core);
+    }
 }
 
 /// What a station keeps that has neither heard nor said anything since a moment.
@@ -159,6 +177,7 @@ impl Station {
         };
         Ok(Station {
             parts: Box::new(alloc, parts)?,
+            room: None,
         })
     }
 
@@ -282,17 +301,56 @@ impl Station {
     pub fn copy(&self, alloc: Global) -> Result<Station, NoMemory>
         ensures { IfOk result (λ s. s ≡ self.now) }
     {
-        let core = self.parts.core.copy(alloc)?;
-        let parts = Parts {
-            tap: self.parts.tap,
-            params: self.parts.params,
-            master: self.parts.master,
-            reply_data: copy_octets(&self.parts.reply_data),
+        let Parts {
+            tap,
+            params,
+            master,
+            reply_data,
             core,
-        };
-        Ok(Station {
-            parts: Box::new(alloc, parts)?,
-        })
+        } = &*self.parts;
+        let data = copy_octets(reply_data);
+        let mut copy = Station::new(alloc, *tap, *params, self.address(), *master, data)?;
+        copy.parts.core.copy_from(core);
+        Ok(copy)
+    }
+
+    /// An equal station, made in the room that this one has for it, or else in memory that it takes.
+    ///
+    /// Fault: `NoMemory` where memory was refused.
+    pub(crate) fn copy_in_room(&mut self, alloc: Global) -> Result<Station, NoMemory>
+        ensures copy { IfOk result (λ s. s ≡ self.old) }
+        ensures same { self.new ≡ self.old }
+    {
+        match self.room.take() {
+            Some(room) => Ok(self.copy_to(room)),
+            None => self.copy(alloc),
+        }
+    }
+
+    /// An equal station, in the room of another.
+    pub(crate) fn copy_to(&self, mut room: Box<Parts>) -> Station
+        ensures { result ≡ self.now }
+    {
+        room.copy_from(&self.parts);
+        Station {
+            parts: room,
+            room: None,
+        }
+    }
+
+    /// The same station, with the room of others for a copy.
+    pub(crate) fn with_room(self, room: Option<Box<Parts>>) -> Station
+        ensures { result ≡ self }
+    {
+        Station {
+            parts: self.parts,
+            room,
+        }
+    }
+
+    /// The room of a station that is no longer wanted.
+    pub(crate) fn into_parts(self) -> Box<Parts> {
+        self.parts
     }
 
     /// Whether another station is equal to it.

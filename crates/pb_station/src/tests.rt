@@ -166,6 +166,29 @@ fn a_new_master_listens_and_claims(rt: HostRuntime) -> Result<(), Fail> {
     Ok(())
 }
 
+/// A station is copied in the room of another, whatever that was, and so is the one after a turn.
+#[test]
+fn stations_are_copied_in_the_room_of_others(rt: HostRuntime) -> Result<(), Fail> {
+    let alloc = rt.alloc();
+    let mut spares = Spares::new(alloc);
+    for address in [7, 9] {
+        let mut reply = ArrayVec::new();
+        reply.push(address);
+        let mut other = Station::new(alloc, 3, usual()?, address, false, reply)?;
+        other.start(at(40)?);
+        spares.keep(other);
+    }
+    let mut station = master(alloc)?;
+    station.start(at(0)?);
+    let copy = spares.copy_of(alloc, &station)?;
+    assert!(rt; copy.is_same(&station));
+    let first = take_turn(alloc, copy, "800 800 dc0101 Claim 870")?;
+    assert!(rt; first.agrees);
+    let again = spares.copy_of(alloc, &station)?;
+    assert!(rt; again.is_same(&station));
+    Ok(())
+}
+
 /// A passive station waits for requests, and is not due by itself.
 #[test]
 fn a_passive_station_waits(rt: HostRuntime) -> Result<(), Fail> {

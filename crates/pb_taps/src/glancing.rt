@@ -3,17 +3,24 @@ ghost use Rattle.pb_taps.specs.Glancing.{Shows, WasMadeOn, FitsTap};
 ghost use Rattle.pb_taps.specs.declared.taps.Tap as declared;
 
 use crate::taps::Tap;
-use pb_station::{Decision, Glance, NoMemory};
+use pb_station::{Decision, Glance, NoMemory, Spares};
 use pb_timers::Moment;
 use std::alloc::Global;
 
-/// What the tap at a position shows. Its fault: memory was refused.
-pub fn glance(alloc: Global, taps: &[Tap], position: usize, now: Moment) -> Result<Glance, NoMemory>
+/// What the tap at a position shows, its station in the room of one that is no longer wanted. Its fault: memory was
+/// refused.
+pub fn glance(
+    alloc: Global,
+    taps: &[Tap],
+    position: usize,
+    now: Moment,
+    spares: &mut Spares,
+) -> Result<Glance, NoMemory>
     requires { position < length taps.now }
     ensures { IfOk result (λ g. (t : declared.Tap) → slice_get taps.now position ≡ Some t
         → Shows t position now g) }
 {
-    show(alloc, &taps[position], position, now)
+    show(alloc, &taps[position], position, now, spares)
 }
 
 /// Whether a decision was made on the tap at its position, as that is now.
@@ -26,12 +33,18 @@ pub fn fits(taps: &[Tap], decision: &Decision, now: Moment) -> bool
     }
 }
 
-fn show(alloc: Global, tap: &Tap, position: usize, now: Moment) -> Result<Glance, NoMemory>
+fn show(
+    alloc: Global,
+    tap: &Tap,
+    position: usize,
+    now: Moment,
+    spares: &mut Spares,
+) -> Result<Glance, NoMemory>
     ensures { IfOk result (Shows tap.now position now) }
 {
     Ok(Glance {
         tap: position,
-        station: tap.station.copy(alloc)?,
+        station: spares.copy_of(alloc, &tap.station)?,
         marks: tap.marks.copy_marks(alloc)?,
         now,
     })

@@ -20,4 +20,4 @@ pub use making::{check_taps, new_taps};
 pub use moments::beginning;
 pub use queueing::{check_queue, queue};
 pub use taps::{Kind, Tap, TapSpec};
-pub use turning::{check_running, take_decided, take_turn, would_speak};
+pub use turning::{Replaced, check_running, take_decided, take_turn, would_speak};

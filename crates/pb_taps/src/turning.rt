@@ -12,6 +12,7 @@ use crate::taps::Tap;
 use arrayvec::ArrayVec;
 use pb_station::{Decision, SendBuffer, Station};
 use pb_timers::Moment;
+use std::mem::replace;
 
 /// Whether a tap runs. Faults, the first that applies: `NoSuchTap`; `NotRunning`.
 pub fn check_running(taps: &[Tap], tap: usize) -> Result<(), WorldFault>
@@ -47,19 +48,37 @@ pub fn take_turn(taps: &mut [Tap], tap: usize, now: Moment, out: &mut SendBuffer
     turn(&mut taps[tap], now, out);
 }
 
-/// The station at the tap of a decision that fits takes the turn that was decided, and sends what it says.
-pub fn take_decided(taps: &mut [Tap], decision: Decision, now: Moment, out: &mut SendBuffer)
+/// Stations that another has taken the place of.
+#[derive(Debug, Drop)]
+pub struct Replaced {
+    /// The one that was at the tap.
+    pub was: Station,
+    /// The one on which the turn was decided.
+    pub before: Station,
+}
+
+/// The station at the tap of a decision that fits takes the turn that was decided, and sends what it says. Both
+/// stations before it are handed back.
+pub fn take_decided(
+    taps: &mut [Tap],
+    decision: Decision,
+    now: Moment,
+    out: &mut SendBuffer,
+) -> Replaced
     requires { FitsTap taps.old now decision }
-    ensures { TakesTurn taps.old decision.tap now taps.new out.new }
+    ensures turn { TakesTurn taps.old decision.tap now taps.new out.new }
+    ensures replaced { (result.was ≡ decision.before) × (result.before ≡ decision.before) }
 {
     let Decision {
         tap,
+        before,
         after,
         speak,
         ..
     } = decision;
-    become_turned(&mut taps[tap], after);
+    let was = become_turned(&mut taps[tap], after);
     send(out, speak);
+    Replaced { was, before }
 }
 
 fn would_say(tap: &Tap, now: Moment) -> bool
@@ -80,12 +99,13 @@ fn turn(tap: &mut Tap, now: Moment, out: &mut SendBuffer)
     tap.marks.clear();
 }
 
-/// A tap has a station that has read all its marks.
-fn become_turned(tap: &mut Tap, after: Station)
-    ensures { tap.new ≡ record tap.old { station = after; marks = [] } }
+/// A tap has a station that has read all its marks. It answers the one that it had.
+fn become_turned(tap: &mut Tap, after: Station) -> Station
+    ensures tap { tap.new ≡ record tap.old { station = after; marks = [] } }
+    ensures was { result ≡ tap.old.station }
 {
-    tap.station = after;
     tap.marks.clear();
+    replace(&mut tap.station, after)
 }
 
 /// Sends what was said, if anything.

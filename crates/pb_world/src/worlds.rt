@@ -165,6 +165,20 @@ impl World {
         self.bus.glance(alloc, tap)
     }
 
+    /// What [`glance_of`](World::glance_of) shows, for a turn that is decided soon: the stations that decided turns have
+    /// replaced are kept, and the glance takes their room, so that it and the decision seldom take memory. Nothing that
+    /// can be seen of the world changes. The tap is in the list, the caller's condition.
+    ///
+    /// Fault: `NoMemory` where memory was refused, for the station and the marks.
+    pub fn glance_in_room(&mut self, alloc: Global, tap: usize) -> Result<Glance, NoMemory>
+        requires { tap < length self.old.taps }
+        ensures shows { IfOk result (IsGlance self.old tap) }
+        ensures turn { IfOk result CanBeDecided }
+        ensures same { self.new ≡ self.old }
+    {
+        self.bus.glance_in_room(alloc, tap)
+    }
+
     /// Whether a decision was made on its tap as that is now: the station, its unread marks and the clock are the
     /// decision's. It isn't where there is no such tap. It changes nothing, and takes no memory.
     pub fn fits(&self, decision: &Decision) -> bool

@@ -48,8 +48,8 @@ returns-in_err-make_room_for-clause-follows c =
           (subst (λ o. RefusesSaid o (length (entries_of bus.trace)) reason) said c.in_err-make_room_for.ensures.fault),
     )
 
-pub take_decided-requires : goal.take_decided-requires
-take_decided-requires c =
+pub take_decided-replaced-requires : goal.take_decided-replaced-requires
+take_decided-replaced-requires c =
     let bus = c.args.self.now in
     subst (λ ts. FitsTap ts bus.now c.args.decision) (sym c.deref_mut.ensures.value) ((fits bus c.args.decision c.requires.kept).1 c.requires.fits)
 
@@ -57,27 +57,27 @@ pub say-requires-clause-room : goal.say-requires-clause-room
 say-requires-clause-room c speaks =
     let bus = c.args.self.now in
     let d = c.args.decision in
-    let (t, at, are, said) = subst (λ ts. TakesTurn ts d.tap bus.now c.take_decided.new.taps c.take_decided.new.out) c.deref_mut.ensures.value c.take_decided.ensures in
+    let (t, at, are, said) = subst (λ ts. TakesTurn ts d.tap bus.now c.take_decided-replaced.new.taps c.take_decided-replaced.new.out) c.deref_mut.ensures.value c.take_decided-replaced.ensures.turn in
     let fit = (fits bus d c.requires.kept).1 c.requires.fits in
     let says = decided-says bus.taps.items bus.now d t fit (subst IsDecision c.decision.view_is c.decision.invariant) at in
     c.in_ok-make_room_for.ensures.ok (ap is_some (says ∙ sym said) ∙ speaks)
 
 -- the tap that ran, what its turn did to the taps, and what became of the trace
-runs : (c : goal.After-say) → Runs c.args.self.now.taps.items c.args.decision.tap
+runs : (c : goal.After-keep-2) → Runs c.args.self.now.taps.items c.args.decision.tap
 runs c =
     let (t, at, up) = c.in_ok-check_running.ensures.ok in
     (t, ap (λ xs. slice_get xs c.args.decision.tap) (sym c.deref.ensures.value) ∙ ap (λ x. slice_get c.deref.result.now x.tap) (sym c.decision.view_is) ∙ at, up)
 
-takes : (c : goal.After-say) → TakesTurn c.args.self.now.taps.items c.args.decision.tap c.args.self.now.now c.take_decided.new.taps c.take_decided.new.out
-takes c = subst (λ ts. TakesTurn ts c.args.decision.tap c.args.self.now.now c.take_decided.new.taps c.take_decided.new.out) c.deref_mut.ensures.value c.take_decided.ensures
+takes : (c : goal.After-keep-2) → TakesTurn c.args.self.now.taps.items c.args.decision.tap c.args.self.now.now c.take_decided-replaced.new.taps c.take_decided-replaced.new.out
+takes c = subst (λ ts. TakesTurn ts c.args.decision.tap c.args.self.now.now c.take_decided-replaced.new.taps c.take_decided-replaced.new.out) c.deref_mut.ensures.value c.take_decided-replaced.ensures.turn
 
-back : (c : goal.After-say) → (with_items c.args.self.now.taps c.take_decided.new.taps).items ≡ c.take_decided.new.taps
+back : (c : goal.After-keep-2) → (with_items c.args.self.now.taps c.take_decided-replaced.new.taps).items ≡ c.take_decided-replaced.new.taps
 back c =
     let bus = c.args.self.now in
-    written-back bus.taps.len bus.taps.items c.take_decided.new.taps (ap length (sym c.deref_mut.ensures.value) ∙ c.deref_mut.ensures.len)
+    written-back bus.taps.len bus.taps.items c.take_decided-replaced.new.taps (ap length (sym c.deref_mut.ensures.value) ∙ c.deref_mut.ensures.len)
     (ap length (takes c).2 ∙ length-set bus.taps.items c.args.decision.tap (turned_tap (takes c).0 bus.now))
 
-grows : (c : goal.After-say) → Grows c.args.self.now c.args.decision.tap c.take_decided.new.out c.make_room_for.new.trace c.say.new.self
+grows : (c : goal.After-keep-2) → Grows c.args.self.now c.args.decision.tap c.take_decided-replaced.new.out c.make_room_for.new.trace c.say.new.self
 grows c =
     let bus = c.args.self.now in
     let d = c.args.decision in
@@ -87,13 +87,13 @@ grows c =
     record {
       same = c.in_ok-make_room_for.ensures.same;
       room = λ speaks. c.in_ok-make_room_for.ensures.ok (ap is_some (says ∙ sym (takes c).3) ∙ speaks);
-      becomes = subst (λ (x : DecisionView). RecentBecomes (with_said x.tap c.take_decided.new.out bus.now (world_of bus).taps) c.make_room_for.new.trace c.say.new.self) c.decision.view_is (c.say.ensures (world_of bus).taps size);
+      becomes = subst (λ (x : DecisionView). RecentBecomes (with_said x.tap c.take_decided-replaced.new.out bus.now (world_of bus).taps) c.make_room_for.new.trace c.say.new.self) c.decision.view_is (c.say.ensures (world_of bus).taps size);
     }
 
 pub returns-clause-follows : goal.returns-clause-follows
 returns-clause-follows c =
-    turn-follows c.args.self.now c.args.decision.tap c.take_decided.new.taps _ c.take_decided.new.out c.make_room_for.new.trace c.say.new.self c.requires.kept (runs c) (takes c) (back c) (grows c)
+    turn-follows c.args.self.now c.args.decision.tap c.take_decided-replaced.new.taps _ c.take_decided-replaced.new.out c.make_room_for.new.trace c.say.new.self c.requires.kept (runs c) (takes c) (back c) (grows c)
 
 pub returns-clause-kept : goal.returns-clause-kept
 returns-clause-kept c =
-    turn-kept c.args.self.now c.args.decision.tap c.take_decided.new.taps _ c.take_decided.new.out c.make_room_for.new.trace c.say.new.self c.take_decided.new.out c.requires.kept (runs c) (takes c) (back c) (grows c)
+    turn-kept c.args.self.now c.args.decision.tap c.take_decided-replaced.new.taps _ c.take_decided-replaced.new.out c.make_room_for.new.trace c.say.new.self c.take_decided-replaced.new.out c.keep-2.new.self c.requires.kept (runs c) (takes c) (back c) (grows c)

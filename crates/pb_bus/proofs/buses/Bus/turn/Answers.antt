@@ -69,4 +69,4 @@ returns-clause-follows c =
 
 pub returns-clause-kept : goal.returns-clause-kept
 returns-clause-kept c =
-    turn-kept c.args.self.now c.args.tap c.take_turn.new.taps _ c.take_turn.new.out c.make_room.new.trace c.say.new.self c.take_turn.new.out c.requires (runs c) (takes c) (back c) (grows c)
+    turn-kept c.args.self.now c.args.tap c.take_turn.new.taps _ c.take_turn.new.out c.make_room.new.trace c.say.new.self c.take_turn.new.out c.args.self.now.spares c.requires (runs c) (takes c) (back c) (grows c)
