@@ -1,5 +1,4 @@
 pub mod Faults
 pub mod Played
-
 -- a fault of the segment
 pub use Rattle.pb_segment.specs.declared.faults.CommitFault

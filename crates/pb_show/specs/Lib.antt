@@ -4,7 +4,6 @@ pub mod Faults
 pub mod Audits
 pub mod Files
 pub mod Plays
-
 -- of a fleet and a scenario
 pub use Rattle.pb_fleet.specs.Faults as FleetFaults
 pub use Rattle.pb_scenario.specs.Fields
