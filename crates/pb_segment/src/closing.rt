@@ -8,7 +8,7 @@ use crate::faults::CloseFault;
 use crate::locked::Locked;
 use crate::origins::Origin;
 use crate::outlooks::Outlook;
-use crate::receipts::{Owner, Receipt, is_of, is_same_reply};
+use crate::receipts::{KeptReceipt, Owner, is_of, is_same_reply};
 use crate::seats::{ConductorSeat, TapSeat};
 use std::sync::ledger::{Book, Ledger};
 
@@ -64,7 +64,7 @@ impl<L: Ledger> Locked<L> {
 }
 
 /// Whether receipts are those of an owner's events in a history, of which there are so many.
-fn agree(history: &Blocks, owner: Owner, count: usize, receipts: &Vec<Receipt>) -> bool
+fn agree(history: &Blocks, owner: Owner, count: usize, receipts: &Vec<KeptReceipt>) -> bool
     requires { count ≡ length (told (is_of owner) (happened_in history.now)) }
     ensures { IsTrue result ↔ (told (is_of owner) (happened_in history.now) ≡ receipts.now.items) }
 {
@@ -84,7 +84,7 @@ fn agree(history: &Blocks, owner: Owner, count: usize, receipts: &Vec<Receipt>) 
 }
 
 /// Whether a receipt is of an event of an owner, at a place or a later one.
-fn stands(history: &Blocks, owner: Owner, from: usize, receipt: &Receipt) -> bool
+fn stands(history: &Blocks, owner: Owner, from: usize, receipt: &KeptReceipt) -> bool
     ensures { IsTrue result ↔ StandsFrom (is_of owner) (happened_in history.now) from receipt.now }
 {
     let Some(happened) = history.get(receipt.place) else {

@@ -2,22 +2,25 @@ ghost use Rattle.std.specs.Prelude.{◌≡◌};
 
 use crate::blocks::Blocks;
 use pb_world::{Event, Reply};
+use std::alloc::Global;
 use std::marker::Model;
+use std::sync::Arc;
 
 /// An event that was accepted, and its reply.
 #[derive(Debug, Drop)]
 pub(crate) struct Happened {
-    pub(crate) event: Event,
-    pub(crate) reply: Reply,
+    pub(crate) event: Arc<Event, Global>,
+    pub(crate) reply: Arc<Reply, Global>,
 }
 
 impl Model for Happened {
+    ghost use Rattle.std.specs.Arc.{arc_value};
     ghost use Rattle.pb_taps.specs.Events.{event_of, reply_of};
     ghost use Rattle.pb_segment.specs.Histories as specs;
 
     ghost Value = { specs.Happened };
 
-    ghost view = { λ h. record { event = event_of h.event; reply = reply_of h.reply } };
+    ghost view = { λ h. record { event = event_of (arc_value h.event); reply = reply_of (arc_value h.reply) } };
 }
 
 /// The events that a segment has accepted, each with its reply, in order.

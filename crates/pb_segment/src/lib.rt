@@ -8,6 +8,7 @@ mod closing;
 mod deeds;
 mod faults;
 mod histories;
+mod known;
 mod locked;
 mod making;
 mod origins;

@@ -3,17 +3,19 @@ ghost use Rattle.pb_taps.specs.Events.{event_of};
 ghost use Rattle.pb_segment.specs.Counts.{counted, counted_drives};
 
 use crate::blocks::Blocks;
-use crate::deeds::{Deed, carry_out, event_in, speaks};
+use crate::deeds::{Deed, carry_out, event_in, reply_to, speaks};
 use crate::faults::{CommitFault, GlanceFault};
 use crate::histories::Happened;
+use crate::known::Known;
 use crate::origins::Origin;
 use crate::outlooks::Outlook;
-use crate::receipts::{Receipt, is_turn};
+use crate::receipts::{KeptReceipt, Receipt, is_turn};
 use crate::seats::{ConductorSeat, TapSeat};
 use pb_station::{Decision, Glance};
 use pb_world::{Event, World};
 use std::alloc::Global;
 use std::marker::Model;
+use std::sync::Arc;
 use std::sync::ledger::{Book, Ledger, Share};
 
 /// A world, and the events that have led to it from the new one.
@@ -24,6 +26,8 @@ pub(crate) struct Locked<L: Ledger> {
     pub(crate) origin: Origin,
     /// The events that were accepted, in order.
     pub(crate) history: Blocks,
+    /// What events of the history share.
+    pub(crate) known: Known,
     /// How many turns of each tap were accepted.
     pub(crate) turns: Vec<usize>,
     /// How many other events were.
@@ -174,7 +178,7 @@ impl<L: Ledger> Locked<L> {
         &mut self,
         alloc: Global,
         deed: Deed,
-        receipts: &mut Vec<Receipt>,
+        receipts: &mut Vec<KeptReceipt>,
         share: &mut Share<L>,
     ) -> Result<Receipt, CommitFault>
         requires timely { IsTimely self.old.world deed }
@@ -197,15 +201,23 @@ impl<L: Ledger> Locked<L> {
         }
         self.history.reserve(alloc)?;
         receipts.reserve(1)?;
+        let happened = Happened {
+            event: self.known.event(alloc, &event)?,
+            reply: self.known.reply(alloc, &reply_to(&self.world, &deed))?,
+        };
+        let kept = KeptReceipt {
+            place: self.history.len(),
+            reply: Arc::try_clone(&happened.reply)?,
+        };
         let reply = carry_out(&mut self.world, alloc, deed)?;
         let receipt = Receipt {
-            place: self.history.len(),
-            reply: reply.copy(),
+            place: kept.place,
+            reply,
         };
         count(&mut self.turns, &mut self.drives, &event);
-        self.history.push_reserved(Happened { event, reply });
+        self.history.push_reserved(happened);
         self.book.add(share, 1);
-        receipts.push_reserved(receipt.copy());
+        receipts.push_reserved(kept);
         Ok(receipt)
     }
 }

@@ -3,12 +3,13 @@ ghost use Rattle.pb_segment.specs.Locked.{view_of};
 ghost use Rattle.pb_segment.specs.Origins.{IsNew, origin_of};
 
 use crate::blocks::Blocks;
+use crate::known::Known;
 use crate::locked::Locked;
 use crate::origins::Origin;
 use crate::seats::{ConductorSeat, TapSeat};
 use crate::segments::SharedSegment;
 use pb_station::NoMemory;
-use pb_world::World;
+use pb_world::{Reply, World};
 use std::alloc::{AllocError, Global};
 use std::sync::Mutex;
 use std::sync::ledger::{Blank, Book, Ledger, Share};
@@ -88,10 +89,16 @@ fn opened<L: Ledger>(
         ≡ view_of world (origin_of world) [] (replicate (length world.taps) 0) 0 [] limit) }
 {
     let taps = world.taps();
+    let silent = Reply {
+        now: world.now(),
+        spoke: None,
+    };
+    let known = Known::new(alloc, silent)?;
     Ok(Locked {
         origin: Origin::of(alloc, &world)?,
         world,
         history: Blocks::new(alloc),
+        known,
         turns: no_turns(alloc, taps)?,
         drives: 0,
         outlooks: Vec::new(alloc),

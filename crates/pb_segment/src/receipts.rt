@@ -3,7 +3,9 @@ ghost use Rattle.pb_taps.specs.Events.{event_of, reply_of};
 ghost use Rattle.pb_segment.specs.Histories.{is_of, is_turn};
 
 use pb_world::{Event, Reply};
+use std::alloc::Global;
 use std::marker::Model;
+use std::sync::Arc;
 
 /// What a seat is told of an event of its own that was accepted.
 #[derive(Debug, Drop)]
@@ -35,6 +37,23 @@ impl Receipt {
             reply: self.reply.copy(),
         }
     }
+}
+
+/// A receipt as a seat keeps it: its reply is the one that the history keeps.
+#[derive(Debug, Drop)]
+pub(crate) struct KeptReceipt {
+    pub(crate) place: usize,
+    pub(crate) reply: Arc<Reply, Global>,
+}
+
+impl Model for KeptReceipt {
+    ghost use Rattle.std.specs.Arc.{arc_value};
+    ghost use Rattle.pb_taps.specs.Events.{reply_of};
+    ghost use Rattle.pb_segment.specs.Histories as specs;
+
+    ghost Value = { specs.Receipt };
+
+    ghost view = { λ r. record { place = r.place; reply = reply_of (arc_value r.reply) } };
 }
 
 /// Whose an event is: a turn is its tap's, all else is the conductor's.

@@ -75,6 +75,7 @@ impl<L: Ledger> Locked<L> {
             world,
             origin,
             history,
+            known: _,
             turns,
             drives: _,
             outlooks: _,

@@ -1,5 +1,5 @@
 use crate::outlooks::Outlook;
-use crate::receipts::Receipt;
+use crate::receipts::KeptReceipt;
 use std::marker::Model;
 use std::sync::ledger::{Ledger, Share};
 
@@ -7,7 +7,7 @@ use std::sync::ledger::{Ledger, Share};
 #[derive(Drop)]
 pub struct TapSeat<L: Ledger> {
     pub(crate) tap: usize,
-    pub(crate) receipts: Vec<Receipt>,
+    pub(crate) receipts: Vec<KeptReceipt>,
     pub(crate) share: Share<L>,
 }
 
@@ -37,7 +37,7 @@ impl<L: Ledger> TapSeat<L> {
 /// The right to drive all other events, with a receipt of each that was accepted, and what was shown.
 #[derive(Drop)]
 pub struct ConductorSeat<L: Ledger> {
-    pub(crate) receipts: Vec<Receipt>,
+    pub(crate) receipts: Vec<KeptReceipt>,
     pub(crate) outlooks: Vec<Outlook>,
     pub(crate) share: Share<L>,
 }

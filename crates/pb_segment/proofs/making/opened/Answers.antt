@@ -9,8 +9,8 @@ pub invariant_of-result-2 : goal.invariant_of-result-2
 invariant_of-result-2 g c =
     let world = c.args.world in
     let turns = c.in_ok-no_turns.field-0.items in
-    let none : happened_in c.new.result ≡ [] = c.new.ensures in
-    let none-2 : c.new-2.result.items ≡ [] = search rules in
+    let none : happened_in c.new-2.result ≡ [] = c.new-2.ensures in
+    let none-2 : c.new-3.result.items ≡ [] = search rules in
     let origin : c.in_ok-of.field-0 ≡ origin_of world = c.in_ok-of.ensures in
     let zeros : turns ≡ replicate (length world.taps) 0 = c.in_ok-no_turns.ensures ∙ ap (λ (n : ℕ). replicate n 0) c.taps-taps.ensures in
     let len : length turns ≡ length world.taps = ap (λ (l : List ℕ). length l) zeros ∙ length-replicate (length world.taps) 0 in (

@@ -25,11 +25,11 @@ pub invariant_of-self-2 : goal.invariant_of-self-2
 invariant_of-self-2 g c =
     let i = c.self.inside in
     let event = event_of c.event_in-event.result in
-    let reply = reply_of c.in_ok-reply.reply in
+    let reply = reply_of c.in_ok-reply-2.reply in
     let next = c.carry_out.new.world in
     let h : Happened = record { event = event; reply = reply } in
     let room : length (happened_in i.history) < i.limit = search rules in
-    let ok : step i.world event ≡ Ok (next, reply) = rw c.event_in-event.ensures c.in_ok-reply.ensures.follows in
+    let ok : step i.world event ≡ Ok (next, reply) = rw c.event_in-event.ensures c.in_ok-reply-2.ensures.follows in
     let kept = kept_push (view_of i.world i.origin (happened_in i.history) i.turns.items i.drives i.outlooks.items i.limit) h next c.self.invariant.0 room ok in
     let grown : happened_in c.push_reserved.new.self ≡ happened_in i.history ++ h ∷ [] = search rules in
     let same : length (counted i.turns.items event) ≡ length i.turns.items = counted_length i.turns.items event in (
