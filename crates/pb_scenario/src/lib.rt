@@ -20,10 +20,9 @@ mod words;
 pub use faults::{RunFault, ScenarioFault};
 pub use files::read;
 pub use keys::{Key, Path, Section, UnknownKey};
-pub use pb_world::{Audit, Entry, NewFault, WorldFault};
+pub use pb_audit::Audit;
+pub use pb_medium::Entry;
+pub use pb_taps::{NewFault, WorldFault};
 pub use runs::{audit_of, events_of};
 pub use scenarios::Scenario;
 pub use texts::trace_text;
-
-#[cfg(test)]
-mod tests;

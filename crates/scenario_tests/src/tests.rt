@@ -1,45 +1,14 @@
-use crate::keys::{Key, Path, Section};
-use crate::words::{Word, is_name, kind_of, service_of, word_of};
-use crate::{RunFault, ScenarioFault, audit_of, events_of, read, trace_text};
 use pb_cycles::Service;
 use pb_medium::Entry;
 use pb_plan::Deed;
+use pb_scenario::{
+    Key, Path, RunFault, ScenarioFault, Section, audit_of, events_of, read, trace_text,
+};
 use pb_taps::{Event, Kind, NewFault, WorldFault};
 use pb_timers::{Moment, ParamFault};
 use pb_world::{Audit, World, audit, run};
 use std::alloc::{AllocError, AllocGlobal, Global};
 use std::process::Abort;
-
-/// Words stand for what they name, and for nothing in other letters.
-#[test]
-fn words_stand_for_what_they_name(rt: HostRuntime) {
-    assert_eq!(rt; word_of("start"), Some(Word::Start));
-    assert_eq!(rt; word_of("stop"), Some(Word::Stop));
-    assert_eq!(rt; word_of("queue"), Some(Word::Queue));
-    assert_eq!(rt; word_of("damage"), Some(Word::Damage));
-    assert_eq!(rt; word_of("noise"), Some(Word::Noise));
-    assert_eq!(rt; word_of("unheard"), Some(Word::Unheard));
-    assert_eq!(rt; word_of("withhold"), Some(Word::Withhold));
-    assert_eq!(rt; word_of("Start"), None);
-    assert!(rt; kind_of("master") == Some(Kind::Master));
-    assert!(rt; kind_of("passive") == Some(Kind::Passive));
-    assert!(rt; kind_of("") == None);
-    assert!(rt; service_of("sda") == Some(Service::Sda));
-    assert!(rt; service_of("sdn") == Some(Service::Sdn));
-    assert!(rt; service_of("srd") == Some(Service::Srd));
-    assert!(rt; service_of("SRD") == None);
-}
-
-/// A name has 1 to 16 ASCII letters or digits.
-#[test]
-fn names_are_short_and_plain(rt: HostRuntime) {
-    assert!(rt; is_name("a"));
-    assert!(rt; is_name("Az09Az09Az09Az09"));
-    assert!(rt; !is_name("Az09Az09Az09Az09x"));
-    assert!(rt; !is_name(""));
-    assert!(rt; !is_name("a b"));
-    assert!(rt; !is_name("ä"));
-}
 
 /// A path names the table, with the index of a tap or step, and the key.
 #[test]
@@ -93,6 +62,59 @@ fn fault_in(rt: &(impl AllocGlobal + Abort), top: &str, second: &str, steps: &st
         Err(fault) => format!(in alloc; "{} {fault}", fault.number()),
     };
     shown.expect(rt, "memory")
+}
+
+/// A name has 1 to 16 ASCII letters or digits.
+#[test]
+fn names_are_short_and_plain(rt: HostRuntime) {
+    let named = |name: &str| -> String {
+        let line = format!(in rt.alloc();
+            "name = \"{name}\"\nkind = \"passive\"\naddress = 2"
+        ).expect(&rt, "memory");
+        fault_in(&rt, TOP, line.as_str(), "")
+    };
+    assert_eq!(rt; named("b").as_str(), "");
+    assert_eq!(rt; named("Az09Az09Az09Az09").as_str(), "");
+    for name in ["Az09Az09Az09Az09x", "", "a b", "ä"] {
+        assert_eq!(rt; named(name).as_str(), "5 BadValue tap[1].name");
+    }
+}
+
+/// The service of a request that a file has one of, or the text of the fault.
+fn service_in(rt: &(impl AllocGlobal + Abort), word: &str) -> Result<Service, String> {
+    let alloc = rt.alloc();
+    let step = format!(in alloc;
+        "[[step]]\nat = 0\ndo = \"queue\"\ntap = \"a\"\nservice = \"{word}\"\nto = 2\nhigh = true\nunit = \"00\""
+    ).expect(rt, "memory");
+    let text = file(alloc, TOP, SECOND, step.as_str()).expect(rt, "memory");
+    match read(alloc, text.as_bytes()) {
+        Ok(scenario) => match &scenario.steps()[0].deed {
+            Deed::Happens(Event::Queue { request, .. }) => Ok(request.service()),
+            _ => panic!(rt; "no request"),
+        },
+        Err(fault) => Err(format!(in alloc; "{} {fault}", fault.number()).expect(rt, "memory")),
+    }
+}
+
+/// Words stand for what they name, and for nothing in other letters.
+#[test]
+fn words_stand_for_what_they_name(rt: HostRuntime) {
+    assert!(rt; service_in(&rt, "sda") == Ok(Service::Sda));
+    assert!(rt; service_in(&rt, "sdn") == Ok(Service::Sdn));
+    assert!(rt; service_in(&rt, "srd") == Ok(Service::Srd));
+    let Err(fault) = service_in(&rt, "SRD") else {
+        panic!(rt; "a service in other letters");
+    };
+    assert_eq!(rt; fault.as_str(), "5 BadValue step[0].service");
+    let step = fault_in(
+        &rt,
+        TOP,
+        SECOND,
+        "[[step]]\nat = 0\ndo = \"Start\"\ntap = \"a\"",
+    );
+    assert_eq!(rt; step.as_str(), "5 BadValue step[0].do");
+    let kind = fault_in(&rt, TOP, "name = \"b\"\nkind = \"\"\naddress = 2", "");
+    assert_eq!(rt; kind.as_str(), "5 BadValue tap[1].kind");
 }
 
 /// A file of each kind of step is read.
