@@ -29,6 +29,3 @@ pub use faults::{CliFault, Status};
 pub use playing::play;
 pub use streams::{ReadFault, Sink, Source, WriteFault};
 pub use words::{Ask, AskFault};
-
-#[cfg(test)]
-mod tests;

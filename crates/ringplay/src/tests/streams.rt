@@ -1,4 +1,4 @@
-use crate::{CliFault, CountedReader, CountedWriter, Status, decode_lines};
+use pb_cli::{CliFault, CountedReader, CountedWriter, Status, decode_lines};
 use std::io;
 use std::io::{Error, ErrorKind, Read, Write};
 use std::test::Fail;

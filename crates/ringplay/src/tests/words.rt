@@ -1,4 +1,4 @@
-use crate::{Ask, AskFault, ask};
+use pb_cli::{Ask, AskFault, ask};
 use std::alloc::{AllocError, Global};
 use std::test::Fail;
 

@@ -1,4 +1,4 @@
-use crate::{AskFault, CliFault, CountedReader, CountedWriter, ask, decode_lines};
+use pb_cli::{AskFault, CliFault, CountedReader, CountedWriter, ask, decode_lines};
 use std::io;
 use std::io::Write;
 

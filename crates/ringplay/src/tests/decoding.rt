@@ -1,4 +1,4 @@
-use crate::{CountedReader, CountedWriter, Status, decode_lines};
+use pb_cli::{CountedReader, CountedWriter, Status, decode_lines};
 use std::test::Fail;
 
 const LINES: [(&str, &str); 35] = [

@@ -1,4 +1,0 @@
-mod decoding;
-mod memory;
-mod streams;
-mod words;

@@ -1,0 +1,399 @@
+use pb_cli::{CliFault, CountedReader, CountedWriter, Status, audit_file, play};
+use std::io;
+use std::io::{Error, ErrorKind, Read, Write};
+
+/// Two masters that start at 0 and form a ring.
+const RING: &[u8] = b"version = 1
+until = 1400
+bus = { tsl = 100, tid1 = 37, tid2 = 60, tsdr = 11, lag = 0, ttr = 10000, gap = 10, hsa = 5, retries = 1 }
+tap = [{ name = \"a\", kind = \"master\", address = 1 }, { name = \"b\", kind = \"master\", address = 2 }]
+step = [{ at = 0, do = \"start\", tap = \"a\" }, { at = 0, do = \"start\", tap = \"b\" }]
+";
+
+const TRACE: &[u8] = b"800 833 a dc0101 -w
+870 903 a dc0101 -w
+940 1006 a 100201494c16 -w
+1017 1083 b 100102202316 w-
+1120 1153 a dc0201 -w
+1190 1256 b 100302494e16 w-
+1356 1389 b dc0102 w-
+";
+
+const LAST_LINE: &[u8] = b"1356 1389 b dc0102 w-\n";
+
+const AUDIT: &[u8] = b"premises kept\ntrace legal\n";
+
+/// The same masters, of which the first starts in the very instant in which both time-outs end together.
+const CLASH: &[u8] = b"version = 1
+until = 1100
+bus = { tsl = 100, tid1 = 37, tid2 = 60, tsdr = 11, lag = 0, ttr = 10000, gap = 10, hsa = 5, retries = 1 }
+tap = [{ name = \"a\", kind = \"master\", address = 1 }, { name = \"b\", kind = \"master\", address = 2 }]
+step = [{ at = 0, do = \"start\", tap = \"b\" }, { at = 200, do = \"start\", tap = \"a\" }]
+";
+
+/// Gives one byte a call, and answers an error from one call on, once or without end.
+#[derive(Drop)]
+struct ByteReader {
+    rest: &'static [u8],
+    calls_before: u32,
+    kind: ErrorKind,
+    errors: u32,
+}
+
+impl Read for ByteReader {
+    fn read(&mut self, buffer: &mut [u8]) -> io::Result<usize> {
+        if self.calls_before == 0 && self.errors > 0 {
+            self.errors -= 1;
+            return Err(Error::from(self.kind));
+        }
+        self.calls_before = self.calls_before.saturating_sub(1);
+        match self.rest {
+            [byte, rest @ ..] if !buffer.is_empty() => {
+                buffer[0] = *byte;
+                self.rest = rest;
+                Ok(1)
+            }
+            _ => Ok(0),
+        }
+    }
+}
+
+/// Takes some bytes, one a call, and then fails.
+#[derive(Drop)]
+struct ByteWriter {
+    taken: Vec<u8>,
+    room: usize,
+}
+
+/// Is interrupted so many times before each byte that it takes.
+#[derive(Drop)]
+struct InterruptedWriter {
+    taken: Vec<u8>,
+    interruptions: u32,
+    left: u32,
+}
+
+/// Takes no byte of any text.
+#[derive(Drop)]
+struct FullWriter;
+
+impl Write for ByteWriter {
+    fn write(&mut self, bytes: &[u8]) -> io::Result<usize> {
+        match bytes {
+            [byte, ..] if self.taken.len() < self.room => {
+                self.taken.push(*byte)?;
+                Ok(1)
+            }
+            _ => Err(Error::from(ErrorKind::StorageFull)),
+        }
+    }
+
+    fn flush(&mut self) -> io::Result<()> {
+        Ok(())
+    }
+}
+
+impl Write for InterruptedWriter {
+    fn write(&mut self, bytes: &[u8]) -> io::Result<usize> {
+        if self.left > 0 {
+            self.left -= 1;
+            return Err(Error::from(ErrorKind::Interrupted));
+        }
+        self.left = self.interruptions;
+        match bytes {
+            [byte, ..] => {
+                self.taken.push(*byte)?;
+                Ok(1)
+            }
+            [] => Ok(0),
+        }
+    }
+
+    fn flush(&mut self) -> io::Result<()> {
+        Ok(())
+    }
+}
+
+impl Write for FullWriter {
+    fn write(&mut self, _: &[u8]) -> io::Result<usize> {
+        Ok(0)
+    }
+
+    fn flush(&mut self) -> io::Result<()> {
+        Ok(())
+    }
+}
+
+/// A run prints the trace of one thread, whatever the number of workers.
+#[test]
+fn a_run_prints_its_trace(rt: HostRuntime) {
+    for workers in [None, Some(1), Some(2), Some(8), Some(64)] {
+        let mut writer = CountedWriter::new(Vec::new(rt.alloc()));
+        let answer = play(
+            &rt,
+            rt.alloc(),
+            &mut CountedReader::new(RING),
+            &mut writer,
+            workers,
+            None,
+        );
+        assert_eq!(rt; answer, Ok(Status::Done));
+        assert!(rt; writer.writer().as_slice() == TRACE, "{workers:?}");
+    }
+}
+
+/// The last lines alone, and all of them where there are no more.
+#[test]
+fn a_run_prints_its_last_lines(rt: HostRuntime) {
+    for (last, lines) in [(1, LAST_LINE), (7, TRACE), (10_000, TRACE)] {
+        let mut writer = CountedWriter::new(Vec::new(rt.alloc()));
+        let answer = play(
+            &rt,
+            rt.alloc(),
+            &mut CountedReader::new(RING),
+            &mut writer,
+            Some(2),
+            Some(last),
+        );
+        assert_eq!(rt; answer, Ok(Status::Done));
+        assert!(rt; writer.writer().as_slice() == lines, "{last}");
+    }
+}
+
+/// The line of a fault stands alone, with either call.
+#[test]
+fn a_refused_file_prints_its_fault(rt: HostRuntime) {
+    let line = b"scenario fault 1 NotToml\n".as_slice();
+    let file = b"\xff".as_slice();
+    let mut writer = CountedWriter::new(Vec::new(rt.alloc()));
+    let answer = play(
+        &rt,
+        rt.alloc(),
+        &mut CountedReader::new(file),
+        &mut writer,
+        None,
+        Some(3),
+    );
+    assert_eq!(rt; answer, Ok(Status::Refused));
+    assert!(rt; writer.writer().as_slice() == line);
+    let mut writer = CountedWriter::new(Vec::new(rt.alloc()));
+    let answer = audit_file(rt.alloc(), &mut CountedReader::new(file), &mut writer);
+    assert_eq!(rt; answer, Ok(Status::Refused));
+    assert!(rt; writer.writer().as_slice() == line);
+}
+
+/// An audit tells a broken premise and an illegal record, and its status goes by the record.
+#[test]
+fn an_audit_tells_premise_and_record(rt: HostRuntime) {
+    for (file, told, status) in [
+        (RING, AUDIT, Status::Done),
+        (
+            CLASH,
+            b"premise P4 broken at 1000\nrecord 1 illegal\n".as_slice(),
+            Status::Refused,
+        ),
+    ] {
+        let mut writer = CountedWriter::new(Vec::new(rt.alloc()));
+        let answer = audit_file(rt.alloc(), &mut CountedReader::new(file), &mut writer);
+        assert_eq!(rt; answer, Ok(status));
+        assert!(rt; writer.writer().as_slice() == told);
+    }
+}
+
+/// A reader that fails at any call is told, and nothing is written; so is one that is interrupted for ever.
+#[test]
+fn a_reader_that_fails_at_any_call(rt: HostRuntime) {
+    for calls_before in 0..=RING.len() as u32 {
+        let failing = || ByteReader {
+            rest: RING,
+            calls_before,
+            kind: ErrorKind::UnexpectedEof,
+            errors: 1,
+        };
+        let mut writer = CountedWriter::new(Vec::new(rt.alloc()));
+        let answer = audit_file(rt.alloc(), &mut CountedReader::new(failing()), &mut writer);
+        assert_eq!(rt; answer, Err(CliFault::Read), "at call {calls_before}");
+        let answer = play(
+            &rt,
+            rt.alloc(),
+            &mut CountedReader::new(failing()),
+            &mut writer,
+            None,
+            None,
+        );
+        assert_eq!(rt; answer, Err(CliFault::Read), "at call {calls_before}");
+        assert!(rt; writer.writer().is_empty());
+    }
+}
+
+#[test]
+fn a_reader_that_is_interrupted_for_ever(rt: HostRuntime) {
+    let interrupted = || ByteReader {
+        rest: RING,
+        calls_before: 3,
+        kind: ErrorKind::Interrupted,
+        errors: u32::MAX,
+    };
+    let mut writer = CountedWriter::new(Vec::new(rt.alloc()));
+    let answer = audit_file(
+        rt.alloc(),
+        &mut CountedReader::new(interrupted()),
+        &mut writer,
+    );
+    assert_eq!(rt; answer, Err(CliFault::Read));
+    let answer = play(
+        &rt,
+        rt.alloc(),
+        &mut CountedReader::new(interrupted()),
+        &mut writer,
+        None,
+        None,
+    );
+    assert_eq!(rt; answer, Err(CliFault::Read));
+    assert!(rt; writer.writer().is_empty());
+}
+
+/// A read that is interrupted, once or a thousand times, is tried again.
+#[test]
+fn an_interrupted_read_is_tried_again(rt: HostRuntime) {
+    for errors in [1, 1000] {
+        let interrupted = || ByteReader {
+            rest: RING,
+            calls_before: 3,
+            kind: ErrorKind::Interrupted,
+            errors,
+        };
+        let mut writer = CountedWriter::new(Vec::new(rt.alloc()));
+        let answer = audit_file(
+            rt.alloc(),
+            &mut CountedReader::new(interrupted()),
+            &mut writer,
+        );
+        assert_eq!(rt; answer, Ok(Status::Done), "{errors}");
+        assert!(rt; writer.writer().as_slice() == AUDIT, "{errors}");
+        let mut writer = CountedWriter::new(Vec::new(rt.alloc()));
+        let answer = play(
+            &rt,
+            rt.alloc(),
+            &mut CountedReader::new(interrupted()),
+            &mut writer,
+            Some(2),
+            None,
+        );
+        assert_eq!(rt; answer, Ok(Status::Done), "{errors}");
+        assert!(rt; writer.writer().as_slice() == TRACE, "{errors}");
+    }
+}
+
+/// A write that is interrupted is tried again, a thousand times in a row at most: then it is a fault.
+#[test]
+fn an_interrupted_write_is_tried_again(rt: HostRuntime) {
+    let interrupted = |interruptions: u32| {
+        CountedWriter::new(InterruptedWriter {
+            taken: Vec::new(rt.alloc()),
+            interruptions,
+            left: interruptions,
+        })
+    };
+    for interruptions in [1, 1000] {
+        let mut writer = interrupted(interruptions);
+        let answer = audit_file(rt.alloc(), &mut CountedReader::new(RING), &mut writer);
+        assert_eq!(rt; answer, Ok(Status::Done), "{interruptions}");
+        assert!(rt;
+            writer.writer().taken.as_slice() == AUDIT,
+            "{interruptions}"
+        );
+        let mut writer = interrupted(interruptions);
+        let answer = play(
+            &rt,
+            rt.alloc(),
+            &mut CountedReader::new(RING),
+            &mut writer,
+            Some(1),
+            None,
+        );
+        assert_eq!(rt; answer, Ok(Status::Done), "{interruptions}");
+        assert!(rt;
+            writer.writer().taken.as_slice() == TRACE,
+            "{interruptions}"
+        );
+    }
+    for interruptions in [1001, u32::MAX] {
+        let mut writer = interrupted(interruptions);
+        let answer = audit_file(rt.alloc(), &mut CountedReader::new(RING), &mut writer);
+        assert_eq!(rt; answer, Err(CliFault::Write), "{interruptions}");
+        assert!(rt; writer.writer().taken.is_empty(), "{interruptions}");
+        let mut writer = interrupted(interruptions);
+        let answer = play(
+            &rt,
+            rt.alloc(),
+            &mut CountedReader::new(RING),
+            &mut writer,
+            Some(1),
+            None,
+        );
+        assert_eq!(rt; answer, Err(CliFault::Write), "{interruptions}");
+        assert!(rt; writer.writer().taken.is_empty(), "{interruptions}");
+    }
+}
+
+/// A write that takes nothing of a text is a fault.
+#[test]
+fn a_write_that_takes_nothing_is_a_fault(rt: HostRuntime) {
+    let mut writer = CountedWriter::new(FullWriter);
+    let answer = audit_file(rt.alloc(), &mut CountedReader::new(RING), &mut writer);
+    assert_eq!(rt; answer, Err(CliFault::Write));
+    let answer = play(
+        &rt,
+        rt.alloc(),
+        &mut CountedReader::new(RING),
+        &mut writer,
+        Some(1),
+        None,
+    );
+    assert_eq!(rt; answer, Err(CliFault::Write));
+}
+
+/// A writer that fails at any call is told, and has taken a front of the text.
+#[test]
+fn a_writer_that_fails_at_any_call(rt: HostRuntime) {
+    for room in 0..AUDIT.len() {
+        let mut writer = CountedWriter::new(ByteWriter {
+            taken: Vec::new(rt.alloc()),
+            room,
+        });
+        let answer = audit_file(rt.alloc(), &mut CountedReader::new(RING), &mut writer);
+        assert_eq!(rt; answer, Err(CliFault::Write), "at call {room}");
+        assert!(rt; writer.writer().taken.as_slice() == &AUDIT[..room]);
+    }
+    for room in 0..TRACE.len() {
+        let mut writer = CountedWriter::new(ByteWriter {
+            taken: Vec::new(rt.alloc()),
+            room,
+        });
+        let answer = play(
+            &rt,
+            rt.alloc(),
+            &mut CountedReader::new(RING),
+            &mut writer,
+            Some(1),
+            None,
+        );
+        assert_eq!(rt; answer, Err(CliFault::Write), "at call {room}");
+        assert!(rt; writer.writer().taken.as_slice() == &TRACE[..room]);
+    }
+}
+
+/// Run with one allocation refused: the full answer, or `NoMemory`.
+#[test]
+fn refused_memory_in_audit_file(rt: HostRuntime) {
+    let mut room = [0; 64];
+    let mut writer = CountedWriter::new(room.as_mut_slice());
+    match audit_file(rt.alloc(), &mut CountedReader::new(RING), &mut writer) {
+        Ok(status) => assert_eq!(rt; status, Status::Done),
+        Err(fault) => {
+            assert_eq!(rt; fault, CliFault::NoMemory);
+            let _ = println!(rt; "refused");
+        }
+    }
+}
