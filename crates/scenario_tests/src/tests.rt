@@ -87,12 +87,15 @@ fn service_in(rt: &(impl AllocGlobal + Abort), word: &str) -> Result<Service, St
         "[[step]]\nat = 0\ndo = \"queue\"\ntap = \"a\"\nservice = \"{word}\"\nto = 2\nhigh = true\nunit = \"00\""
     ).expect(rt, "memory");
     let text = file(alloc, TOP, SECOND, step.as_str()).expect(rt, "memory");
-    match read(alloc, text.as_bytes()) {
-        Ok(scenario) => match &scenario.steps()[0].deed {
-            Deed::Happens(Event::Queue { request, .. }) => Ok(request.service()),
-            _ => panic!(rt; "no request"),
-        },
-        Err(fault) => Err(format!(in alloc; "{} {fault}", fault.number()).expect(rt, "memory")),
+    let scenario = match read(alloc, text.as_bytes()) {
+        Ok(scenario) => scenario,
+        Err(fault) => {
+            return Err(format!(in alloc; "{} {fault}", fault.number()).expect(rt, "memory"));
+        }
+    };
+    match scenario.steps().first().map(|step| &step.deed) {
+        Some(Deed::Happens(Event::Queue { request, .. })) => Ok(request.service()),
+        _ => panic!(rt; "no request"),
     }
 }
 
