@@ -86,5 +86,6 @@ def make(plain, folder, kind, until):
     made = output([plain, "make", kind, str(until)])[0]
     path = f"{folder}/{kind}-{until}.toml"
     with open(path, "w", encoding="utf-8") as file:
-        file.write(scenario(json.loads(made), until))
+        # the list ends before that moment, and a scenario with its last one
+        file.write(scenario(json.loads(made), until - 1))
     return made, path
