@@ -35,7 +35,7 @@ fn push_entry(text: &mut Vec<u8>, scenario: &Scenario, entry: &Entry) -> Result<
     ensures { OnOk result (text.new.items ≡ text.old.items ++ line_of scenario.now entry.now) }
 {
     match entry {
-        Entry::Sent(record) => push_record(text, scenario, record),
+        Entry::Sent(telegram) => push_record(text, scenario, telegram),
         Entry::Noise { begin, end } => {
             push_span(text, *begin, *end)?;
             text.extend_from_slice(b"~ noise\n")
@@ -44,15 +44,15 @@ fn push_entry(text: &mut Vec<u8>, scenario: &Scenario, entry: &Entry) -> Result<
 }
 
 /// Appends the line of a telegram.
-fn push_record(text: &mut Vec<u8>, scenario: &Scenario, record: &Record) -> Result<(), AllocError>
-    ensures { OnOk result (text.new.items ≡ text.old.items ++ record_line scenario.now record.now) }
+fn push_record(text: &mut Vec<u8>, scenario: &Scenario, telegram: &Record) -> Result<(), AllocError>
+    ensures { OnOk result (text.new.items ≡ text.old.items ++ record_line scenario.now telegram.now) }
 {
-    push_span(text, record.begin, record.end)?;
-    push_name(text, scenario, record.tap)?;
+    push_span(text, telegram.begin, telegram.end)?;
+    push_name(text, scenario, telegram.tap)?;
     text.extend_from_slice(b" ")?;
-    push_octets(text, &record.octets)?;
+    push_octets(text, &telegram.octets)?;
     text.extend_from_slice(b" ")?;
-    push_letters(text, &record.heard)?;
+    push_letters(text, &telegram.heard)?;
     text.extend_from_slice(b"\n")
 }
 
