@@ -61,7 +61,7 @@ pub(crate) fn reply_to(world: &World, deed: &Deed) -> Reply
     }
 }
 
-/// The clock after an event that is no turn, if the world does it.
+/// The clock after an event, if the world does it.
 fn clock_after(world: &World, event: &Event) -> Moment
     ensures { IsClockAfter world.entry.now (event_of event.now) result }
 {

@@ -20,7 +20,10 @@ impl Model for Happened {
 
     ghost Value = { specs.Happened };
 
-    ghost view = { λ h. record { event = event_of (arc_value h.event); reply = reply_of (arc_value h.reply) } };
+    ghost view = { λ h. record {
+      event = event_of (arc_value h.event);
+      reply = reply_of (arc_value h.reply);
+    } };
 }
 
 /// The events that a segment has accepted, each with its reply, in order.

@@ -1,10 +1,12 @@
 //! What the events of a history share, so that few of them take the room of the longest.
 
 ghost use Rattle.std.specs.Arc.{arc_value};
-ghost use Rattle.std.specs.Prelude.{◌≡◌, IfOk, IsTrue};
+ghost use Rattle.std.specs.Prelude.{◌≡◌, ◌↔◌, IfOk, IsTrue};
 ghost use Rattle.pb_taps.specs.Events.{event_of, reply_of};
+ghost use Rattle.pb_segment.specs.Histories.{AreAlike};
 
 use crate::receipts::is_same_reply;
+use pb_timers::Moment;
 use pb_world::{Event, Reply};
 use std::alloc::{AllocError, Global};
 use std::sync::Arc;
@@ -23,13 +25,13 @@ pub(crate) struct Known {
 }
 
 impl Known {
-    /// Nothing stands in the history yet. Its fault: memory was refused.
-    pub(crate) fn new(alloc: Global, silent: Reply) -> Result<Known, AllocError> {
+    /// Nothing stands in the history yet, at a moment. Its fault: memory was refused.
+    pub(crate) fn new(alloc: Global, now: Moment) -> Result<Known, AllocError> {
         let mut events = Vec::with_capacity(alloc, 2 * PLACES)?;
         for _ in 0..2 * PLACES {
             events.push(None)?;
         }
-        let silent = Arc::new(alloc, silent)?;
+        let silent = Arc::new(alloc, Reply { now, spoke: None })?;
         Ok(Known { events, silent })
     }
 
@@ -45,7 +47,7 @@ impl Known {
             return Ok(Arc::new(alloc, event.copy())?);
         };
         if let Some(Some(known)) = self.events.get(place) {
-            if is_same_event(known, event) {
+            if are_alike(known, event) {
                 return Ok(Arc::try_clone(known)?);
             }
         }
@@ -85,8 +87,8 @@ fn place_of(event: &Event) -> Option<usize> {
 }
 
 /// Whether both are turns of one tap, or passes of one length.
-fn is_same_event(one: &Event, other: &Event) -> bool
-    ensures { IsTrue result → event_of one.now ≡ event_of other.now }
+fn are_alike(one: &Event, other: &Event) -> bool
+    ensures { IsTrue result ↔ AreAlike (event_of one.now) (event_of other.now) }
 {
     match (one, other) {
         (Event::Turn(tap), Event::Turn(of)) => *tap == *of,

@@ -9,7 +9,7 @@ use crate::origins::Origin;
 use crate::seats::{ConductorSeat, TapSeat};
 use crate::segments::SharedSegment;
 use pb_station::NoMemory;
-use pb_world::{Reply, World};
+use pb_world::World;
 use std::alloc::{AllocError, Global};
 use std::sync::Mutex;
 use std::sync::ledger::{Blank, Book, Ledger, Share};
@@ -89,11 +89,7 @@ fn opened<L: Ledger>(
         ≡ view_of world (origin_of world) [] (replicate (length world.taps) 0) 0 [] limit) }
 {
     let taps = world.taps();
-    let silent = Reply {
-        now: world.now(),
-        spoke: None,
-    };
-    let known = Known::new(alloc, silent)?;
+    let known = Known::new(alloc, world.now())?;
     Ok(Locked {
         origin: Origin::of(alloc, &world)?,
         world,

@@ -25,20 +25,6 @@ impl Model for Receipt {
     ghost view = { λ r. record { place = r.place; reply = reply_of r.reply } };
 }
 
-impl Receipt {
-    ghost use Rattle.std.specs.Prelude.{◌≡◌};
-
-    /// An equal receipt.
-    pub fn copy(&self) -> Receipt
-        ensures { result ≡ self.now }
-    {
-        Receipt {
-            place: self.place,
-            reply: self.reply.copy(),
-        }
-    }
-}
-
 /// A receipt as a seat keeps it: its reply is the one that the history keeps.
 #[derive(Debug, Drop)]
 pub(crate) struct KeptReceipt {

@@ -179,6 +179,27 @@ tap = \"a\"
     let steps = scenario.steps();
     assert!(rt; steps.len() == 8);
     assert!(rt; matches!(steps[0].deed, Deed::Happens(Event::Start(0))));
+    assert!(rt; matches!(steps[1].deed, Deed::Happens(Event::Queue { tap: 0, .. })));
+    assert!(rt;
+        matches!(
+            steps[2].deed,
+            Deed::Happens(Event::Damage {
+                tap: 1,
+                speaker: 0,
+                place: None
+            })
+        )
+    );
+    assert!(rt;
+        matches!(
+            steps[3].deed,
+            Deed::Happens(Event::Damage {
+                tap: 1,
+                speaker: 0,
+                place: Some(2)
+            })
+        )
+    );
     assert!(rt; steps[4].at == 6 && matches!(steps[4].deed, Deed::Happens(Event::Noise(7))));
     assert!(rt;
         matches!(
