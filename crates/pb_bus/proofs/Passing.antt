@@ -3,7 +3,7 @@ use Rattle.std.proofs.Common.{◌≡◌, ℕ, zero, suc, ◌+◌, ◌<◌, ◌�
 use Rattle.std.specs.Prelude.{nat_lt, nat_le, ◌&&◌, find, is_some, IfSome}
 use Rattle.std.specs.Option.{option_map}
 use Rattle.std.proofs.lemmas.Bool.{ltb-true, ltb-false, leb-true, lt-ltb, le-ltb, and_parts}
-use Rattle.std.proofs.lemmas.List.{at_drop_more}
+use Rattle.std.proofs.lemmas.List.{append-nil, at_drop_more}
 use Rattle.pb_turn.specs.Spans.{Span}
 use Rattle.pb_turn.specs.Marks.{Mark, End}
 use Rattle.pb_model.specs.Trace.{Entry, Sent, Noise}
@@ -27,6 +27,18 @@ pub told-at : (delay : ℕ) (trace : List Entry) (from to tap : ℕ) (ts : List 
 told-at delay trace from to tap [] i n d same within = absurd (omega arith)
 told-at delay trace from to tap (t ∷ ts) zero n d same within = ap (λ (m : ℕ). with_news delay m t trace from to) (let e : tap ≡ n = omega arith in e)
 told-at delay trace from to tap (t ∷ ts) (suc i) n d same within = told-at delay trace from to (tap + 1) ts i n d (omega arith) (omega arith)
+
+-- where nothing is recent, nobody is told anything
+nothing-new : (delay tap : ℕ) (t : Tap) (from to : ℕ) (runs : Bool) → (if runs then marks_between delay tap t [] from to else []) ≡ []
+nothing-new delay tap t from to true = refl
+nothing-new delay tap t from to false = refl
+
+pub nobody-told : (delay from to tap : ℕ) (ts : List Tap) → told delay [] from to tap ts ≡ ts
+nobody-told delay from to tap [] = refl
+nobody-told delay from to tap (t ∷ ts) =
+    ap (λ (ms : List Mark). record t { marks = t.marks ++ ms } ∷ told delay [] from to (tap + 1) ts) (nothing-new delay tap t from to t.running)
+    ∙ ap (λ (ms : List Mark). record t { marks = ms } ∷ told delay [] from to (tap + 1) ts) (append-nil t.marks)
+    ∙ ap (λ (xs : List Tap). t ∷ xs) (nobody-told delay from to (tap + 1) ts)
 
 -- a tap that has more unread marks than it may is the first one, and else it is among the others
 pub full-here : (tap : ℕ) (t : Tap) (ts : List Tap) → mark_limit < length t.marks → first_full tap (t ∷ ts) ≡ Some tap

@@ -4,7 +4,7 @@ use crate::starting::start;
 use crate::stopping::stop;
 use pb_cycles::Request;
 use pb_medium::{Hit, Speaker, Trace};
-use pb_station::{Decision, Glance, NoMemory, SendBuffer, Spares, Station, due};
+use pb_station::{Decision, Glance, NoMemory, SendBuffer, Spares, Station};
 use pb_taps::{
     Event, Tap, WorldFault, check_running, fits, glance, queue, take_decided, take_turn,
 };
@@ -199,7 +199,7 @@ impl Bus {
         if !tap.running {
             return None;
         }
-        due(&tap.station, tap.marks.marks())
+        tap.station.due(&tap.marks)
     }
 
     /// What the tap at a position shows. Its fault: memory was refused.

@@ -1,4 +1,4 @@
-ghost use Rattle.std.specs.Prelude.{◌≡◌, ◌+◌, ◌≤◌, ◌<◌, IfSome, true, false, None, length, map};
+ghost use Rattle.std.specs.Prelude.{◌≡◌, ◌+◌, ◌≤◌, ◌<◌, IfSome, true, false, None, Some, length, map};
 ghost use Rattle.pb_timers.specs.Timers.{last_moment};
 ghost use Rattle.pb_model.specs.Laws.{begin_of};
 ghost use Rattle.pb_model.specs.Medium.{new_marks, sensed};
@@ -9,10 +9,9 @@ ghost use Rattle.pb_medium.specs.Senses.{begin_between, end_between};
 ghost use Rattle.pb_bus.specs.Passes.{end_of, unread_after, with_begin, with_end, with_news};
 ghost use Rattle.pb_taps.specs.Taps.{seat_of, tap_of};
 
-use arrayvec::ArrayVec;
-use pb_medium::{Entry, begin_between, burst_characters, end_between};
-use pb_taps::{MARK_LIMIT, Tap};
-use pb_telegram::RxChar;
+use pb_medium::{Entry, begin_between, burst_characters, burst_octets, end_between};
+use pb_station::MARK_LIMIT;
+use pb_taps::Tap;
 use pb_timers::Moment;
 
 /// How many marks a pass tells a tap at most.
@@ -45,9 +44,11 @@ pub(crate) fn tell_all(entries: &[Entry], delay: u32, taps: &mut [Tap], from: Mo
     ensures told { map tap_of taps.new
         ≡ step.told delay (map entry_of entries.now) from to 0 (map tap_of taps.old) }
 {
-    let mut chars = ArrayVec::new();
+    if entries.is_empty() {
+        return;
+    }
     for (position, tap) in taps.iter_mut().enumerate() {
-        tell(entries, delay, position, tap, from, to, &mut chars);
+        tell(entries, delay, position, tap, from, to);
     }
 }
 
@@ -65,21 +66,14 @@ fn overflows(
     ensures fits { result ≡ false
         → unread_after delay position (tap_of tap.now) (map entry_of entries.now) from to ≤ mark_limit }
 {
-    let unread = tap.marks.marks().len();
+    let unread = tap.marks.len();
     unread + MOST_NEWS > MARK_LIMIT
         && unread + news_count(entries, delay, position, tap, from, to) > MARK_LIMIT
 }
 
-/// A pass tells the tap at a position, with room for the characters that a mark brings.
-fn tell(
-    entries: &[Entry],
-    delay: u32,
-    position: usize,
-    tap: &mut Tap,
-    from: Moment,
-    to: Moment,
-    chars: &mut ArrayVec<RxChar, 255>,
-)
+/// A pass tells the tap at a position.
+#[inline(always)]
+fn tell(entries: &[Entry], delay: u32, position: usize, tap: &mut Tap, from: Moment, to: Moment)
     requires { unread_after delay position (tap_of tap.old) (map entry_of entries.now) from to ≤ mark_limit }
     ensures told { tap_of tap.new
         ≡ with_news delay position (tap_of tap.old) (map entry_of entries.now) from to }
@@ -91,7 +85,7 @@ fn tell(
     let begin = begin_in(entries, delay, position, tap, from, to);
     let end = end_in(entries, delay, position, tap, from, to);
     tell_begin(tap, begin, to);
-    tell_end(entries, delay, position, tap, end, to, chars);
+    tell_end(entries, delay, position, tap, end, to);
 }
 
 /// How many marks a pass tells the tap at a position.
@@ -115,6 +109,7 @@ fn news_count(
 }
 
 /// When a burst begins at the tap at a position in a pass, if one does.
+#[inline(always)]
 fn begin_in(
     entries: &[Entry],
     delay: u32,
@@ -130,6 +125,7 @@ fn begin_in(
 }
 
 /// When a burst ends at the tap at a position in a pass, if one does.
+#[inline(always)]
 fn end_in(
     entries: &[Entry],
     delay: u32,
@@ -162,6 +158,7 @@ fn tell_begin(tap: &mut Tap, begin: Option<Moment>, to: Moment)
 }
 
 /// A pass tells the tap at a position that a burst ended, if one did.
+#[inline(always)]
 fn tell_end(
     entries: &[Entry],
     delay: u32,
@@ -169,14 +166,32 @@ fn tell_end(
     tap: &mut Tap,
     end: Option<Moment>,
     to: Moment,
-    chars: &mut ArrayVec<RxChar, 255>,
 )
     requires { length tap.old.marks + length
         (end_of delay position (tap_of tap.old) (map entry_of entries.now) to end) ≤ mark_limit }
     ensures { tap.new ≡ with_end delay position tap.old (map entry_of entries.now) to end }
 {
-    if let Some(at) = end {
-        burst_characters(entries, delay, position, tap, at.get(), chars);
-        tap.marks.push_end(at, to, chars);
+    let Some(at) = end else { return };
+    match burst_octets(entries, delay, position, tap, at.get()) {
+        Some(octets) => tap.marks.push_good_end(at, to, octets),
+        None => tell_any_end(entries, delay, position, tap, at, to),
     }
+}
+
+/// A pass tells the tap at a position that a burst ended at a moment, whatever it brings. It is a call of its own since the
+/// room of the longest telegram is cleared for it.
+#[inline(never)]
+fn tell_any_end(
+    entries: &[Entry],
+    delay: u32,
+    position: usize,
+    tap: &mut Tap,
+    at: Moment,
+    to: Moment,
+)
+    requires { length tap.old.marks < mark_limit }
+    ensures { tap.new ≡ with_end delay position tap.old (map entry_of entries.now) to (Some at) }
+{
+    let chars = burst_characters(entries, delay, position, tap, at.get());
+    tap.marks.push_end(at, to, &chars);
 }

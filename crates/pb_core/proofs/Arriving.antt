@@ -3,7 +3,7 @@ use Rattle.std.proofs.Common.{◌≡◌, ◌∙◌, ◌<◌, ap, sym, refl, arit
 use Rattle.std.specs.Prelude.{nat_lt}
 use Rattle.std.proofs.lemmas.Bool.{le-ltb}
 use Rattle.pb_telegram.specs.Faults.{octets, unit_of, fault_of}
-use Rattle.pb_telegram.specs.Grammar.{spelling}
+use Rattle.pb_telegram.specs.Grammar.{spelling, Spells}
 use Rattle.pb_telegram.specs.declared.chars.RxChar.{RxChar}
 use Rattle.pb_telegram.specs.declared.chars.RxChar.TheVariants.{Good}
 use Rattle.pb_telegram.specs.declared.telegrams.Fixed8Telegram.{Fixed8Telegram}
@@ -26,6 +26,13 @@ pub telegram-brought : ((t : VarTelegram) → unit_of (spelling (Var t)) ≡ t.u
     → (chars : List RxChar) (t : Telegram) → fault_of chars ≡ None → octets chars ≡ spelling t → telegram_brings t ≡ arrival_of chars
 telegram-brought var fixed chars t free spelled =
     sym (ap (λ fault. arrival_unless fault (octets chars)) free ∙ ap telegram_arrival spelled ∙ octets-bring var fixed t)
+
+-- characters that spell a telegram bring it
+pub spelled-arrives : ((t : VarTelegram) → unit_of (spelling (Var t)) ≡ t.unit.items) → ((t : Fixed8Telegram) → unit_of (spelling (Fixed8 t)) ≡ t.unit)
+    → ((chars : List RxChar) (t : Telegram) → Spells chars t → fault_of chars ≡ None)
+    → ((chars : List RxChar) (t : Telegram) → Spells chars t → octets chars ≡ spelling t)
+    → (chars : List RxChar) (t : Telegram) → Spells chars t → telegram_brings t ≡ arrival_of chars
+spelled-arrives var fixed free read chars t spells = telegram-brought var fixed chars t (free chars t spells) (read chars t spells)
 
 -- three octets that begin as a token, with two addresses of stations, are one
 pub token-arrives : (da sa : ℕ) → da < 127 → sa < 127 → arrival.Token da sa ≡ arrival_of (Good 220 ∷ Good da ∷ Good sa ∷ [])

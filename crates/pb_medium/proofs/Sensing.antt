@@ -10,7 +10,7 @@ use Rattle.std.specs.Option.{option_and_then, option_map}
 use Rattle.pb_telegram.specs.Faults.{is_bad}
 use Rattle.pb_telegram.specs.declared.chars.RxChar.{RxChar}
 use Rattle.pb_telegram.specs.declared.chars.RxChar.TheVariants.{Good, Bad}
-use Rattle.pb_model.specs.Medium.{Tap, reaches, reaches_taps, at_tap, part_after, is_unheard, sensed, begins_in, ends_in, hears_from, overlaps, sends_during, fills_burst, is_whole_at}
+use Rattle.pb_model.specs.Medium.{Tap, reaches, reaches_taps, at_tap, part_after, is_unheard, sensed, begins_in, ends_in, hears_from, overlaps, sends_during, fills_burst, fills_burst_to, entry_characters, burst_characters, is_whole_at}
 use Rattle.pb_turn.specs.Spans.{Span}
 use Rattle.pb_turn.specs.Stations.{earlier}
 use Rattle.pb_model.specs.Trace.{Hit, Record, Entry, Noise, Sent, hits_place, characters_from, characters_at}
@@ -219,6 +219,17 @@ pub unhit-characters : (tap : ℕ) (r : Record) (sent : ℕ) → r.hits ≡ [] �
 unhit-characters tap r sent none taken =
     unhit-anywhere 0 tap 0 (take sent r.octets) ∙ ap (characters_from tap [] 0) taken
     ∙ sym (ap (λ (hits : List Hit). characters_from tap hits 0 (take ((r.end - r.begin) / bits 1) r.octets)) none)
+
+good-characters : (tap place : ℕ) (octets : List ℕ) → characters_from tap [] place octets ≡ map Good octets
+good-characters tap place [] = refl
+good-characters tap place (octet ∷ octets) = ap (λ (chars : List RxChar). Good octet ∷ chars) (good-characters tap (place + 1) octets)
+
+-- the burst that a telegram without a hit fills alone, where it is all that there is
+pub only-filled : (delay tap : ℕ) (t : Tap) (r : Record) (m sent : ℕ) → fills_burst_to delay tap t (Sent r ∷ []) m (Sent r) ≡ true → r.hits ≡ []
+    → take sent r.octets ≡ take ((r.end - r.begin) / bits 1) r.octets → map Good (take sent r.octets) ≡ burst_characters delay tap t (Sent r ∷ []) m
+only-filled delay tap t r m sent fills none taken =
+    sym (good-characters 0 0 (take sent r.octets)) ∙ unhit-characters tap r sent none taken
+    ∙ sym (ap (λ (b : Bool). entry_characters tap (cond b (Some (Sent r)) None)) fills)
 
 -- a telegram without a hit comes undamaged where all its octets went out
 pub unhit-undamaged : (tap : ℕ) (r : Record) (sent : ℕ) → r.hits ≡ [] → take sent r.octets ≡ take ((r.end - r.begin) / bits 1) r.octets → sent ≤ length r.octets

@@ -1,4 +1,4 @@
-ghost use Rattle.std.specs.Prelude.{◌≡◌, ◌∷◌, [], ℕ, ◌-◌, ◌/◌, ◌≤◌, List, map, count_by, length, not, take, if◌then◌else◌};
+ghost use Rattle.std.specs.Prelude.{◌≡◌, ◌∷◌, [], ℕ, ◌-◌, ◌/◌, ◌≤◌, IfSome, List, map, count_by, length, not, take, if◌then◌else◌};
 ghost use Rattle.std.specs.List.{list_any, list_all};
 ghost use Rattle.std.specs.Option.{option_and_then, option_map};
 ghost use Rattle.pb_timers.specs.Timers as timers;
@@ -21,6 +21,7 @@ use pb_telegram::RxChar;
 use pb_timers::CHARACTER_BITS;
 
 /// When a burst begins at a tap, which has sensed since a moment, from one moment on and before another.
+#[inline(always)]
 pub fn begin_between(
     entries: &[Entry],
     delay: u32,
@@ -34,18 +35,11 @@ pub fn begin_between(
     if let [only] = entries {
         return only_begin(only, delay, tap, since, from, to);
     }
-    let first = entries
-        .iter()
-        .filter_map(|entry| sensed(entry, delay, tap, since))
-        .find(|span| {
-            from <= span.begin()
-                && span.begin() < to
-                && burst_begins(entries, delay, tap, since, span.begin())
-        })?;
-    Some(first.begin())
+    first_begin(entries, delay, tap, since, from, to)
 }
 
 /// When a burst ends at a tap, which has sensed since a moment, after one moment, at another at the latest.
+#[inline(always)]
 pub fn end_between(
     entries: &[Entry],
     delay: u32,
@@ -59,18 +53,11 @@ pub fn end_between(
     if let [only] = entries {
         return only_end(only, delay, tap, since, from, to);
     }
-    let first = entries
-        .iter()
-        .filter_map(|entry| sensed(entry, delay, tap, since))
-        .find(|span| {
-            from < span.end()
-                && span.end() <= to
-                && burst_ends(entries, delay, tap, since, span.end())
-        })?;
-    Some(first.end())
+    first_end(entries, delay, tap, since, from, to)
 }
 
 /// Whether a telegram fills a burst of the tap at a position alone.
+#[inline(always)]
 pub(crate) fn fills_burst(
     entries: &[Entry],
     delay: u32,
@@ -86,22 +73,49 @@ pub(crate) fn fills_burst(
         && is_alone(entries, delay, position, tap.since, telegram)
 }
 
-/// The characters of the burst of a tap that ends at a moment, in the place of others.
+/// The octets that the burst of a tap which ends at a moment brings, where it is one telegram that nothing hits.
+#[inline(always)]
+pub fn burst_octets<'a>(
+    entries: &'a [Entry],
+    delay: u32,
+    position: usize,
+    tap: &Tap,
+    moment: u64,
+) -> Option<&'a [u8]>
+    ensures characters { IfSome result (λ octets. map Good octets.now
+        ≡ model.burst_characters delay position (tap_of tap.now) (map entry_of entries.now) moment) }
+    ensures fits { IfSome result (λ octets. length octets.now ≤ 255) }
+{
+    let [only] = entries else {
+        return None;
+    };
+    match only {
+        Entry::Sent(telegram)
+            if telegram.hits.is_empty()
+                && fills_burst_to(entries, delay, position, tap, moment, only) => {
+            Some(&telegram.octets[..sent_octets(telegram)])
+        }
+        _ => None,
+    }
+}
+
+/// The characters of the burst of a tap that ends at a moment.
 pub fn burst_characters(
     entries: &[Entry],
     delay: u32,
     position: usize,
     tap: &Tap,
     moment: u64,
-    chars: &mut ArrayVec<RxChar, 255>,
-)
-    ensures { chars.new.items
+) -> ArrayVec<RxChar, 255>
+    ensures { result.items
         ≡ model.burst_characters delay position (tap_of tap.now) (map entry_of entries.now) moment }
 {
     let filling = entries.iter().find(|entry| fills_burst_to(
         entries, delay, position, tap, moment, entry,
     ));
-    entry_characters(filling, position, chars);
+    let mut chars = ArrayVec::new();
+    entry_characters(filling, position, &mut chars);
+    chars
 }
 
 /// Whether a telegram of the entries came whole to the tap at a position.
@@ -164,7 +178,54 @@ fn later_end(now: u64, end: u64) -> Option<u64>
     (now < end).then_some(end)
 }
 
+/// When a burst begins at a tap, whatever overlaps there.
+#[inline(never)]
+fn first_begin(
+    entries: &[Entry],
+    delay: u32,
+    tap: usize,
+    since: u64,
+    from: u64,
+    to: u64,
+) -> Option<u64>
+    ensures { result ≡ begin_between (sensed delay tap since (map entry_of entries.now)) from to }
+{
+    let first = entries
+        .iter()
+        .filter_map(|entry| sensed(entry, delay, tap, since))
+        .find(|span| {
+            from <= span.begin()
+                && span.begin() < to
+                && burst_begins(entries, delay, tap, since, span.begin())
+        })?;
+    Some(first.begin())
+}
+
+/// When a burst ends at a tap, whatever overlaps there.
+#[inline(never)]
+fn first_end(
+    entries: &[Entry],
+    delay: u32,
+    tap: usize,
+    since: u64,
+    from: u64,
+    to: u64,
+) -> Option<u64>
+    ensures { result ≡ end_between (sensed delay tap since (map entry_of entries.now)) from to }
+{
+    let first = entries
+        .iter()
+        .filter_map(|entry| sensed(entry, delay, tap, since))
+        .find(|span| {
+            from < span.end()
+                && span.end() <= to
+                && burst_ends(entries, delay, tap, since, span.end())
+        })?;
+    Some(first.end())
+}
+
 /// When a burst begins at a tap that senses one entry at most, from one moment on and before another.
+#[inline(always)]
 #[tactic(auto, using(crate::proofs::Sensing::only_begins))]
 fn only_begin(entry: &Entry, delay: u32, tap: usize, since: u64, from: u64, to: u64) -> Option<u64>
     ensures { result ≡ begin_between (sensed delay tap since (entry_of entry.now ∷ [])) from to }
@@ -178,6 +239,7 @@ fn only_begin(entry: &Entry, delay: u32, tap: usize, since: u64, from: u64, to: 
 }
 
 /// When a burst ends at a tap that senses one entry at most, after one moment, at another at the latest.
+#[inline(always)]
 #[tactic(auto, using(crate::proofs::Sensing::only_ends))]
 fn only_end(entry: &Entry, delay: u32, tap: usize, since: u64, from: u64, to: u64) -> Option<u64>
     ensures { result ≡ end_between (sensed delay tap since (entry_of entry.now ∷ [])) from to }
@@ -234,6 +296,7 @@ fn ends_at(entries: &[Entry], delay: u32, tap: usize, since: u64, moment: u64) -
 }
 
 /// Whether a telegram comes to the tap at a position with nothing else, while that tap sends nothing.
+#[inline(always)]
 fn is_alone(entries: &[Entry], delay: u32, position: usize, since: u64, telegram: &Record) -> bool
     ensures { result ≡ is_alone delay position since (map entry_of entries.now) (record_of telegram.now) }
 {
@@ -244,17 +307,33 @@ fn is_alone(entries: &[Entry], delay: u32, position: usize, since: u64, telegram
 }
 
 /// Whether the tap at a position senses one thing alone during a stretch, and sends nothing.
+#[inline(always)]
 fn is_undisturbed(entries: &[Entry], delay: u32, position: usize, since: u64, span: Span) -> bool
     ensures { result ≡ is_undisturbed delay position since (map entry_of entries.now) span }
 {
     if let [only] = entries {
         return is_undisturbed_by(only, delay, position, since, span);
     }
+    is_undisturbed_among(entries, delay, position, since, span)
+}
+
+/// The same whatever overlaps there.
+#[inline(never)]
+fn is_undisturbed_among(
+    entries: &[Entry],
+    delay: u32,
+    position: usize,
+    since: u64,
+    span: Span,
+) -> bool
+    ensures { result ≡ is_undisturbed delay position since (map entry_of entries.now) span }
+{
     count_overlapping(entries, delay, position, since, span) == 1
         && !sends_in(entries, position, span)
 }
 
 /// The same on a bus where one entry is all that there is.
+#[inline(always)]
 fn is_undisturbed_by(entry: &Entry, delay: u32, position: usize, since: u64, span: Span) -> bool
     ensures { result ≡ is_undisturbed delay position since (entry_of entry.now ∷ []) span }
 {
@@ -265,6 +344,7 @@ fn is_undisturbed_by(entry: &Entry, delay: u32, position: usize, since: u64, spa
 }
 
 /// Whether an entry is a telegram whose end reaches the taps at a moment, and that fills a burst alone.
+#[inline(always)]
 fn fills_burst_to(
     entries: &[Entry],
     delay: u32,
@@ -308,6 +388,7 @@ fn is_undamaged_at(telegram: &Record, position: usize) -> bool
 }
 
 /// An entry at a tap: noise, and what other taps send, save what is unheard there.
+#[inline(always)]
 fn at_tap(entry: &Entry, delay: u32, tap: usize) -> Option<Span>
     ensures { result ≡ at_tap delay tap (entry_of entry.now) }
 {
@@ -319,6 +400,7 @@ fn at_tap(entry: &Entry, delay: u32, tap: usize) -> Option<Span>
 }
 
 /// What of an entry a tap has sensed since a moment.
+#[inline(always)]
 fn sensed(entry: &Entry, delay: u32, tap: usize, since: u64) -> Option<Span>
     ensures { result ≡ option_and_then (part_after since) (at_tap delay tap (entry_of entry.now)) }
 {
@@ -357,6 +439,7 @@ fn characters_at(telegram: &Record, position: usize, chars: &mut ArrayVec<RxChar
 }
 
 /// How many octets of a telegram went out.
+#[inline(always)]
 fn sent_octets(telegram: &Record) -> usize
     ensures count { take result telegram.now.octets.items
         ≡ take ((telegram.now.end - telegram.now.begin) / timers.bits 1) telegram.now.octets.items }

@@ -1,12 +1,12 @@
 //! A station that hears activity begin.
 
-ghost use Rattle.std.specs.Prelude.{◌≡◌};
+ghost use Rattle.std.specs.Prelude.{◌≡◌, None};
 ghost use Rattle.pb_turn.specs.Hearing.{phase_begun, begun};
 ghost use Rattle.pb_turn.specs.Phases.{answers_requests};
 ghost use Rattle.pb_tokenfsm.specs.Phases.{phase_of};
 ghost use Rattle.pb_core.specs.Cores.{Becomes};
 
-use pb_core::Kept;
+use pb_core::{Kept, Reply};
 use pb_timers::Moment;
 use pb_tokenfsm::Phase;
 
@@ -17,9 +17,18 @@ pub fn begun(phase: Phase, kept: &mut Kept, at: Moment) -> Phase
     let own = kept.own_begin();
     kept.busy = true;
     if answers_requests(&phase) {
-        kept.reply = None;
+        drop_reply(&mut kept.reply);
     }
     phase_begun(phase, own, at)
+}
+
+/// No reply waits any more. Seldom one does, and its room is cleared only then.
+fn drop_reply(reply: &mut Option<Reply>)
+    ensures { reply.new ≡ None }
+{
+    if reply.is_some() {
+        *reply = None;
+    }
 }
 
 /// Whether a phase answers requests: it neither holds the token nor checks what became of it.

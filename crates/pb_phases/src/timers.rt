@@ -19,6 +19,7 @@ use pb_timers::{BusParams, Moment};
 use pb_tokenfsm::{AwaitData, Checking, Holding, Phase, TRIES};
 
 /// The station after its timer, where that ends before the limit.
+#[inline(always)]
 pub fn after_timer(phase: Phase, kept: &mut Kept, params: &BusParams, limit: Moment) -> Phase
     ensures { Becomes (λ s. after_timer params.now limit s)
         kept.old (phase_of phase) kept.new (phase_of result) }
@@ -30,6 +31,7 @@ pub fn after_timer(phase: Phase, kept: &mut Kept, params: &BusParams, limit: Mom
 }
 
 /// When the station's timer ends, which waits while the station is busy.
+#[inline(always)]
 pub fn timer(phase: &Phase, kept: &Kept, params: &BusParams) -> Option<Moment>
     ensures { (queue : Queued) → result
         ≡ timer_of params.now (station_with kept.now queue (phase_of phase.now)) }
@@ -56,6 +58,7 @@ pub(crate) fn given_up(holder: Holding<AwaitData>, kept: &mut Kept, ready: Momen
 }
 
 /// The station after the timer of its phase has ended at a moment.
+#[inline(never)]
 fn timed_out(phase: Phase, kept: &mut Kept, t: Moment) -> Phase
     ensures { Becomes (λ s. phase_timed_out s (phase_of phase) t)
         kept.old (phase_of phase) kept.new (phase_of result) }

@@ -1,3 +1,4 @@
 pub mod MarkByMark
+pub mod Noted
 pub mod Places
 pub mod Receipts

@@ -1,6 +1,7 @@
 -- What a decision is.
 use Rattle.std.specs.Prelude.{◌≡◌, ℕ, List, Option, map}
 pub use Rattle.pb_core.specs.Sending.{octets_of}
+use Rattle.pb_turn.specs.Marks as turn
 use Rattle.pb_turn.specs.Turns.{turn_of}
 use Rattle.pb_station.specs.MarkViews.{mark_of}
 use Rattle.pb_station.specs.Stations.{StationView}
@@ -8,9 +9,9 @@ use Rattle.pb_station.specs.declared.decisions.Decision.TheInside.{Inside}
 use Rattle.pb_station.specs.declared.marks.Mark.{Mark}
 
 -- a station after its turn, which changes nothing else of it, and what it says
-abbrev pub turned : StationView → List Mark → ℕ → StationView × Option (List ℕ)
+abbrev pub turned : StationView → List turn.Mark → ℕ → StationView × Option (List ℕ)
 turned before marks now =
-    let turn = turn_of before.params before.station (map mark_of marks) now in
+    let turn = turn_of before.params before.station marks now in
     (record before { station = turn.0 }, turn.1)
 
 pub record DecisionView : Type 0 where
@@ -33,4 +34,4 @@ decision_view d = record {
 
 -- each decision is a turn
 abbrev pub IsDecision : DecisionView → Type 0
-IsDecision d = (d.after, d.speak) ≡ turned d.before d.marks d.now
+IsDecision d = (d.after, d.speak) ≡ turned d.before (map mark_of d.marks) d.now

@@ -1,3 +1,4 @@
 pub mod Decisions
 pub mod MarkViews
+pub mod Notes
 pub mod Stations

@@ -1,5 +1,5 @@
 -- A mark as plain data.
-use Rattle.std.specs.Prelude.{ℕ, ◌≤◌, List, All}
+use Rattle.std.specs.Prelude.{ℕ, ◌≤◌, List, [], ◌∷◌, All}
 use Rattle.pb_turn.specs.Marks as turn
 use Rattle.pb_turn.specs.Marks.{moment_of}
 use Rattle.pb_station.specs.declared.marks.Mark.{Mark}
@@ -12,3 +12,7 @@ mark_of (mark.End at seen chars) = turn.End at seen chars.items
 -- no mark is of a moment later than the clock
 abbrev pub AreOver : ℕ → List Mark → Type 0
 AreOver now marks = All (λ m. moment_of (mark_of m) ≤ now) marks
+
+abbrev pub AllOver : ℕ → List turn.Mark → Type 0
+AllOver now [] = Unit {0}
+AllOver now (m ∷ ms) = (moment_of m ≤ now) × AllOver now ms

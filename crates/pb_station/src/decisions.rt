@@ -74,7 +74,7 @@ pub fn decide(alloc: Global, glance: Glance) -> Result<Decision, NoMemory>
     } = glance;
     let mut after = station.copy_in_room(alloc)?;
     let mut out = SendBuffer::new();
-    after.take_turn(&marks, now, &mut out);
+    after.take_turn_on(&marks, now, &mut out);
     Ok(Decision {
         tap,
         before: station,
@@ -91,5 +91,5 @@ pub fn decide(alloc: Global, glance: Glance) -> Result<Decision, NoMemory>
 pub fn due(station: &Station, marks: &[Mark]) -> Option<Moment>
     ensures { result ≡ turn.due_of station.now.params station.now.station (map mark_of marks.now) }
 {
-    station.due(marks)
+    station.due_on(marks)
 }

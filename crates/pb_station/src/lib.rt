@@ -6,14 +6,17 @@
 #![tactic(auto)]
 
 mod decisions;
+mod inboxes;
 mod marks;
+mod notes;
 mod reading;
 mod spares;
 mod stations;
 mod turns;
 
 pub use decisions::{Decision, Glance, decide, due};
-pub use marks::{Mark, copy_chars};
+pub use inboxes::{Inbox, MARK_LIMIT};
+pub use marks::Mark;
 pub use pb_core::SendBuffer;
 pub use spares::Spares;
 pub use stations::{NoMemory, Station};

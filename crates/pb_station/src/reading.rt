@@ -1,20 +1,51 @@
 //! A station that reads its marks.
 
-ghost use Rattle.std.specs.Prelude.{◌≡◌, ◌≤◌, map};
-ghost use Rattle.pb_turn.specs.Hearing.{after_mark};
-ghost use Rattle.pb_turn.specs.Marks.{moment_of};
+ghost use Rattle.std.specs.Prelude.{◌≡◌, ◌≤◌, ℕ, map};
+ghost use Rattle.pb_timers.specs.Timers.{Params};
+ghost use Rattle.pb_turn.specs.Arrivals.{Token, arrival_of};
+ghost use Rattle.pb_turn.specs.Hearing.{after_mark, ended};
+ghost use Rattle.pb_turn.specs.Marks.{moment_of, Begin, End};
 ghost use Rattle.pb_turn.specs.Phases.{is_offline};
 ghost use Rattle.pb_turn.specs.Turns.{after_marks};
 ghost use Rattle.pb_tokenfsm.specs.Phases.{phase_of};
 ghost use Rattle.pb_core.specs.Clocks.{last_turn};
 ghost use Rattle.pb_core.specs.Cores.{Becomes};
-ghost use Rattle.pb_station.specs.MarkViews.{mark_of, AreOver};
+ghost use Rattle.pb_station.specs.MarkViews.{mark_of, AreOver, AllOver};
+ghost use Rattle.pb_station.specs.Notes.{mark_with, marks_in, AreOf};
 
 use crate::marks::Mark;
-use pb_core::{Kept, whole_telegram};
+use crate::notes::Note;
+use pb_core::{Kept, token_in, whole_telegram};
 use pb_phases::{after_timer, begun, ended};
+use pb_telegram::{RxChar, Telegram, TokenTelegram};
 use pb_timers::{BusParams, Moment};
 use pb_tokenfsm::Phase;
+
+/// The station after marks that are noted, and the timers that end before each.
+pub(crate) fn after_notes(
+    phase: Phase,
+    kept: &mut Kept,
+    params: &BusParams,
+    notes: &[Note],
+    chars: &[RxChar],
+    now: Moment,
+) -> Phase
+    requires clock { now ≤ last_turn }
+    requires over { AllOver now (marks_in notes.now chars.now) }
+    requires of { AreOf notes.now chars.now }
+    ensures { Becomes (λ s. after_marks params.now s (marks_in notes.now chars.now))
+        kept.old (phase_of phase) kept.new (phase_of result) }
+{
+    let mut current = phase;
+    let mut left = chars;
+    for note in notes {
+        let (brought, behind) = left.split_at(note.brings());
+        let timed = after_timer(current, kept, params, note.moment());
+        current = after_note(timed, kept, params, note, brought);
+        left = behind;
+    }
+    current
+}
 
 /// The station after its unread marks, and the timers that end before each.
 pub(crate) fn after_marks(
@@ -37,21 +68,100 @@ pub(crate) fn after_marks(
     current
 }
 
-/// The station after a mark; one that is offline notices nothing.
+/// The station after a mark.
 fn after_mark(phase: Phase, kept: &mut Kept, params: &BusParams, mark: &Mark) -> Phase
     requires { moment_of (mark_of mark.now) ≤ last_turn }
     ensures { Becomes (λ s. after_mark params.now s (mark_of mark.now))
         kept.old (phase_of phase) kept.new (phase_of result) }
 {
+    match mark {
+        Mark::Begin { at, .. } => after_begin(phase, kept, *at),
+        Mark::End { at, chars, .. } => after_end(phase, kept, params, *at, chars),
+    }
+}
+
+/// The station after a mark that is noted, with the characters that it brings.
+#[inline(always)]
+fn after_note(
+    phase: Phase,
+    kept: &mut Kept,
+    params: &BusParams,
+    note: &Note,
+    chars: &[RxChar],
+) -> Phase
+    requires { moment_of (mark_with note.now chars.now) ≤ last_turn }
+    ensures { Becomes (λ s. after_mark params.now s (mark_with note.now chars.now))
+        kept.old (phase_of phase) kept.new (phase_of result) }
+{
+    match note {
+        Note::Begin { at, .. } => after_begin(phase, kept, *at),
+        Note::End { at, .. } => after_end(phase, kept, params, *at, chars),
+    }
+}
+
+/// The station after activity has begun at a moment; one that is offline notices nothing.
+fn after_begin(phase: Phase, kept: &mut Kept, at: Moment) -> Phase
+    ensures { (p : Params) (seen : ℕ) → Becomes (λ s. after_mark p s (Begin at seen))
+        kept.old (phase_of phase) kept.new (phase_of result) }
+{
     if is_offline(&phase) {
         return phase;
     }
-    match mark {
-        Mark::Begin { at, .. } => begun(phase, kept, *at),
-        Mark::End { at, chars, .. } => {
-            ended(phase, kept, params, *at, &whole_telegram(chars.as_slice()))
-        }
+    begun(phase, kept, at)
+}
+
+/// The station after activity has ended at a moment and brought characters; one that is offline notices nothing.
+fn after_end(
+    phase: Phase,
+    kept: &mut Kept,
+    params: &BusParams,
+    at: Moment,
+    chars: &[RxChar],
+) -> Phase
+    requires { at ≤ last_turn }
+    ensures { (seen : ℕ) → Becomes (λ s. after_mark params.now s (End at seen chars.now))
+        kept.old (phase_of phase) kept.new (phase_of result) }
+{
+    if is_offline(&phase) {
+        return phase;
     }
+    match token_in(chars) {
+        Some(token) => after_token(phase, kept, params, at, token),
+        None => after_others(phase, kept, params, at, chars),
+    }
+}
+
+/// The station after activity has ended at a moment and brought a token, as most activity does.
+#[inline(never)]
+fn after_token(
+    phase: Phase,
+    kept: &mut Kept,
+    params: &BusParams,
+    at: Moment,
+    token: TokenTelegram,
+) -> Phase
+    requires { at ≤ last_turn }
+    ensures { Becomes (λ s. ended params.now s at (Token token.da token.sa))
+        kept.old (phase_of phase) kept.new (phase_of result) }
+{
+    ended(phase, kept, params, at, &Some(Telegram::Token(token)))
+}
+
+/// The station after activity has ended at a moment and brought anything. It is a call of its own since the room of the longest
+/// telegram is cleared for it.
+#[inline(never)]
+fn after_others(
+    phase: Phase,
+    kept: &mut Kept,
+    params: &BusParams,
+    at: Moment,
+    chars: &[RxChar],
+) -> Phase
+    requires { at ≤ last_turn }
+    ensures { Becomes (λ s. ended params.now s at (arrival_of chars.now))
+        kept.old (phase_of phase) kept.new (phase_of result) }
+{
+    ended(phase, kept, params, at, &whole_telegram(chars))
 }
 
 fn is_offline(phase: &Phase) -> bool

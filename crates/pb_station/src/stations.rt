@@ -5,8 +5,9 @@ ghost use Rattle.pb_core.specs.Cores.{station_with, station_of};
 ghost use Rattle.pb_turn.specs.Phases as phases;
 ghost use Rattle.pb_tokenfsm.specs.Phases.{phase_of};
 
+use crate::inboxes::Inbox;
 use crate::marks::Mark;
-use crate::turns::{due_of, take_turn, would_speak};
+use crate::turns::{due_of, due_on, take_turn, take_turn_on, would_speak};
 use arrayvec::ArrayVec;
 use pb_core::{Address, Core, Cycles, Kept, Past, SendBuffer, Waiting, copy_outcome};
 use pb_cycles::{Outcome, Queue, Request};
@@ -138,7 +139,7 @@ impl Station {
     ghost use Rattle.pb_tokenfsm.specs.Phases.{phase_of};
     ghost use Rattle.pb_core.specs.Clocks.{last_turn};
     ghost use Rattle.pb_station.specs.Decisions.{turned};
-    ghost use Rattle.pb_station.specs.MarkViews.{mark_of, AreOver};
+    ghost use Rattle.pb_station.specs.MarkViews.{mark_of, AllOver, AreOver};
 
     /// A station that doesn't run, at a tap, counted from 0: a master or a passive station, with an address,
     /// 0 to 126, the caller's condition, and the data that it replies to a request for data.
@@ -364,31 +365,49 @@ impl Station {
             && other.parts.core.is_same(&self.parts.core)
     }
 
-    /// The station takes its turn at a moment, at most 2^61, with some unread marks, none of them of a later
+    /// The station takes its turn at a moment, at most 2^61, with the unread marks of an inbox, none of them of a later
     /// moment, both the caller's conditions, and sends what it says. It is the turn of [`decide`](crate::decide), for
     /// one who keeps the station and its marks where they are.
-    pub fn take_turn(&mut self, marks: &[Mark], now: Moment, out: &mut SendBuffer)
+    pub fn take_turn(&mut self, inbox: &Inbox, now: Moment, out: &mut SendBuffer)
         requires clock { now ≤ last_turn }
-        requires over { AreOver now marks.now }
-        ensures { (self.new, out.new) ≡ turned self.old marks.now now }
+        requires over { AllOver now inbox.now }
+        ensures { (self.new, out.new) ≡ turned self.old inbox.now now }
     {
         let Parts { params, core, .. } = &mut *self.parts;
-        take_turn(core, params, marks, now, out);
+        take_turn(core, params, inbox, now, out);
+    }
+
+    /// The same with marks that are in no inbox.
+    pub(crate) fn take_turn_on(&mut self, marks: &[Mark], now: Moment, out: &mut SendBuffer)
+        requires clock { now ≤ last_turn }
+        requires over { AreOver now marks.now }
+        ensures { (self.new, out.new) ≡ turned self.old (map mark_of marks.now) now }
+    {
+        let Parts { params, core, .. } = &mut *self.parts;
+        take_turn_on(core, params, marks, now, out);
     }
 
     /// Whether the station would say anything in that turn. It changes nothing.
-    pub fn would_speak(&self, marks: &[Mark], now: Moment) -> bool
+    pub fn would_speak(&self, inbox: &Inbox, now: Moment) -> bool
         requires clock { now ≤ last_turn }
-        requires over { AreOver now marks.now }
-        ensures { result ≡ is_some (turned self.now marks.now now).1 }
+        requires over { AllOver now inbox.now }
+        ensures { result ≡ is_some (turned self.now inbox.now now).1 }
     {
-        would_speak(&self.parts.core, &self.parts.params, marks, now)
+        would_speak(&self.parts.core, &self.parts.params, inbox, now)
     }
 
-    /// When the station has to take its turn.
-    pub(crate) fn due(&self, marks: &[Mark]) -> Option<Moment>
+    /// When the station has to take its turn, with the unread marks of an inbox: what [`due`](crate::due) answers of
+    /// those.
+    pub fn due(&self, inbox: &Inbox) -> Option<Moment>
+        ensures { result ≡ turn.due_of self.now.params self.now.station inbox.now }
+    {
+        due_of(&self.parts.core, &self.parts.params, inbox)
+    }
+
+    /// The same with marks that are in no inbox.
+    pub(crate) fn due_on(&self, marks: &[Mark]) -> Option<Moment>
         ensures { result ≡ turn.due_of self.now.params self.now.station (map mark_of marks.now) }
     {
-        due_of(&self.parts.core, &self.parts.params, marks)
+        due_on(&self.parts.core, &self.parts.params, marks)
     }
 }

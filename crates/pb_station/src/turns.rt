@@ -1,15 +1,16 @@
 //! The turn of a station, and when it is due.
 
 ghost use Rattle.std.specs.Prelude.{◌≡◌, ◌≤◌, map, is_some};
-ghost use Rattle.pb_turn.specs.Stations.{earlier, first_seen, due_of};
+ghost use Rattle.pb_turn.specs.Stations.{earlier, first_seen, due_of, timer_of, speaks_at};
 ghost use Rattle.pb_turn.specs.Turns.{settled, turn_of};
 ghost use Rattle.pb_tokenfsm.specs.Phases.{phase_of};
 ghost use Rattle.pb_core.specs.Clocks.{last_turn};
 ghost use Rattle.pb_core.specs.Cores.{station_of, Becomes, HasReceived};
-ghost use Rattle.pb_station.specs.MarkViews.{mark_of, AreOver};
+ghost use Rattle.pb_station.specs.MarkViews.{mark_of, AllOver, AreOver};
 
+use crate::inboxes::{Inbox, Unread};
 use crate::marks::Mark;
-use crate::reading::after_marks;
+use crate::reading::{after_marks, after_notes};
 use pb_core::{Core, Kept, SendBuffer, after};
 use pb_phases::{after_timer, speak, speaks_at, timer, would_say};
 use pb_timers::{BusParams, Moment};
@@ -17,6 +18,31 @@ use pb_tokenfsm::Phase;
 
 /// The station takes its turn, and sends what it says.
 pub(crate) fn take_turn(
+    core: &mut Core,
+    params: &BusParams,
+    inbox: &Inbox,
+    now: Moment,
+    out: &mut SendBuffer,
+)
+    requires clock { now ≤ last_turn }
+    requires over { AllOver now inbox.now }
+    requires received { HasReceived (station_of core.old) }
+    ensures turn { (station_of core.new, out.new)
+        ≡ turn_of params.now (station_of core.old) inbox.now now }
+    ensures received { HasReceived (station_of core.new) }
+{
+    let Core {
+        phase,
+        kept,
+        waiting,
+    } = core;
+    let before = phase.take();
+    *phase = settle(before, kept, params, inbox, now);
+    speak(phase, kept, waiting, params, now, out);
+}
+
+/// The same with marks that are in no inbox.
+pub(crate) fn take_turn_on(
     core: &mut Core,
     params: &BusParams,
     marks: &[Mark],
@@ -36,33 +62,64 @@ pub(crate) fn take_turn(
         waiting,
     } = core;
     let before = phase.take();
-    *phase = settle(before, kept, params, marks, now);
+    *phase = settle_on(before, kept, params, marks, now);
     speak(phase, kept, waiting, params, now, out);
 }
 
 /// Whether the station would speak in its turn, which it does not take.
-pub(crate) fn would_speak(core: &Core, params: &BusParams, marks: &[Mark], now: Moment) -> bool
+pub(crate) fn would_speak(core: &Core, params: &BusParams, inbox: &Inbox, now: Moment) -> bool
     requires clock { now ≤ last_turn }
-    requires over { AreOver now marks.now }
-    ensures { result ≡ is_some (turn_of params.now (station_of core.now) (map mark_of marks.now) now).1 }
+    requires over { AllOver now inbox.now }
+    ensures { result ≡ is_some (turn_of params.now (station_of core.now) inbox.now now).1 }
 {
     let mut kept = core.kept.copy();
-    let settled = settle(core.phase.copy(), &mut kept, params, marks, now);
+    let settled = settle(core.phase.copy(), &mut kept, params, inbox, now);
     would_say(&settled, &kept, now)
 }
 
-/// When the station has to take its turn: the first unread mark, the timer or the speaking moment.
-pub(crate) fn due_of(core: &Core, params: &BusParams, marks: &[Mark]) -> Option<Moment>
+/// When the station has to take its turn, with some unread marks.
+pub(crate) fn due_on(core: &Core, params: &BusParams, marks: &[Mark]) -> Option<Moment>
     ensures { result ≡ due_of params.now (station_of core.now) (map mark_of marks.now) }
 {
+    earlier(first_seen(marks), acts(core, params))
+}
+
+/// The same with those of an inbox.
+pub(crate) fn due_of(core: &Core, params: &BusParams, inbox: &Inbox) -> Option<Moment>
+    ensures { result ≡ due_of params.now (station_of core.now) inbox.now }
+{
+    earlier(inbox.first_seen(), acts(core, params))
+}
+
+/// When the station acts, if it has nothing to read: at its timer, or its speaking moment.
+fn acts(core: &Core, params: &BusParams) -> Option<Moment>
+    ensures { result ≡ earlier (timer_of params.now (station_of core.now)) (speaks_at (station_of core.now)) }
+{
     let timer = timer(&core.phase, &core.kept, params);
-    let acts = earlier(timer, speaks_at(&core.phase, &core.kept));
-    earlier(first_seen(marks), acts)
+    earlier(timer, speaks_at(&core.phase, &core.kept))
 }
 
 /// The station at the clock, before it speaks: it has read its unread marks, and the timers between them and up to
 /// the clock.
-fn settle(phase: Phase, kept: &mut Kept, params: &BusParams, marks: &[Mark], now: Moment) -> Phase
+fn settle(phase: Phase, kept: &mut Kept, params: &BusParams, inbox: &Inbox, now: Moment) -> Phase
+    requires clock { now ≤ last_turn }
+    requires over { AllOver now inbox.now }
+    ensures { Becomes (λ s. settled params.now s inbox.now now)
+        kept.old (phase_of phase) kept.new (phase_of result) }
+{
+    let Unread { notes, chars } = inbox.unread();
+    let read = after_notes(phase, kept, params, notes, chars, now);
+    after_timer(read, kept, params, after(now, 1))
+}
+
+/// The same with marks that are in no inbox.
+fn settle_on(
+    phase: Phase,
+    kept: &mut Kept,
+    params: &BusParams,
+    marks: &[Mark],
+    now: Moment,
+) -> Phase
     requires clock { now ≤ last_turn }
     requires over { AreOver now marks.now }
     ensures { Becomes (λ s. settled params.now s (map mark_of marks.now) now)

@@ -1,5 +1,4 @@
 pub mod Behind
-pub mod Equal
 pub mod Items
 pub mod Replacing
 pub mod Seats

@@ -3,9 +3,10 @@ use Rattle.std.proofs.Common.{◌≡◌, ◌∙◌, ap, sym, subst, ℕ, ◌+◌
 use Rattle.std.specs.Prelude.{slice_get, slice_set, slice_index_or}
 use Rattle.std.proofs.lemmas.Option.{none-some, same_Some}
 use Rattle.pb_timers.specs.Timers.{Params}
+use Rattle.pb_turn.specs.Marks as turn
 use Rattle.pb_turn.specs.Marks.{moment_of}
 use Rattle.pb_model.specs.Laws.{AllInOrder, InOrder}
-use Rattle.pb_station.specs.MarkViews.{mark_of}
+use Rattle.pb_station.specs.MarkViews.{mark_of, AllOver}
 use Rattle.pb_station.specs.declared.marks.Mark.{Mark}
 use Rattle.pb_taps.specs.Taps.{Seat, tap_of, seat_of, AreSeated}
 use Rattle.pb_taps.specs.declared.taps.Tap.{Tap}
@@ -17,13 +18,17 @@ order-at now (x ∷ ts) zero t order at = subst (λ (y : Tap). InOrder 0 y.marks
 order-at now (x ∷ ts) (suc i) t order at = order-at now ts i t order.2 at
 
 -- none of them is of a later moment
+not-after : (from now : ℕ) (ms : List turn.Mark) → InOrder from ms now → from ≤ now
+not-after from now [] order = order
+not-after from now (m ∷ ms) order = omega (arith, order.0, not-after (moment_of m) now ms order.1)
+
+pub all-over : (from now : ℕ) (ms : List turn.Mark) → InOrder from ms now → AllOver now ms
+all-over from now [] order = tt
+all-over from now (m ∷ ms) order = (not-after (moment_of m) now ms order.1, all-over (moment_of m) now ms order.1)
+
 pub over-in : (from now : ℕ) (ms : List Mark) → InOrder from (map mark_of ms) now → (k : ℕ) (d : Mark) → k < length ms → moment_of (mark_of (slice_index_or ms k d)) ≤ now
 over-in from now [] order k d there = absurd (omega (arith, there))
-over-in from now (m ∷ ms) order zero d there = first (moment_of (mark_of m)) (map mark_of ms) order.1
-  where
-    first : (at : ℕ) (rest : List _) → InOrder at rest now → at ≤ now
-    first at [] last = last
-    first at (n ∷ rest) more = omega (arith, more.0, first (moment_of n) rest more.1)
+over-in from now (m ∷ ms) order zero d there = not-after (moment_of (mark_of m)) now (map mark_of ms) order.1
 over-in from now (m ∷ ms) order (suc k) d there = over-in (moment_of (mark_of m)) now ms order.1 k d (omega (arith, there))
 
 -- the station at a position is at its tap

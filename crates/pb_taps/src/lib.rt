@@ -5,7 +5,6 @@
 mod events;
 mod faults;
 mod glancing;
-mod inboxes;
 mod making;
 mod moments;
 mod queueing;
@@ -15,7 +14,6 @@ mod turning;
 pub use events::{Event, Reply};
 pub use faults::{NewFault, WorldFault};
 pub use glancing::{fits, glance};
-pub use inboxes::{Inbox, MARK_LIMIT};
 pub use making::{check_taps, new_taps};
 pub use moments::beginning;
 pub use queueing::{check_queue, queue};

@@ -13,9 +13,8 @@ ghost use Rattle.pb_taps.specs.Making.{AreStations, IsNoMemory};
 ghost use Rattle.pb_taps.specs.Taps.{is_master, spec_of, seat_of, tap_of, AreSeated};
 
 use crate::faults::NewFault;
-use crate::inboxes::Inbox;
 use crate::taps::{Kind, Tap, TapSpec, is_master};
-use pb_station::Station;
+use pb_station::{Inbox, Station};
 use pb_telegram::copy_octets;
 use pb_timers::BusParams;
 use std::alloc::Global;

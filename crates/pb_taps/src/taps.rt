@@ -2,9 +2,8 @@ ghost use Rattle.std.specs.Prelude.{◌≡◌, ℕ, List};
 ghost use Rattle.pb_model.specs.Medium.{hears_from};
 ghost use Rattle.pb_taps.specs.Taps.{is_master, tap_of};
 
-use crate::inboxes::Inbox;
 use arrayvec::ArrayVec;
-use pb_station::Station;
+use pb_station::{Inbox, Station};
 
 /// Whether a tap is a master or a passive station.
 #[derive(Clone, Copy, Debug, PartialEq, Eq)]

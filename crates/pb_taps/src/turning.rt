@@ -86,7 +86,7 @@ fn would_say(tap: &Tap, now: Moment) -> bool
     requires order { InOrder 0 tap.now.marks now }
     ensures { result ≡ is_some (says tap.now now) }
 {
-    tap.station.would_speak(tap.marks.marks(), now)
+    tap.station.would_speak(&tap.marks, now)
 }
 
 fn turn(tap: &mut Tap, now: Moment, out: &mut SendBuffer)
@@ -95,7 +95,7 @@ fn turn(tap: &mut Tap, now: Moment, out: &mut SendBuffer)
     ensures tap { tap.new ≡ turned_tap tap.old now }
     ensures said { out.new ≡ says tap.old now }
 {
-    tap.station.take_turn(tap.marks.marks(), now, out);
+    tap.station.take_turn(&tap.marks, now, out);
     tap.marks.clear();
 }
 

@@ -1,7 +1,7 @@
 -- The taps are told one after another.
-use Rattle.std.proofs.Common.{◌≡◌, ◌≤◌, ◌+◌, ◌∙◌, ap, sym, subst, map, length, arith, get_or}
+use Rattle.std.proofs.Common.{rules, List, [], ◌≡◌, ◌≤◌, ◌+◌, ◌∙◌, ap, sym, subst, map, length, arith, get_or}
 use Rattle.std.proofs.Math.Seq.{map-set_same}
-use Rattle.std.proofs.lemmas.List.{length-map}
+use Rattle.std.proofs.lemmas.List.{length-map, nil_from_length}
 use Rattle.pb_model.specs.World.{mark_limit}
 use Rattle.pb_model.specs.Medium as model
 use Rattle.pb_medium.specs.Entries.{entry_of}
@@ -10,8 +10,16 @@ use Rattle.pb_model.specs.Step.{told}
 use Rattle.pb_bus.specs.Passes.{with_news}
 use Rattle.pb_taps.specs.Taps.{seat_of, tap_of}
 use Rattle.pb_taps.proofs.Replacing.{changed-more, changed-at, changed-all}
-use Rattle.pb_bus.proofs.Passing.{told-length, told-at, room-for-news}
+use Rattle.pb_bus.proofs.Passing.{told-length, told-at, room-for-news, nobody-told}
 use Rattle.pb_bus.proofs.passes.tell_all.Goals as goal
+
+pub returns-then-is_empty-clause-told : goal.returns-then-is_empty-clause-told
+returns-then-is_empty-clause-told c =
+    let none : c.args.entries.now ≡ [] = nil_from_length c.args.entries.now (search (rules, arith)) in
+    sym (
+    ap (λ (es : List _). told c.args.delay (map entry_of es) c.args.from c.args.to 0 (map tap_of c.args.taps.now)) none
+    ∙ nobody-told c.args.delay c.args.from c.args.to 0 (map tap_of c.args.taps.now)
+    )
 
 pub tell-requires : goal.tell-requires
 tell-requires c =

@@ -19,7 +19,7 @@ returns c =
     let at = ap (λ xs. slice_get xs c.args.tap) (sym c.deref.ensures.value)
     ∙ found-at c.deref.result.now c.args.tap t (ltb-true c.args.tap (length c.deref.result.now) (sym found.0)) found.1 in
     let seat = seat-of-tap bus.params bus.taps.items c.args.tap t c.requires.seats at in
-    c.due.ensures ∙ ap (due_of s.params s.station) c.marks.ensures ∙ ap (λ p. due_of p s.station t.marks) (ap (λ x. x.params) seat)
+    c.due.ensures ∙ ap (λ p. due_of p s.station t.marks) (ap (λ x. x.params) seat)
     ∙ sym (
     ap (option_and_then (λ (x : model.Tap). if x.running then due_of bus.params x.station x.marks else None)) (slice_get-map tap_of bus.taps.items c.args.tap ∙ ap (option_map tap_of) at)
     ∙ ap (λ (b : Bool). if b then due_of bus.params s.station t.marks else None) c.if-not-tap.false

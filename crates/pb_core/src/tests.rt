@@ -1,0 +1,60 @@
+use super::*;
+use arrayvec::ArrayVec;
+use pb_telegram::{RxChar, ShortTelegram, Telegram, TokenTelegram, VarTelegram};
+use std::alloc::{AllocError, Global};
+use std::test::Fail;
+
+/// Octets as characters that are all good.
+fn good(alloc: Global, octets: &[u8]) -> Result<Vec<RxChar>, AllocError> {
+    octets
+        .iter()
+        .map(|octet| RxChar::Good(*octet))
+        .collect(alloc)
+}
+
+#[test]
+fn telegrams_are_read(rt: HostRuntime) -> Result<(), Fail> {
+    let token = Telegram::Token(TokenTelegram { da: 3, sa: 2 });
+    let status_request = Telegram::Short(ShortTelegram {
+        da: 3,
+        sa: 2,
+        fc: 0x49,
+    });
+    let data = Telegram::Var(VarTelegram {
+        da: 5,
+        sa: 2,
+        fc: 0x7d,
+        unit: ArrayVec::try_from([1, 2, 3, 4, 5, 6].as_slice())?,
+    });
+    let spellings = [
+        (Some(token), [0xdc, 3, 2].as_slice()),
+        (Some(status_request), &[0x10, 3, 2, 0x49, 0x4e, 0x16]),
+        (
+            Some(data),
+            &[0x68, 9, 9, 0x68, 5, 2, 0x7d, 1, 2, 3, 4, 5, 6, 0x99, 0x16],
+        ),
+        (Some(Telegram::Ack), &[0xe5]),
+        (None, &[0x10, 3, 2, 0x49, 0x4f, 0x16]),
+        (
+            None,
+            &[0x68, 9, 9, 0x68, 5, 2, 0x7d, 1, 2, 3, 4, 5, 6, 0x98, 0x16],
+        ),
+    ];
+    for (telegram, octets) in &spellings {
+        assert_eq!(rt; whole_telegram(&good(rt.alloc(), octets)?), *telegram);
+    }
+    Ok(())
+}
+
+#[test]
+fn a_damaged_unit_is_no_telegram(rt: HostRuntime) -> Result<(), Fail> {
+    let octets = [0x68, 9, 9, 0x68, 5, 2, 0x7d, 1, 2, 3, 4, 5, 6, 0x99, 0x16];
+    for place in 0..octets.len() {
+        let mut chars = good(rt.alloc(), &octets)?;
+        if let Some(char) = chars.get_mut(place) {
+            *char = RxChar::Bad;
+        }
+        assert_eq!(rt; whole_telegram(&chars), None);
+    }
+    Ok(())
+}

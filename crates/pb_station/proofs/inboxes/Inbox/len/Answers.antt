@@ -1,0 +1,9 @@
+use Rattle.std.proofs.Common.{rules, ◌≡◌, ◌∙◌, ap, sym, length}
+use Rattle.pb_station.proofs.Noted.{as-many}
+use Rattle.pb_station.proofs.inboxes.Inbox.len.Goals as goal
+
+pub returns-clause-value : goal.returns-clause-value
+returns-clause-value c =
+    let many : length c.args.self.now ≡ length c.self.inside.notes.items =
+    sym (ap length c.self.view_is) ∙ as-many c.self.inside.notes.items c.self.inside.chars.items in
+    search rules

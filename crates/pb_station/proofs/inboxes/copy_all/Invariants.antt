@@ -1,0 +1,11 @@
+use Rattle.std.proofs.Common.{◌≡◌, ◌++◌, map}
+use Rattle.std.specs.Prelude.{drop}
+use Rattle.pb_station.specs.MarkViews.{mark_of}
+use Rattle.pb_station.specs.Notes.{marks_in, AreOf}
+use Rattle.pb_station.proofs.inboxes.copy_all.Given as goal
+
+abbrev pub invariant-loop-note : goal.invariant-loop-note
+invariant-loop-note l = record {
+  same : map mark_of l.copies.items ++ marks_in (drop l.note-index l.notes) l.left ≡ marks_in l.notes l.chars;
+  of : AreOf (drop l.note-index l.notes) l.left;
+}

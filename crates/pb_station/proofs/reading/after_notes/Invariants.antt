@@ -1,0 +1,18 @@
+use Rattle.std.proofs.Common.{◌≡◌}
+use Rattle.std.specs.Prelude.{drop}
+use Rattle.pb_messages.specs.Queued.{Queued}
+use Rattle.pb_turn.specs.Turns.{after_marks}
+use Rattle.pb_tokenfsm.specs.Phases.{phase_of}
+use Rattle.pb_core.specs.Cores.{station_with}
+use Rattle.pb_station.specs.MarkViews.{AllOver}
+use Rattle.pb_station.specs.Notes.{marks_in, AreOf}
+use Rattle.pb_station.proofs.reading.after_notes.Given as goal
+
+-- the marks that are left make the same of the station as all of them
+abbrev pub invariant-loop-note : goal.invariant-loop-note
+invariant-loop-note l = record {
+  same : (queue : Queued) → after_marks l.params (station_with l.kept queue (phase_of l.current)) (marks_in (drop l.note-index l.notes) l.left)
+      ≡ after_marks l.params (station_with l.fn.kept queue (phase_of l.fn.phase)) (marks_in l.notes l.chars);
+  over : AllOver l.fn.now (marks_in (drop l.note-index l.notes) l.left);
+  of : AreOf (drop l.note-index l.notes) l.left;
+}

@@ -1,0 +1,215 @@
+ghost use Rattle.std.specs.Prelude.{◌≡◌, ◌+◌, ◌≤◌, ◌++◌, List, IsTrue, ◌↔◌, IfOk, length, map};
+ghost use Rattle.std.specs.Vec.{vec_capacity};
+ghost use Rattle.pb_telegram.specs.declared.chars.RxChar.{RxChar};
+ghost use Rattle.pb_telegram.specs.declared.chars.RxChar.TheVariants.{Good};
+ghost use Rattle.pb_turn.specs.Stations.{first_seen};
+ghost use Rattle.pb_station.specs.MarkViews.{mark_of};
+ghost use Rattle.pb_station.specs.Notes.{AreOf, marks_in};
+
+use crate::marks::Mark;
+use crate::notes::Note;
+use pb_telegram::RxChar;
+use pb_timers::Moment;
+use std::alloc::{AllocError, Global};
+use std::marker::Model;
+
+/// How many unread marks a tap may have.
+pub const MARK_LIMIT: usize = 64;
+
+/// How many characters they bring at most, 255 each.
+const CHAR_LIMIT: usize = 16_320;
+
+/// The unread marks of a tap, with room for as many as there may be: a list of marks in every clause. The characters of all
+/// marks stand behind one another, so that nothing is moved but what a mark brings.
+#[derive(Debug, Drop)]
+pub struct Inbox {
+    notes: Vec<Note>,
+    chars: Vec<RxChar>,
+}
+
+impl Model for Inbox {
+    ghost use Rattle.std.specs.Prelude.{◌≤◌, List, length};
+    ghost use Rattle.std.specs.Vec.{vec_capacity};
+    ghost use Rattle.pb_turn.specs.Marks as model;
+    ghost use Rattle.pb_station.specs.Notes.{AreOf, marks_in};
+
+    ghost Value = { List model.Mark };
+
+    ghost view = { λ b. marks_in b.notes.items b.chars.items };
+
+    ghost invariant = { λ b. (64 ≤ vec_capacity b.notes) × (length b.notes.items ≤ 64)
+        × (16320 ≤ vec_capacity b.chars) × AreOf b.notes.items b.chars.items };
+}
+
+/// Notes of marks, with the characters of them all.
+#[derive(Clone, Copy, Debug)]
+pub(crate) struct Unread<'a> {
+    pub(crate) notes: &'a [Note],
+    pub(crate) chars: &'a [RxChar],
+}
+
+impl Inbox {
+    ghost use Rattle.std.specs.Prelude.{◌≡◌, ◌≤◌, ◌<◌, ◌++◌, [], ◌∷◌, IsTrue, ◌↔◌, IfOk, length, map};
+    ghost use Rattle.pb_telegram.specs.declared.chars.RxChar.TheVariants.{Good};
+    ghost use Rattle.pb_turn.specs.Marks as model;
+    ghost use Rattle.pb_turn.specs.Stations.{first_seen};
+    ghost use Rattle.pb_station.specs.MarkViews.{mark_of};
+    ghost use Rattle.pb_station.specs.Notes.{AreOf, marks_in};
+
+    /// An inbox without marks, with room for all that it may have. Its fault: memory was refused.
+    pub fn new(alloc: Global) -> Result<Inbox, AllocError>
+        ensures { IfOk result (λ b. b ≡ []) }
+    {
+        let notes = Vec::with_capacity(alloc, MARK_LIMIT)?;
+        let chars = Vec::with_capacity(alloc, CHAR_LIMIT)?;
+        Ok(Inbox { notes, chars })
+    }
+
+    /// Activity has begun at a moment, which a mark says behind the others.
+    pub fn push_begin(&mut self, at: Moment, seen: Moment)
+        requires { length self.old < 64 }
+        ensures { self.new ≡ self.old ++ model.Begin at seen ∷ [] }
+    {
+        self.notes.push_reserved(Note::Begin { at, seen });
+    }
+
+    /// Activity has ended at a moment, and brought characters, which a mark says behind the others.
+    pub fn push_end(&mut self, at: Moment, seen: Moment, chars: &[RxChar])
+        requires room { length self.old < 64 }
+        requires fits { length chars.now ≤ 255 }
+        ensures { self.new ≡ self.old ++ model.End at seen chars.now ∷ [] }
+    {
+        push_all(&mut self.chars, chars);
+        self.notes.push_reserved(Note::End {
+            at,
+            seen,
+            count: chars.len(),
+        });
+    }
+
+    /// Activity has ended at a moment, and brought octets that all came good, which a mark says behind the others.
+    pub fn push_good_end(&mut self, at: Moment, seen: Moment, octets: &[u8])
+        requires room { length self.old < 64 }
+        requires fits { length octets.now ≤ 255 }
+        ensures { self.new ≡ self.old ++ model.End at seen (map Good octets.now) ∷ [] }
+    {
+        push_good(&mut self.chars, octets);
+        self.notes.push_reserved(Note::End {
+            at,
+            seen,
+            count: octets.len(),
+        });
+    }
+
+    /// All marks have been read.
+    pub fn clear(&mut self)
+        ensures { self.new ≡ [] }
+    {
+        self.notes.clear();
+        self.chars.clear();
+    }
+
+    /// How many marks have not been read.
+    pub fn len(&self) -> usize
+        ensures value { result ≡ length self.now }
+        ensures few { result ≤ 64 }
+    {
+        self.notes.len()
+    }
+
+    /// Equal marks, in the same order, the oldest first. The fault: memory was refused.
+    pub fn copy_marks(&self, alloc: Global) -> Result<Vec<Mark>, AllocError>
+        ensures { IfOk result (λ v. map mark_of v.items ≡ self.now) }
+    {
+        copy_all(alloc, &self.notes, &self.chars)
+    }
+
+    /// Whether these are its marks.
+    pub fn are(&self, marks: &[Mark]) -> bool
+        ensures { IsTrue result ↔ (map mark_of marks.now ≡ self.now) }
+    {
+        are_noted(&self.notes, &self.chars, marks)
+    }
+
+    /// When the first mark was delivered.
+    pub(crate) fn first_seen(&self) -> Option<Moment>
+        ensures { result ≡ first_seen self.now }
+    {
+        first_seen(&self.notes)
+    }
+
+    /// The marks that have not been read, the oldest first.
+    pub(crate) fn unread(&self) -> Unread<'_>
+        ensures marks { marks_in result.notes.now result.chars.now ≡ self.now }
+        ensures of { AreOf result.notes.now result.chars.now }
+    {
+        Unread {
+            notes: &self.notes,
+            chars: &self.chars,
+        }
+    }
+}
+
+/// When the first of some marks was delivered.
+fn first_seen(notes: &[Note]) -> Option<Moment>
+    ensures { (chars : List RxChar) → result ≡ first_seen (marks_in notes.now chars) }
+{
+    match notes {
+        [note, ..] => Some(note.seen()),
+        [] => None,
+    }
+}
+
+/// Characters stand behind others, with room for them.
+fn push_all(chars: &mut Vec<RxChar>, more: &[RxChar])
+    requires { length chars.old.items + length more.now ≤ vec_capacity chars.old }
+    ensures items { chars.new.items ≡ chars.old.items ++ more.now }
+    ensures room { vec_capacity chars.old ≤ vec_capacity chars.new }
+{
+    chars.extend_from_slice(more).unwrap();
+}
+
+/// The characters of octets that came good stand behind others, with room for them.
+fn push_good(chars: &mut Vec<RxChar>, octets: &[u8])
+    requires { length chars.old.items + length octets.now ≤ vec_capacity chars.old }
+    ensures items { chars.new.items ≡ chars.old.items ++ map Good octets.now }
+    ensures room { vec_capacity chars.new ≡ vec_capacity chars.old }
+{
+    for octet in octets {
+        chars.push_reserved(RxChar::Good(*octet));
+    }
+}
+
+/// The marks themselves. The fault: memory was refused.
+fn copy_all(alloc: Global, notes: &[Note], chars: &[RxChar]) -> Result<Vec<Mark>, AllocError>
+    requires { AreOf notes.now chars.now }
+    ensures { IfOk result (λ v. map mark_of v.items ≡ marks_in notes.now chars.now) }
+{
+    let mut copies = Vec::with_capacity(alloc, notes.len())?;
+    let mut left = chars;
+    for note in notes {
+        let (brought, behind) = left.split_at(note.brings());
+        copies.push(note.mark(brought))?;
+        left = behind;
+    }
+    Ok(copies)
+}
+
+/// Whether marks are those that are noted.
+fn are_noted(notes: &[Note], chars: &[RxChar], marks: &[Mark]) -> bool
+    requires { AreOf notes.now chars.now }
+    ensures { IsTrue result ↔ (map mark_of marks.now ≡ marks_in notes.now chars.now) }
+{
+    if notes.len() != marks.len() {
+        return false;
+    }
+    let mut left = chars;
+    for (place, note) in notes.iter().enumerate() {
+        let (brought, behind) = left.split_at(note.brings());
+        if !note.is_noted(brought, &marks[place]) {
+            return false;
+        }
+        left = behind;
+    }
+    true
+}
