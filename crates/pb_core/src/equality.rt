@@ -6,7 +6,7 @@ use crate::cores::{Core, Kept};
 use crate::cycles::Cycles;
 use crate::past::Past;
 use crate::replies::Reply;
-use pb_cycles::{Initiator, Outcome, Responder};
+use pb_cycles::{Outcome, Responder};
 use pb_ring::Gap;
 use pb_rotation::Rotation;
 use pb_tokenfsm::Phase;
@@ -49,7 +49,7 @@ impl Cycles {
     fn is_same(&self, other: &Cycles) -> bool
         ensures { IsTrue result ↔ (self.now ≡ other.now) }
     {
-        is_same_initiator(&self.initiator, &other.initiator)
+        self.initiator.is_same(&other.initiator)
             && is_same_responder(&self.responder, &other.responder)
             && is_same_outcome(&self.last_outcome, &other.last_outcome)
     }
@@ -80,12 +80,6 @@ fn is_same_gap(one: &Gap, other: &Gap) -> bool
 }
 
 fn is_same_rotation(one: &Rotation, other: &Rotation) -> bool
-    ensures { IsTrue result ↔ (one.now ≡ other.now) }
-{
-    one == other
-}
-
-fn is_same_initiator(one: &Initiator, other: &Initiator) -> bool
     ensures { IsTrue result ↔ (one.now ≡ other.now) }
 {
     one == other

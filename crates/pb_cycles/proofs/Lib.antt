@@ -4,3 +4,4 @@ pub mod Linking
 pub mod Meaning
 pub mod NewestActs
 pub mod RequestBits
+pub mod MaskLemmas

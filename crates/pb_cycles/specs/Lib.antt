@@ -6,3 +6,4 @@ pub mod Link
 pub mod Outcomes
 pub mod Responding
 pub mod Tables
+pub mod CountMasks

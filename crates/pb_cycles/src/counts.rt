@@ -1,5 +1,10 @@
-ghost use Rattle.std.specs.Prelude.{◌≡◌, ◌≤◌};
+ghost use Rattle.std.specs.Prelude.{◌≡◌, ◌≢◌, ◌≤◌, ◌<◌, ◌^◌, ◌==◌, ℕ, true, false, bit_and};
+ghost use Rattle.std.specs.Bool.{Decides};
+ghost use Rattle.std.specs.Int.{bit_at};
 ghost use Rattle.pb_cycles.specs.Counts.{count_bits, count_after};
+ghost use Rattle.pb_cycles.specs.CountMasks.{count_of};
+
+use std::marker::Model;
 
 /// What comes next to an address: the frame count bits of the next SDA or SRD.
 #[derive(Clone, Copy, Debug, Default, PartialEq, Eq)]
@@ -35,4 +40,147 @@ impl FrameCount {
             FrameCount::Clear => FrameCount::Set,
         }
     }
+}
+
+/// What comes next to each station, in the bits of two numbers: so it is soon copied and compared.
+#[derive(Debug, Drop)]
+pub(crate) struct FrameCounts {
+    /// The stations to which the frame count bit counts.
+    counting: u128,
+    /// Those of them to which it is 1; of other stations a bit says nothing.
+    set: u128,
+}
+
+impl Model for FrameCounts {
+    ghost use Rattle.std.specs.Prelude.{List, ◌<◌, ◌^◌};
+    ghost use Rattle.pb_cycles.specs.CountMasks.{counts_in};
+    ghost use Rattle.pb_cycles.specs.declared.counts.FrameCount.{FrameCount};
+
+    ghost Value = { List FrameCount };
+
+    ghost view = { λ c. counts_in c.counting c.set };
+
+    ghost invariant = { λ c. c.counting < 2 ^ 127 };
+}
+
+impl FrameCounts {
+    ghost use Rattle.std.specs.Prelude.{◌≡◌, ◌<◌, replicate, slice_set, IsTrue, ◌↔◌};
+    ghost use Rattle.pb_cycles.specs.Counts.{count_at};
+    ghost use Rattle.pb_cycles.specs.declared.counts.FrameCount.TheVariants.{First, Clear, Set};
+
+    /// To each station comes a first request.
+    pub(crate) fn new() -> FrameCounts
+        ensures { result ≡ replicate 127 First }
+    {
+        FrameCounts {
+            counting: 0,
+            set: 0,
+        }
+    }
+
+    /// What comes next to a station.
+    pub(crate) fn at(&self, address: u8) -> FrameCount
+        requires { address < 127 }
+        ensures { result ≡ count_at self.now address }
+    {
+        count_of(is_set(self.counting, address), is_set(self.set, address))
+    }
+
+    /// Says what comes next to a station.
+    pub(crate) fn put(&mut self, address: u8, count: FrameCount)
+        requires { address < 127 }
+        ensures { self.new ≡ slice_set self.old address count }
+    {
+        match count {
+            FrameCount::First => self.put_first(address),
+            FrameCount::Clear => self.put_clear(address),
+            FrameCount::Set => self.put_set(address),
+        }
+    }
+
+    fn put_first(&mut self, address: u8)
+        requires { address < 127 }
+        ensures { self.new ≡ slice_set self.old address First }
+    {
+        self.counting = without_bit(self.counting, address);
+    }
+
+    fn put_clear(&mut self, address: u8)
+        requires { address < 127 }
+        ensures { self.new ≡ slice_set self.old address Clear }
+    {
+        self.counting = with_bit(self.counting, address);
+        self.set = without_bit(self.set, address);
+    }
+
+    fn put_set(&mut self, address: u8)
+        requires { address < 127 }
+        ensures { self.new ≡ slice_set self.old address Set }
+    {
+        self.counting = with_bit(self.counting, address);
+        self.set = with_bit(self.set, address);
+    }
+
+    /// The same frame count bits.
+    pub(crate) fn copy(&self) -> FrameCounts
+        ensures { result ≡ self.now }
+    {
+        FrameCounts {
+            counting: self.counting,
+            set: self.set,
+        }
+    }
+
+    /// Whether others are equal to them.
+    pub(crate) fn is_same(&self, other: &FrameCounts) -> bool
+        ensures { IsTrue result ↔ (self.now ≡ other.now) }
+    {
+        are_same(self.counting, self.set, other.counting, other.set)
+    }
+}
+
+fn count_of(counting: bool, set: bool) -> FrameCount
+    ensures { result ≡ count_of counting set }
+{
+    match (counting, set) {
+        (false, _) => FrameCount::First,
+        (true, false) => FrameCount::Clear,
+        (true, true) => FrameCount::Set,
+    }
+}
+
+/// Whether two numbers of stations that count are equal, and so what is set of these.
+fn are_same(counting: u128, set: u128, other_counting: u128, other_set: u128) -> bool
+    ensures { Decides result
+        ((counting ≡ other_counting) × (bit_and set counting ≡ bit_and other_set other_counting)) }
+{
+    counting == other_counting && set & counting == other_set & other_counting
+}
+
+/// Whether the bit of a station is 1.
+fn is_set(bits: u128, address: u8) -> bool
+    requires { address < 127 }
+    ensures { result ≡ (bit_at bits address == 1) }
+{
+    (bits >> address) & 1 == 1
+}
+
+/// The bits with a station's at 1.
+fn with_bit(bits: u128, address: u8) -> u128
+    requires { address < 127 }
+    ensures set { (bit_at result address == 1) ≡ true }
+    ensures others { (i : ℕ) → i < 127 → i ≢ address → bit_at result i ≡ bit_at bits i }
+    ensures fits { bits < 2 ^ 127 → result < 2 ^ 127 }
+{
+    bits | (1 << address)
+}
+
+/// The bits with a station's at 0.
+fn without_bit(bits: u128, address: u8) -> u128
+    requires { address < 127 }
+    ensures clear { (bit_at result address == 1) ≡ false }
+    ensures others { (i : ℕ) → i < 127 → i ≢ address → bit_at result i ≡ bit_at bits i }
+    ensures fits { result ≤ bits }
+{
+    bits & !(1 << address)
 }

@@ -1,4 +1,4 @@
-ghost use Rattle.std.specs.Prelude.{◌≡◌, ◌≤◌, if◌then◌else◌, is_some, Some, None, replicate, option_map, IfSome};
+ghost use Rattle.std.specs.Prelude.{◌≡◌, ◌≤◌, if◌then◌else◌, is_some, Some, None, replicate, option_map, IfSome, IsTrue, ◌↔◌};
 ghost use Rattle.pb_telegram.specs.Grammar.{spelling};
 ghost use Rattle.pb_telegram.specs.Initiators as telegram;
 ghost use Rattle.pb_messages.specs.Messages.{frame_octets, message_of};
@@ -6,7 +6,7 @@ ghost use Rattle.pb_messages.specs.declared.messages.Message.TheVariants.{Framed
 ghost use Rattle.pb_cycles.specs.Initiating.{first_sending, after_request, retry_of, after_retry, outcome_of, after_outcome};
 ghost use Rattle.pb_cycles.specs.declared.counts.FrameCount.TheVariants.{First};
 
-use crate::counts::FrameCount;
+use crate::counts::{FrameCount, FrameCounts};
 use crate::outcomes::{Outcome, reply_outcome};
 use pb_messages::{Frame, Message, Request};
 use pb_telegram::Telegram;
@@ -44,12 +44,18 @@ fn copy_pending(pending: &mut Option<OpenRequest>, other: &Option<OpenRequest>)
     }
 }
 
+fn is_same_request(one: &Option<OpenRequest>, other: &Option<OpenRequest>) -> bool
+    ensures { IsTrue result ↔ (one.now ≡ other.now) }
+{
+    one == other
+}
+
 /// The side of message cycles that asks: frame count bits, retries, and what replies mean
 /// (EN 50170-2, message cycles).
-#[derive(Debug, PartialEq, Eq, Drop)]
+#[derive(Debug, Drop)]
 pub struct Initiator {
     retries: u8,
-    counts: [FrameCount; 127],
+    counts: FrameCounts,
     pending: Option<OpenRequest>,
 }
 
@@ -64,8 +70,6 @@ impl Model for Initiator {
 
     ghost invariant = { λ i. IsInitiator
         (record { retries = i.retries; counts = i.counts; pending = i.pending }) };
-
-    ghost inverse = { λ t. record { retries = t.retries; counts = t.counts; pending = t.pending } };
 }
 
 impl Initiator {
@@ -77,7 +81,7 @@ impl Initiator {
     {
         Initiator {
             retries,
-            counts: [FrameCount::First; 127],
+            counts: FrameCounts::new(),
             pending: None,
         }
     }
@@ -103,10 +107,10 @@ impl Initiator {
             self.pending = None;
             return Frame::new(da, ts, 0x40 + code, request.into_unit()).telegram();
         }
-        let count = self.counts[usize::from(da)];
+        let count = self.counts.at(da);
         let sent = Frame::new(da, ts, 0x40 + count.bits() + code, request.into_unit());
         let telegram = sent.telegram();
-        self.counts[usize::from(da)] = count.next();
+        self.counts.put(da, count.next());
         self.pending = Some(OpenRequest {
             sent,
             left: self.retries,
@@ -153,7 +157,7 @@ impl Initiator {
         ensures { self.new ≡ other.now }
     {
         self.retries = other.retries;
-        self.counts = other.counts;
+        self.counts = other.counts.copy();
         copy_pending(&mut self.pending, &other.pending);
     }
 
@@ -163,9 +167,18 @@ impl Initiator {
     {
         Initiator {
             retries: self.retries,
-            counts: self.counts,
+            counts: self.counts.copy(),
             pending: self.pending.as_ref().map(OpenRequest::copy),
         }
+    }
+
+    /// Whether another is equal to it.
+    pub fn is_same(&self, other: &Initiator) -> bool
+        ensures { IsTrue result ↔ (self.now ≡ other.now) }
+    {
+        self.retries == other.retries
+            && self.counts.is_same(&other.counts)
+            && is_same_request(&self.pending, &other.pending)
     }
 
     /// The outcome of the open request by what came, which closes it: a reply, or None where no
@@ -203,7 +216,7 @@ impl Initiator {
         let Some(request) = &self.pending else {
             return None;
         };
-        self.counts[usize::from(request.sent.da())] = FrameCount::First;
+        self.counts.put(request.sent.da(), FrameCount::First);
         self.pending = None;
         Some(Outcome::NoAnswer)
     }
