@@ -189,6 +189,32 @@ fn stations_are_copied_in_the_room_of_others(rt: HostRuntime) -> Result<(), Fail
     Ok(())
 }
 
+/// An inbox keeps marks in their order, each with its characters; a station is due when the first of them was delivered.
+#[test]
+fn an_inbox_keeps_marks_in_their_order(rt: HostRuntime) -> Result<(), Fail> {
+    let alloc = rt.alloc();
+    let mut inbox = Inbox::new(alloc)?;
+    inbox.push_begin(at(700)?, at(701)?);
+    inbox.push_good_end(at(733)?, at(733)?, &[0xdc, 0x02, 0x01]);
+    inbox.push_begin(at(750)?, at(751)?);
+    inbox.push_end(at(761)?, at(761)?, &[RxChar::Bad]);
+    assert_eq!(rt; inbox.len(), 4);
+    let mut told = Vec::new(alloc);
+    for word in ["b:700:701", "e:733:733:dc0201", "b:750:751", "e:761:761:--"] {
+        told.push(mark(word)?)?;
+    }
+    assert!(rt; inbox.are(&told));
+    let copies = inbox.copy_marks(alloc)?;
+    assert!(rt; copies.as_slice() == told.as_slice());
+    let mut station = master(alloc)?;
+    station.start(at(0)?);
+    assert!(rt; same_moment(station.due(&inbox), "701")?);
+    inbox.clear();
+    assert!(rt; !inbox.are(&told));
+    assert!(rt; same_moment(station.due(&inbox), "800")?);
+    Ok(())
+}
+
 /// A passive station waits for requests, and is not due by itself.
 #[test]
 fn a_passive_station_waits(rt: HostRuntime) -> Result<(), Fail> {

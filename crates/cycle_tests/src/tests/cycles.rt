@@ -146,7 +146,9 @@ fn copies_go_on_alike(rt: HostRuntime) -> Result<(), Fail> {
     responder.answer(7, 0, &asked);
     let mut other_initiator = initiator.copy();
     let mut other_responder = responder.copy();
+    assert!(rt; other_initiator.is_same(&initiator));
     let again = spelled(initiator.again());
+    assert!(rt; !other_initiator.is_same(&initiator));
     assert_eq!(rt; spelled(other_initiator.again()), again);
     let replied = spelled(responder.answer(7, 0, &asked));
     assert_eq!(rt; spelled(other_responder.answer(7, 0, &asked)), replied);
