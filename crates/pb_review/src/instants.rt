@@ -1,15 +1,18 @@
-ghost use Rattle.std.specs.Prelude.{◌≡◌, ◌≤◌, ◌^◌, length, slice_get, Some, IfOk, IfSome};
+ghost use Rattle.std.specs.Prelude.{◌≡◌, ◌≤◌, ◌^◌, true, length, slice_get, Some, IfOk, IfSome};
+ghost use Rattle.std.specs.Option.{option_map};
+ghost use Rattle.pb_model.specs.World.{Pass};
+ghost use Rattle.pb_taps.specs.Events.{event_of};
 ghost use Rattle.pb_plan.specs.Walks.{passes};
 ghost use Rattle.pb_review.specs.Looks.{look_of};
 ghost use Rattle.pb_review.specs.Nexts.{IsLookAt, IsNext};
 ghost use Rattle.pb_review.specs.Reading.{Reads};
 
-use crate::reading::{read_event, read_steps};
+use crate::reading::read_steps;
 use crate::reports::{Look, Report};
-use crate::turning::{read_turns, wanted};
+use crate::turning::{note_wanted, read_turns};
 use pb_plan::Walk;
 use pb_taps::Event;
-use std::alloc::{AllocError, Global};
+use std::alloc::AllocError;
 
 /// How a history goes on after an instant.
 #[derive(Clone, Copy, Debug)]
@@ -23,11 +26,11 @@ pub(crate) struct Next {
 /// Reads an instant of the history, at the moment of the walk and from a place on, by the outlooks from one
 /// of them on. None where the history isn't the plan's there. The fault: memory was refused.
 pub(crate) fn read_instant<R: Report>(
-    alloc: Global,
     report: &R,
     walk: &Walk<'_>,
     k: usize,
     place: usize,
+    want: &mut Vec<bool>,
 ) -> Result<Option<Next>, AllocError>
     requires place { place ≤ length (R.events report.now) }
     requires looks { k ≤ 2 ^ 63 }
@@ -39,7 +42,7 @@ pub(crate) fn read_instant<R: Report>(
     let Some(before) = look_at(report, walk, k, started) else {
         return Ok(None);
     };
-    let want = wanted(alloc, walk, before.dues)?;
+    note_wanted(walk, before.dues, want)?;
     let Some(turned) = read_turns(report, started, want) else {
         return Ok(None);
     };
@@ -78,6 +81,22 @@ fn read_pass<R: Report>(report: &R, place: usize, bits: Option<u64>) -> Option<u
 {
     match bits {
         None => Some(place),
-        Some(bits) => read_event(report, place, &Event::Pass(bits)),
+        Some(bits) => {
+            if place < report.len() && is_pass(report.event(place), bits) {
+                Some(place + 1)
+            } else {
+                None
+            }
+        }
+    }
+}
+
+/// Whether an event was found, and is a pass of so many bit times.
+fn is_pass(found: Option<&Event>, bits: u64) -> bool
+    ensures { result ≡ true → option_map (λ e. event_of e.now) found.entry ≡ Some (Pass bits) }
+{
+    match found {
+        Some(Event::Pass(of)) => *of == bits,
+        _ => false,
     }
 }

@@ -14,8 +14,9 @@ pub fn is_run<R: Report>(alloc: Global, report: &R, mut walk: Walk<'_>) -> Resul
     ensures { IfOk result (λ is. is ≡ true → IsRunIn walk.entry (R.looks report.now) (R.events report.now)) }
 {
     let mut place = 0;
+    let mut want = Vec::new(alloc);
     for round in 0..walk.until() + 1 {
-        let Some(next) = read_instant(alloc, report, &walk, round as usize * 2, place)? else {
+        let Some(next) = read_instant(report, &walk, round as usize * 2, place, &mut want)? else {
             return Ok(false);
         };
         match next.moment {

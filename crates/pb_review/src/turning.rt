@@ -1,4 +1,4 @@
-ghost use Rattle.std.specs.Prelude.{◌≡◌, ◌≤◌, ◌++◌, ℕ, List, length, map, Some, IfOk, IfSome};
+ghost use Rattle.std.specs.Prelude.{◌≡◌, ◌≤◌, ◌++◌, ℕ, List, length, map, Some, OnOk, IfSome};
 ghost use Rattle.std.specs.Option.{option_map};
 ghost use Rattle.pb_model.specs.World.{Turn};
 ghost use Rattle.pb_taps.specs.Events.{event_of};
@@ -11,18 +11,18 @@ use crate::reports::Report;
 use pb_plan::Walk;
 use pb_taps::Event;
 use pb_timers::Moment;
-use std::alloc::{AllocError, Global};
+use std::alloc::AllocError;
 
 /// How far the history goes on with one turn of each tap that wants one, in any order, if it does.
-pub(crate) fn read_turns<R: Report>(report: &R, place: usize, mut want: Vec<bool>) -> Option<usize>
+pub(crate) fn read_turns<R: Report>(report: &R, place: usize, want: &mut Vec<bool>) -> Option<usize>
     requires { place ≤ length (R.events report.now) }
-    ensures { IfSome result (ReadsWanted (R.events report.now) place want.items) }
+    ensures { IfSome result (ReadsWanted (R.events report.now) place want.old.items) }
 {
     let mut at = place;
     for _ in 0..want.len() {
-        at = read_turn(report, at, &mut want)?;
+        at = read_turn(report, at, want)?;
     }
-    if is_none_left(&want) { Some(at) } else { None }
+    if is_none_left(want) { Some(at) } else { None }
 }
 
 /// How far it goes on with one turn of a tap that wants one, where a turn comes next.
@@ -74,18 +74,19 @@ fn is_none_left(want: &[bool]) -> bool
     true
 }
 
-/// Which taps want a turn, each of which is due at a moment or not at all.
-pub(crate) fn wanted(
-    alloc: Global,
+/// Which taps want a turn, each of which is due at a moment or not at all. The list's room is used anew. The fault:
+/// memory was refused.
+pub(crate) fn note_wanted(
     walk: &Walk<'_>,
     dues: &[Option<Moment>],
-) -> Result<Vec<bool>, AllocError>
+    want: &mut Vec<bool>,
+) -> Result<(), AllocError>
     requires { length dues.now ≡ walk.now.taps }
-    ensures { IfOk result (λ want. want.items ≡ wanted (plan_in walk.now) walk.now.clock 0 dues.now) }
+    ensures { OnOk result (want.new.items ≡ wanted (plan_in walk.now) walk.now.clock 0 dues.now) }
 {
-    let mut want = Vec::new(alloc);
+    want.clear();
     for (tap, due) in dues.iter().enumerate() {
         want.push(walk.wants(tap, *due))?;
     }
-    Ok(want)
+    Ok(())
 }
