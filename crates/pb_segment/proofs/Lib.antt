@@ -3,4 +3,5 @@ pub mod Showing
 pub mod Standing
 pub mod Replaying
 pub mod Agreeing
+pub mod Noting
 mod Placed

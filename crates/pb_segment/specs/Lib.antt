@@ -4,6 +4,7 @@ pub mod Origins
 pub mod Outlooks
 pub mod Seats
 pub mod Locked
+pub mod Notes
 pub mod Counts
 pub mod Closing
 pub mod Reports

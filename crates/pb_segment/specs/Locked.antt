@@ -1,14 +1,11 @@
 -- What stands under the lock, and what an event of a seat does to it.
 use Rattle.std.specs.Prelude.{◌≡◌, ◌≢◌, ℕ, ◌<◌, ◌≤◌, true, false, List, [], ◌∷◌, ◌++◌, length, slice_index, Ok, IsOk, MatchResult}
-use Rattle.pb_model.specs.World.{World, Event, Reply, Turn}
+use Rattle.pb_model.specs.World.{World, Event, Turn}
 use Rattle.pb_model.specs.Step.{step}
-use Rattle.pb_taps.specs.Events.{event_of}
 use Rattle.pb_taps.specs.Faults.{world_fault}
 use Rattle.pb_taps.specs.declared.faults.WorldFault.TheVariants as world
 use Rattle.pb_station.specs.Decisions.{DecisionView}
 use Rattle.pb_bus.specs.Glances.{Fits}
-use Rattle.pb_segment.specs.declared.deeds.Deed.{Deed}
-use Rattle.pb_segment.specs.declared.deeds.Deed.TheVariants as deed
 use Rattle.pb_segment.specs.declared.faults.CommitFault.{CommitFault}
 use Rattle.pb_segment.specs.declared.faults.CommitFault.TheVariants as commit
 use Rattle.pb_segment.specs.declared.faults.GlanceFault.{GlanceFault}
@@ -56,24 +53,6 @@ pub record IsKept (l : LockedView) : Type 0 where
   pub limit : l.limit ≤ 1000000
 
 -- ---- one more event
-
--- the event of a deed
-abbrev pub event_in : Deed → Event
-event_in (deed.Decided d) = Turn d.tap
-event_in (deed.Driven event) = event_of event
-
--- a decision was made on the present state
-abbrev pub IsTimely : World → Deed → Type 0
-IsTimely w (deed.Decided d) = Fits w d
-IsTimely w (deed.Driven event) = is_turn (event_of event) ≡ false
-
--- a reply is the one that an event gets which is not refused
-abbrev pub IsReplyTo : World → Event → Reply → Type 0
-IsReplyTo w event reply = (next : World) (told : Reply) → step w event ≡ Ok (next, told) → reply ≡ told
-
--- a moment is the clock after an event that is not refused
-abbrev pub IsClockAfter : World → Event → ℕ → Type 0
-IsClockAfter w event now = (next : World) (told : Reply) → step w event ≡ Ok (next, told) → now ≡ told.now
 
 -- the world does the event, which stands at the end of the history with its reply, and nothing else is done
 abbrev pub Appends : LockedView → LockedView → Event → Receipt → Type 0

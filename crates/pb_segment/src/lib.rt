@@ -5,12 +5,12 @@
 
 mod blocks;
 mod closing;
-mod deeds;
 mod faults;
 mod histories;
 mod known;
 mod locked;
 mod making;
+mod notes;
 mod origins;
 mod outlooks;
 mod receipts;

@@ -1,12 +1,13 @@
-ghost use Rattle.std.specs.Prelude.{◌≡◌, ◌+◌, ◌<◌, ℕ, length, slice_index};
+ghost use Rattle.std.specs.Prelude.{◌≡◌, ◌+◌, ◌<◌, ◌++◌, ◌∷◌, [], ℕ, length, slice_index, vec_len, vec_capacity};
 ghost use Rattle.pb_taps.specs.Events.{event_of};
+ghost use Rattle.pb_segment.specs.Blocks.{HasRoom, happened_in};
 ghost use Rattle.pb_segment.specs.Counts.{counted, counted_drives};
 
 use crate::blocks::Blocks;
-use crate::deeds::{Deed, carry_out, event_in, reply_to, speaks};
 use crate::faults::{CommitFault, GlanceFault};
 use crate::histories::Happened;
 use crate::known::Known;
+use crate::notes::{Note, note_event, note_turn, refused, turn_refused};
 use crate::origins::Origin;
 use crate::outlooks::Outlook;
 use crate::receipts::{KeptReceipt, Receipt, is_turn};
@@ -15,7 +16,6 @@ use pb_station::{Decision, Glance};
 use pb_world::{Event, World};
 use std::alloc::Global;
 use std::marker::Model;
-use std::sync::Arc;
 use std::sync::ledger::{Book, Ledger, Share};
 
 /// A world, and the events that have led to it from the new one.
@@ -54,14 +54,14 @@ impl<L: Ledger> Model for Locked<L> {
 }
 
 impl<L: Ledger> Locked<L> {
-    ghost use Rattle.std.specs.Prelude.{◌≡◌, ◌++◌, ◌∷◌, [], IfOk, IfErr, OnOk, OnErr, length};
+    ghost use Rattle.std.specs.Prelude.{◌≡◌, ◌++◌, ◌∷◌, [], false, IfOk, IfErr, OnOk, OnErr, length};
     ghost use Rattle.pb_model.specs.World.{Turn};
     ghost use Rattle.pb_taps.specs.Events.{event_of};
-    ghost use Rattle.pb_bus.specs.Glances.{CanBeDecided, IsGlance};
+    ghost use Rattle.pb_bus.specs.Glances.{CanBeDecided, Fits, IsGlance};
     ghost use Rattle.pb_token.specs.Promises.{LeavesOneToken};
-    ghost use Rattle.pb_segment.specs.Locked.{Appends, IsAllowed, IsPresent, IsTimely, KnowsDrives, KnowsTurns};
+    ghost use Rattle.pb_segment.specs.Histories.{is_turn};
+    ghost use Rattle.pb_segment.specs.Locked.{Appends, IsAllowed, IsPresent, KnowsDrives, KnowsTurns};
     ghost use Rattle.pb_segment.specs.Locked.{RefusesDecision, RefusesEvent, RefusesToKeep, RefusesToShow};
-    ghost use Rattle.pb_segment.specs.Locked.{event_in};
     ghost use Rattle.pb_segment.specs.Outlooks.{ShowsWorld};
 
     /// What the tap of a seat shows.
@@ -80,6 +80,7 @@ impl<L: Ledger> Locked<L> {
     }
 
     /// Takes the turn of a decision that was made on the present state.
+    #[inline(always)]
     pub(crate) fn commit(
         &mut self,
         alloc: Global,
@@ -105,15 +106,11 @@ impl<L: Ledger> Locked<L> {
             let now = self.world.now().get();
             return Err(CommitFault::Stale { turns, now });
         }
-        self.keep(
-            alloc,
-            Deed::Decided(decision),
-            &mut seat.receipts,
-            &mut seat.share,
-        )
+        self.keep_turn(alloc, decision, &mut seat.receipts, &mut seat.share)
     }
 
     /// Lets an event happen that is no turn.
+    #[inline(always)]
     pub(crate) fn drive(
         &mut self,
         alloc: Global,
@@ -134,12 +131,7 @@ impl<L: Ledger> Locked<L> {
         if self.drives != seat.receipts.len() {
             return Err(CommitFault::Disagree);
         }
-        self.keep(
-            alloc,
-            Deed::Driven(event),
-            &mut seat.receipts,
-            &mut seat.share,
-        )
+        self.keep_event(alloc, event, &mut seat.receipts, &mut seat.share)
     }
 
     /// What the conductor sees, which both keep.
@@ -172,58 +164,122 @@ impl<L: Ledger> Locked<L> {
         Ok(shown)
     }
 
-    /// The world does what a seat wants, and the event is kept, with a receipt. All room that it takes is made
-    /// before anything changes.
-    fn keep(
+    /// The world takes the turn of a decision that fits, and the event is kept, with a receipt. All room that it takes
+    /// is made before anything changes.
+    #[inline(always)]
+    fn keep_turn(
         &mut self,
         alloc: Global,
-        deed: Deed,
+        decision: Decision,
         receipts: &mut Vec<KeptReceipt>,
         share: &mut Share<L>,
     ) -> Result<Receipt, CommitFault>
-        requires timely { IsTimely self.old.world deed }
+        requires fits { Fits self.old.world decision }
         requires part { share.old.parts ≡ 1 }
-        ensures ok { IfOk result (Appends self.old self.new (event_in deed)) }
+        ensures ok { IfOk result (Appends self.old self.new (Turn decision.tap)) }
         ensures told { IfOk result (λ r. receipts.new.items ≡ receipts.old.items ++ r ∷ []) }
         ensures counted { OnOk result (share.new.amount ≡ share.old.amount + 1) }
-        ensures token { OnOk result (LeavesOneToken self.old.world (event_in deed ∷ []) self.new.world) }
+        ensures token { OnOk result (LeavesOneToken self.old.world (Turn decision.tap ∷ []) self.new.world) }
         ensures part { share.new.parts ≡ 1 }
-        ensures err { IfErr result (RefusesToKeep self.old (event_in deed)) }
+        ensures err { IfErr result (RefusesToKeep self.old (Turn decision.tap)) }
         ensures same { OnErr result ((self.new ≡ self.old)
             × (receipts.new.items ≡ receipts.old.items) × (share.new.amount ≡ share.old.amount)) }
     {
-        let event = event_in(&deed);
-        if let Some(fault) = self.world.refusal(&event, speaks(&self.world, &deed)) {
-            return Err(CommitFault::World(fault));
-        }
-        if self.history.len() >= self.limit {
-            return Err(CommitFault::HistoryFull);
-        }
-        self.history.reserve(alloc)?;
-        receipts.reserve(1)?;
-        let happened = Happened {
-            event: self.known.event(alloc, &event)?,
-            reply: self.known.reply(alloc, &reply_to(&self.world, &deed))?,
+        let note = match note_turn(
+            alloc,
+            &self.world,
+            &decision,
+            &mut self.known,
+            &mut self.history,
+            receipts,
+            self.limit,
+        ) {
+            Ok(note) => note,
+            Err(fault) => return Err(turn_refused(&self.world, &decision, fault)),
         };
-        let kept = KeptReceipt {
-            place: self.history.len(),
-            reply: Arc::try_clone(&happened.reply)?,
+        self.world.take(alloc, decision)?;
+        count(&mut self.turns, &mut self.drives, &note.happened);
+        Ok(keep(note, &mut self.history, &mut self.book, receipts, share))
+    }
+
+    /// An event happens that is no turn, and is kept, with a receipt. All room that it takes is made before anything
+    /// changes.
+    #[inline(always)]
+    fn keep_event(
+        &mut self,
+        alloc: Global,
+        event: Event,
+        receipts: &mut Vec<KeptReceipt>,
+        share: &mut Share<L>,
+    ) -> Result<Receipt, CommitFault>
+        requires driven { is_turn (event_of event) ≡ false }
+        requires part { share.old.parts ≡ 1 }
+        ensures ok { IfOk result (Appends self.old self.new (event_of event)) }
+        ensures told { IfOk result (λ r. receipts.new.items ≡ receipts.old.items ++ r ∷ []) }
+        ensures counted { OnOk result (share.new.amount ≡ share.old.amount + 1) }
+        ensures token { OnOk result (LeavesOneToken self.old.world (event_of event ∷ []) self.new.world) }
+        ensures part { share.new.parts ≡ 1 }
+        ensures err { IfErr result (RefusesToKeep self.old (event_of event)) }
+        ensures same { OnErr result ((self.new ≡ self.old)
+            × (receipts.new.items ≡ receipts.old.items) × (share.new.amount ≡ share.old.amount)) }
+    {
+        let note = match note_event(
+            alloc,
+            &self.world,
+            &event,
+            &mut self.known,
+            &mut self.history,
+            receipts,
+            self.limit,
+        ) {
+            Ok(note) => note,
+            Err(fault) => return Err(refused(&self.world, &event, false, fault)),
         };
-        let reply = carry_out(&mut self.world, alloc, deed)?;
-        let receipt = Receipt {
-            place: kept.place,
-            reply,
-        };
-        count(&mut self.turns, &mut self.drives, &event);
-        self.history.push_reserved(happened);
-        self.book.add(share, 1);
-        receipts.push_reserved(kept);
-        Ok(receipt)
+        self.world.apply(alloc, event)?;
+        count(&mut self.turns, &mut self.drives, &note.happened);
+        Ok(keep(note, &mut self.history, &mut self.book, receipts, share))
     }
 }
 
+/// An event that has happened is kept, for which there is room. It answers what its seat is told.
+#[inline(always)]
+fn keep<L: Ledger>(
+    note: Note,
+    history: &mut Blocks,
+    book: &mut Book<L>,
+    receipts: &mut Vec<KeptReceipt>,
+    share: &mut Share<L>,
+) -> Receipt
+    requires room { HasRoom history.old }
+    requires room_receipts { vec_len receipts.old < vec_capacity receipts.old }
+    requires part { 0 < share.old.parts }
+    ensures happened { happened_in history.new ≡ happened_in history.old ++ note.happened ∷ [] }
+    ensures booked { book.new.total ≡ book.old.total + 1 }
+    ensures receipts { receipts.new.items ≡ receipts.old.items ++ note.kept ∷ [] }
+    ensures counted { share.new.amount ≡ share.old.amount + 1 }
+    ensures part { share.new.parts ≡ share.old.parts }
+    ensures told { result ≡ note.kept }
+{
+    let Note { happened, kept } = note;
+    let receipt = kept.told();
+    history.push_reserved(happened);
+    book.add(share, 1);
+    receipts.push_reserved(kept);
+    receipt
+}
+
+/// Counts what has happened.
+fn count(turns: &mut Vec<usize>, drives: &mut usize, happened: &Happened)
+    requires turns { (tap : ℕ) → tap < length turns.old.items → slice_index turns.old.items tap < 1000000 }
+    requires drives { drives.old < 1000000 }
+    ensures turns { turns.new.items ≡ counted turns.old.items happened.now.event }
+    ensures drives { drives.new ≡ counted_drives drives.old happened.now.event }
+{
+    count_event(turns, drives, &happened.event);
+}
+
 /// Counts an event that was accepted.
-fn count(turns: &mut Vec<usize>, drives: &mut usize, event: &Event)
+fn count_event(turns: &mut Vec<usize>, drives: &mut usize, event: &Event)
     requires turns { (tap : ℕ) → tap < length turns.old.items → slice_index turns.old.items tap < 1000000 }
     requires drives { drives.old < 1000000 }
     ensures turns { turns.new.items ≡ counted turns.old.items (event_of event.now) }

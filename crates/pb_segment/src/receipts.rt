@@ -42,6 +42,19 @@ impl Model for KeptReceipt {
     ghost view = { λ r. record { place = r.place; reply = reply_of (arc_value r.reply) } };
 }
 
+impl KeptReceipt {
+    /// What its seat is told.
+    #[inline(always)]
+    pub(crate) fn told(&self) -> Receipt
+        ensures { result ≡ self.now }
+    {
+        Receipt {
+            place: self.place,
+            reply: self.reply.copy(),
+        }
+    }
+}
+
 /// Whose an event is: a turn is its tap's, all else is the conductor's.
 #[derive(Clone, Copy, Debug, PartialEq, Eq)]
 pub(crate) enum Owner {

@@ -74,6 +74,7 @@ impl<L: Ledger> SharedSegment<L> {
     /// number of the tap's turns was accepted than the seat knows of; `Stale` where the tap's station, its unread
     /// marks or the clock are not the decision's; `World` with the world's fault; `HistoryFull`;
     /// `World(NoMemory)`.
+    #[inline(always)]
     pub fn commit(
         &self,
         rt: &impl Wait,
@@ -94,6 +95,7 @@ impl<L: Ledger> SharedSegment<L> {
     ///
     /// Faults, the first that applies: `WrongTap` for a turn; `Disagree` where another number of such events was
     /// accepted than the seat knows of; `World` with the world's fault; `HistoryFull`; `World(NoMemory)`.
+    #[inline(always)]
     pub fn drive(
         &self,
         rt: &impl Wait,

@@ -1,0 +1,197 @@
+//! What is kept of an event, which is made before the event happens.
+
+ghost use Rattle.std.specs.Arc.{arc_value};
+ghost use Rattle.std.specs.Prelude.{◌≡◌, ◌<◌, ◌≤◌, IfOk, IfErr, OnOk, false, length, vec_len, vec_capacity};
+ghost use Rattle.pb_model.specs.Step.{step};
+ghost use Rattle.pb_model.specs.World.{Turn};
+ghost use Rattle.pb_taps.specs.Events.{event_of, reply_of};
+ghost use Rattle.pb_bus.specs.Glances.{Fits};
+ghost use Rattle.pb_bus.specs.Refusals.{TellsSpeech, fault_of};
+ghost use Rattle.pb_segment.specs.Blocks.{HasRoom, happened_in};
+ghost use Rattle.pb_segment.specs.Histories.{is_turn};
+ghost use Rattle.pb_segment.specs.Notes.{IsClockAfter, IsNoteOf, IsReplyTo, IsWantOfRoom, earlier_fault};
+
+use crate::blocks::Blocks;
+use crate::faults::CommitFault;
+use crate::histories::Happened;
+use crate::known::{Known, spoken};
+use crate::receipts::KeptReceipt;
+use pb_station::Decision;
+use pb_timers::Moment;
+use pb_world::{Event, Reply, World};
+use std::alloc::{AllocError, Global};
+use std::sync::Arc;
+
+/// What is kept of an event that the world does.
+#[derive(Drop)]
+pub(crate) struct Note {
+    /// In the history.
+    pub(crate) happened: Happened,
+    /// By its seat.
+    pub(crate) kept: KeptReceipt,
+}
+
+/// What is kept of the turn of a decision, if the world takes it, with room for it in a history that may have so many
+/// events, and among the receipts of a seat. Faults, the first that applies: `HistoryFull`; `World(NoMemory)`.
+pub(crate) fn note_turn(
+    alloc: Global,
+    world: &World,
+    decision: &Decision,
+    known: &mut Known,
+    history: &mut Blocks,
+    receipts: &mut Vec<KeptReceipt>,
+    limit: usize,
+) -> Result<Note, CommitFault>
+    requires fits { Fits world.now decision.now }
+    requires most { limit ≤ 1000000 }
+    requires inside { length (happened_in history.old) ≤ limit }
+    ensures note { IfOk result
+        (IsNoteOf world.entry.now (Turn decision.entry.now.tap) (length (happened_in history.old))) }
+    ensures same { happened_in history.new ≡ happened_in history.old }
+    ensures same_receipts { receipts.new.items ≡ receipts.old.items }
+    ensures room { OnOk result (HasRoom history.new) }
+    ensures room_receipts { OnOk result (vec_len receipts.new < vec_capacity receipts.new) }
+    ensures inside { OnOk result (length (happened_in history.old) < limit) }
+    ensures err { IfErr result (IsWantOfRoom (length (happened_in history.old)) limit) }
+{
+    make_room(alloc, history, receipts, limit)?;
+    let event = known.turn(alloc, decision.tap)?;
+    let reply = reply_to_turn(alloc, world, decision, known)?;
+    Ok(note_at(history.len(), event, reply)?)
+}
+
+/// The same of an event that is no turn.
+pub(crate) fn note_event(
+    alloc: Global,
+    world: &World,
+    event: &Event,
+    known: &mut Known,
+    history: &mut Blocks,
+    receipts: &mut Vec<KeptReceipt>,
+    limit: usize,
+) -> Result<Note, CommitFault>
+    requires driven { is_turn (event_of event.now) ≡ false }
+    requires most { limit ≤ 1000000 }
+    requires inside { length (happened_in history.old) ≤ limit }
+    ensures note { IfOk result
+        (IsNoteOf world.entry.now (event_of event.now) (length (happened_in history.old))) }
+    ensures same { happened_in history.new ≡ happened_in history.old }
+    ensures same_receipts { receipts.new.items ≡ receipts.old.items }
+    ensures room { OnOk result (HasRoom history.new) }
+    ensures room_receipts { OnOk result (vec_len receipts.new < vec_capacity receipts.new) }
+    ensures inside { OnOk result (length (happened_in history.old) < limit) }
+    ensures err { IfErr result (IsWantOfRoom (length (happened_in history.old)) limit) }
+{
+    make_room(alloc, history, receipts, limit)?;
+    let kept = known.event(alloc, event)?;
+    let reply = reply_to_event(alloc, world, event, known)?;
+    Ok(note_at(history.len(), kept, reply)?)
+}
+
+/// Why a turn isn't taken for which there is no room: the world's fault comes first.
+#[inline(never)]
+pub(crate) fn turn_refused(world: &World, decision: &Decision, fault: CommitFault) -> CommitFault
+    requires { Fits world.now decision.now }
+    ensures { result ≡ earlier_fault (fault_of (step world.entry.now (Turn decision.entry.now.tap))) fault }
+{
+    let event = Event::Turn(decision.tap);
+    refused(world, &event, decision.speak.is_some(), fault)
+}
+
+/// Why an event doesn't happen for which there is no room: the world's fault comes first.
+#[inline(never)]
+pub(crate) fn refused(world: &World, event: &Event, speaks: bool, fault: CommitFault) -> CommitFault
+    requires { TellsSpeech world.now (event_of event.now) speaks }
+    ensures { result ≡ earlier_fault (fault_of (step world.entry.now (event_of event.now))) fault }
+{
+    match world.refusal(event, speaks) {
+        Some(reason) => CommitFault::World(reason),
+        None => fault,
+    }
+}
+
+/// Makes room for one more event of a history that may have so many, and for its receipt.
+fn make_room(
+    alloc: Global,
+    history: &mut Blocks,
+    receipts: &mut Vec<KeptReceipt>,
+    limit: usize,
+) -> Result<(), CommitFault>
+    requires most { limit ≤ 1000000 }
+    requires inside { length (happened_in history.old) ≤ limit }
+    ensures same { happened_in history.new ≡ happened_in history.old }
+    ensures same_receipts { receipts.new.items ≡ receipts.old.items }
+    ensures room { OnOk result (HasRoom history.new) }
+    ensures room_receipts { OnOk result (vec_len receipts.new < vec_capacity receipts.new) }
+    ensures inside { OnOk result (length (happened_in history.old) < limit) }
+    ensures err { IfErr result (IsWantOfRoom (length (happened_in history.old)) limit) }
+{
+    if history.len() >= limit {
+        return Err(CommitFault::HistoryFull);
+    }
+    history.reserve(alloc)?;
+    receipts.reserve(1)?;
+    Ok(())
+}
+
+/// What the turn of a decision is replied, if the world takes it. Its fault: memory was refused.
+fn reply_to_turn(
+    alloc: Global,
+    world: &World,
+    decision: &Decision,
+    known: &mut Known,
+) -> Result<Arc<Reply, Global>, AllocError>
+    requires { Fits world.now decision.now }
+    ensures { IfOk result
+        (λ r. IsReplyTo world.entry.now (Turn decision.entry.now.tap) (reply_of (arc_value r))) }
+{
+    match &decision.speak {
+        Some(octets) => spoken(alloc, world.now(), octets),
+        None => known.silence(alloc, world.now()),
+    }
+}
+
+/// What an event is replied that is no turn, if it happens. Its fault: memory was refused.
+fn reply_to_event(
+    alloc: Global,
+    world: &World,
+    event: &Event,
+    known: &mut Known,
+) -> Result<Arc<Reply, Global>, AllocError>
+    requires { is_turn (event_of event.now) ≡ false }
+    ensures { IfOk result
+        (λ r. IsReplyTo world.entry.now (event_of event.now) (reply_of (arc_value r))) }
+{
+    known.silence(alloc, clock_after(world, event))
+}
+
+/// What is kept of an event with its reply, at a place of the history. Its fault: the reply is shared too often.
+fn note_at(
+    place: usize,
+    event: Arc<Event, Global>,
+    reply: Arc<Reply, Global>,
+) -> Result<Note, AllocError>
+    ensures happened { IfOk result
+        (λ n. n.happened ≡ record { event = event_of (arc_value event); reply = reply_of (arc_value reply) }) }
+    ensures kept { IfOk result (λ n. n.kept ≡ record { place = place; reply = reply_of (arc_value reply) }) }
+{
+    let kept = KeptReceipt {
+        place,
+        reply: Arc::try_clone(&reply)?,
+    };
+    Ok(Note {
+        happened: Happened { event, reply },
+        kept,
+    })
+}
+
+/// The clock after an event, if the world does it.
+fn clock_after(world: &World, event: &Event) -> Moment
+    ensures { IsClockAfter world.entry.now (event_of event.now) result }
+{
+    let now = world.now();
+    match event {
+        Event::Pass(bits) => now.add(*bits).unwrap_or(now),
+        _ => now,
+    }
+}
