@@ -59,6 +59,7 @@ pub struct Replaced {
 
 /// The station at the tap of a decision that fits takes the turn that was decided, and sends what it says. Both
 /// stations before it are handed back.
+#[inline(always)]
 pub fn take_decided(
     taps: &mut [Tap],
     decision: Decision,
@@ -69,15 +70,14 @@ pub fn take_decided(
     ensures turn { TakesTurn taps.old decision.tap now taps.new out.new }
     ensures replaced { (result.was ≡ decision.before) × (result.before ≡ decision.before) }
 {
+    send(out, &decision.speak);
     let Decision {
         tap,
         before,
         after,
-        speak,
         ..
     } = decision;
     let was = become_turned(&mut taps[tap], after);
-    send(out, speak);
     Replaced { was, before }
 }
 
@@ -109,11 +109,11 @@ fn become_turned(tap: &mut Tap, after: Station) -> Station
 }
 
 /// Sends what was said, if anything.
-fn send(out: &mut SendBuffer, said: Option<ArrayVec<u8, 255>>)
-    ensures { out.new ≡ octets_of said }
+fn send(out: &mut SendBuffer, said: &Option<ArrayVec<u8, 255>>)
+    ensures { out.new ≡ octets_of said.now }
 {
     match said {
-        Some(octets) => out.send(&octets),
+        Some(octets) => out.send(octets),
         None => out.clear(),
     }
 }
