@@ -102,7 +102,8 @@ pub(crate) fn spoken(
     now: Moment,
     octets: &ArrayVec<u8, 255>,
 ) -> Result<Arc<Reply, Global>, AllocError>
-    ensures { IfOk result (λ kept. reply_of (arc_value kept) ≡ record { now = now; spoke = Some octets.now.items }) }
+    ensures { IfOk result (λ kept. reply_of (arc_value kept)
+        ≡ record { now = now; spoke = Some octets.now.items }) }
 {
     let spoke = Some(copy_octets(octets));
     Ok(Arc::new(alloc, Reply { now, spoke })?)

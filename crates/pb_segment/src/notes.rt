@@ -172,7 +172,10 @@ fn note_at(
     reply: Arc<Reply, Global>,
 ) -> Result<Note, AllocError>
     ensures happened { IfOk result
-        (λ n. n.happened ≡ record { event = event_of (arc_value event); reply = reply_of (arc_value reply) }) }
+        (λ n. n.happened ≡ record {
+          event = event_of (arc_value event);
+          reply = reply_of (arc_value reply);
+        }) }
     ensures kept { IfOk result (λ n. n.kept ≡ record { place = place; reply = reply_of (arc_value reply) }) }
 {
     let kept = KeptReceipt {
