@@ -52,17 +52,6 @@ abbrev pub is_of : Owner → Event → Bool
 is_of (owner.Tap tap) e = is_turn_of tap e
 is_of owner.Conductor e = is_driven e
 
--- both are turns of one tap, or passes of one length
-abbrev pub AreAlike : Event → Event → Type 0
-AreAlike (Turn tap) e = e ≡ Turn tap
-AreAlike (Pass bits) e = e ≡ Pass bits
-AreAlike (Damage tap speaker place) e = ⊥
-AreAlike (Start tap) e = ⊥
-AreAlike (Stop tap) e = ⊥
-AreAlike (Queue tap request) e = ⊥
-AreAlike (Noise bits) e = ⊥
-AreAlike (Unheard tap speaker) e = ⊥
-
 -- ---- what a seat is told
 
 abbrev pub told_if : Bool → Receipt → List Receipt → List Receipt

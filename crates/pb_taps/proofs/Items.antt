@@ -1,9 +1,9 @@
 -- One item of a list.
 use Rattle.std.proofs.Common.{◌≡◌, ◌∙◌, ap, sym, ℕ, ◌<◌, ◌+◌, ◌++◌, List, [], ◌∷◌, length, map, Some, ◌⊎◌, inl, inr, subst, arith}
-use Rattle.std.specs.Prelude.{slice_get, slice_index_or, take, drop, Result, Ok, Err, OnErr, Option, None, MatchOption}
+use Rattle.std.specs.Prelude.{slice_get, slice_index_or, take, Result, Ok, Err, OnErr, Option, None, MatchOption}
 use Rattle.std.proofs.lemmas.Option.{slice_get-get_or, slice_get-map, get_or_from_slice_get, same_Some}
 use Rattle.std.proofs.Math.Nat.{eq-or-lt_of_le}
-use Rattle.std.proofs.lemmas.List.{length-map, take_more, at_drop_more, drop-map}
+use Rattle.std.proofs.lemmas.List.{length-map, take_more}
 use Rattle.std.specs.Option.{option_map}
 pub use Rattle.pb_station.proofs.Places.{left-at}
 

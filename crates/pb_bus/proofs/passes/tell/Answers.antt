@@ -1,6 +1,5 @@
 -- A pass tells a tap of a burst that begins, then of one that ends.
-use Rattle.std.proofs.Common.{◌≡◌, ℕ, ◌≤◌, ◌+◌, List, ◌++◌, true, ◌∙◌, refl, ap, sym, map, length, arith, length-append, append_assoc, Option}
-use Rattle.std.proofs.lemmas.List.{append-nil}
+use Rattle.std.proofs.Common.{◌≡◌, ℕ, ◌≤◌, ◌+◌, List, ◌++◌, true, ◌∙◌, ap, sym, map, length, arith, length-append, append_assoc, Option}
 use Rattle.pb_model.specs.World.{mark_limit}
 use Rattle.pb_turn.specs.Marks.{Mark}
 use Rattle.pb_model.specs.Trace.{Entry}
@@ -11,7 +10,7 @@ use Rattle.pb_medium.specs.Entries.{entry_of}
 use Rattle.pb_medium.specs.Senses.{begin_between, end_between}
 use Rattle.pb_bus.specs.Passes.{end_of, unread_after, with_begin, with_end, with_news}
 use Rattle.pb_taps.specs.Taps.{tap_of}
-use Rattle.pb_bus.proofs.Passing.{told-running, told-stopped, end-unread}
+use Rattle.pb_bus.proofs.Passing.{told-running, end-unread}
 use Rattle.pb_bus.proofs.passes.tell.Goals as goal
 
 -- what a tap that runs is told, once it is known when a burst begins and when one ends

@@ -1,9 +1,9 @@
-use Rattle.std.proofs.Common.{rules, refl, sym, ap, ◌∙◌, ◌≡◌, ◌+◌, ◌∷◌, [], ℕ, List, length, map, arith}
+use Rattle.std.proofs.Common.{rules, refl, sym, ap, ◌∙◌, ◌≡◌, ◌+◌, ◌∷◌, ℕ, List, length, map, arith}
 use Rattle.std.specs.Prelude.{drop, take}
 use Rattle.std.proofs.lemmas.List.{length-map, drop_all}
 use Rattle.pb_turn.specs.Marks.{Mark}
 use Rattle.pb_station.specs.MarkViews.{mark_of}
-use Rattle.pb_station.specs.Notes.{brings, mark_with, marks_in}
+use Rattle.pb_station.specs.Notes.{brings, mark_with}
 use Rattle.pb_station.proofs.Noted.{as-many, next-at, marks-at, of-at, none-left}
 use Rattle.pb_station.proofs.inboxes.are_noted.Goals as goal
 

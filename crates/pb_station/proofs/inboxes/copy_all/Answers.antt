@@ -1,9 +1,9 @@
-use Rattle.std.proofs.Common.{refl, sym, ap, ◌∙◌, ◌≡◌, ◌++◌, ◌∷◌, [], ◌+◌, ℕ, List, length, map, arith, append_assoc}
+use Rattle.std.proofs.Common.{refl, sym, ap, ◌∙◌, ◌≡◌, ◌++◌, ◌∷◌, [], ◌+◌, ℕ, List, map, arith, append_assoc}
 use Rattle.std.specs.Prelude.{drop, take}
 use Rattle.std.proofs.lemmas.List.{map-append, append-nil}
 use Rattle.pb_turn.specs.Marks.{Mark}
 use Rattle.pb_station.specs.MarkViews.{mark_of}
-use Rattle.pb_station.specs.Notes.{brings, mark_with, marks_in}
+use Rattle.pb_station.specs.Notes.{brings, marks_in}
 use Rattle.pb_station.proofs.Noted.{next-at, marks-at, of-at, none-left}
 use Rattle.pb_station.proofs.inboxes.copy_all.Goals as goal
 

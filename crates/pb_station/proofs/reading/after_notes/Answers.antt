@@ -1,13 +1,9 @@
-use Rattle.std.proofs.Common.{refl, sym, ap, subst, ◌∙◌, ◌≡◌, ◌≤◌, ◌+◌, ℕ, List, ◌∷◌, length, arith}
+use Rattle.std.proofs.Common.{refl, sym, ap, ◌∙◌, ◌≡◌, ℕ, arith}
 use Rattle.std.specs.Prelude.{drop, take}
-use Rattle.pb_telegram.specs.declared.chars.RxChar.{RxChar}
-use Rattle.pb_turn.specs.Marks.{Mark, moment_of}
-use Rattle.pb_turn.specs.Stations.{Station}
 use Rattle.pb_turn.specs.Turns.{after_marks}
 use Rattle.pb_tokenfsm.specs.Phases.{phase_of}
 use Rattle.pb_core.specs.Cores.{station_with}
-use Rattle.pb_station.specs.Notes.{brings, mark_with, marks_in, AreOf}
-use Rattle.pb_station.specs.declared.notes.Note.{Note}
+use Rattle.pb_station.specs.Notes.{brings, mark_with, marks_in}
 use Rattle.pb_station.proofs.Noted.{next-at, marks-at, of-at, over-at, read-note, none-left, same-moment}
 use Rattle.pb_station.proofs.reading.after_notes.Goals as goal
 

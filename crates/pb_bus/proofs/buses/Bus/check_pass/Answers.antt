@@ -1,10 +1,8 @@
-use Rattle.std.proofs.Common.{map, subst, sym, List}
+use Rattle.std.proofs.Common.{map, subst, List}
 use Rattle.pb_model.specs.Step.{step_pass}
 use Rattle.pb_model.specs.Trace as trace
 use Rattle.pb_medium.specs.Airs.{air}
 use Rattle.pb_medium.specs.Entries.{entry_of}
-use Rattle.pb_medium.specs.Traces.{over_of}
-use Rattle.pb_bus.specs.Buses.{world_of}
 use Rattle.pb_bus.specs.Clocks.{CanPass, IsFault}
 use Rattle.pb_bus.proofs.Judging.{pass-can, pass-refused-by}
 use Rattle.pb_bus.proofs.Stepping.{in-err}

@@ -1,10 +1,8 @@
-use Rattle.std.proofs.Common.{◌≡◌, ◌∙◌, ap, sym, subst, ℕ, ◌+◌, ◌≤◌, ◌&&◌, List, Bool, map, arith, Option, Some, None, if◌then◌else◌}
+use Rattle.std.proofs.Common.{◌∙◌, ap, sym, subst, ◌+◌, ◌≤◌, ◌&&◌, List, map, arith, Some, None, if◌then◌else◌}
 use Rattle.std.specs.Prelude.{IfSome}
 use Rattle.std.specs.List.{list_any}
-use Rattle.std.specs.Option.{option_map}
 use Rattle.pb_timers.specs.Timers.{last_moment}
 use Rattle.pb_turn.specs.Stations.{earlier}
-use Rattle.pb_model.specs.Trace.{Entry}
 use Rattle.pb_model.specs.World.{next_end_of, clock_limit}
 use Rattle.pb_runs.specs.Bus.{is_in_air, next_known, started_now}
 use Rattle.pb_taps.specs.Taps.{tap_of}

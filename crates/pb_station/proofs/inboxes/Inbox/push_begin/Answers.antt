@@ -1,4 +1,4 @@
-use Rattle.std.proofs.Common.{rules, refl, ◌≡◌, ◌∙◌, ◌<◌, ◌++◌, ◌∷◌, [], ap, sym, List, length, arith, length-append}
+use Rattle.std.proofs.Common.{rules, refl, ◌∙◌, ◌<◌, ◌++◌, ◌∷◌, [], ap, sym, List, length, arith, length-append}
 use Rattle.std.proofs.lemmas.List.{append-nil}
 use Rattle.pb_turn.specs.Marks.{Mark, Begin}
 use Rattle.pb_station.specs.declared.notes.Note.TheVariants as note

@@ -1,4 +1,4 @@
-use Rattle.std.proofs.Common.{rules, refl, ◌≡◌, ◌∙◌, ◌<◌, ◌++◌, ◌∷◌, [], ap, sym, List, length, arith, length-append}
+use Rattle.std.proofs.Common.{rules, refl, ◌∙◌, ◌<◌, ◌++◌, ◌∷◌, [], ap, sym, List, length, arith, length-append}
 use Rattle.pb_turn.specs.Marks.{Mark, End}
 use Rattle.pb_station.specs.declared.notes.Note.TheVariants as note
 use Rattle.pb_station.proofs.Noted.{as-many, few-chars, of-next, marks-next}
