@@ -70,7 +70,9 @@ impl Kept {
         self.address = other.address;
         self.busy = other.busy;
         self.past = other.past;
-        copy_reply(&mut self.reply, &other.reply);
+        if self.reply.is_some() || other.reply.is_some() {
+            copy_reply(&mut self.reply, &other.reply);
+        }
         self.las = other.las;
         self.gap = other.gap;
         self.rotation = other.rotation;

@@ -31,6 +31,14 @@ pub fn copy_outcome(last: &Option<(u8, Outcome)>) -> Option<(u8, Outcome)>
     }
 }
 
+/// Becomes what another is. It is a call of its own since often there is none, and its room is then not moved.
+#[inline(never)]
+fn become_outcome(last: &mut Option<(u8, Outcome)>, other: &Option<(u8, Outcome)>)
+    ensures { last.new ≡ other.now }
+{
+    *last = copy_outcome(other);
+}
+
 /// The open request is given up, as nobody answered it.
 #[tactic(auto, using(crate::proofs::Closing::last_of))]
 pub fn give_up(cycles: &mut Cycles)
@@ -82,7 +90,9 @@ impl Cycles {
     {
         self.initiator.copy_from(&other.initiator);
         self.responder.copy_from(&other.responder);
-        self.last_outcome = copy_outcome(&other.last_outcome);
+        if self.last_outcome.is_some() || other.last_outcome.is_some() {
+            become_outcome(&mut self.last_outcome, &other.last_outcome);
+        }
     }
 
     /// Equal message cycles.

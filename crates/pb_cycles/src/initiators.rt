@@ -158,7 +158,9 @@ impl Initiator {
     {
         self.retries = other.retries;
         self.counts = other.counts.copy();
-        copy_pending(&mut self.pending, &other.pending);
+        if self.pending.is_some() || other.pending.is_some() {
+            copy_pending(&mut self.pending, &other.pending);
+        }
     }
 
     /// An equal initiator, with which one can see what a turn would do.

@@ -145,7 +145,9 @@ impl Responder {
         self.reply.clear();
         self.reply.try_extend_from_slice(&other.reply).unwrap();
         self.executed = other.executed;
-        copy_kept(&mut self.kept, &other.kept);
+        if self.kept.is_some() || other.kept.is_some() {
+            copy_kept(&mut self.kept, &other.kept);
+        }
     }
 
     /// An equal responder, with which one can see what a turn would do.

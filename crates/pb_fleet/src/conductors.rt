@@ -37,8 +37,9 @@ impl<L: Ledger> Conductor<L> {
         scenario: &Scenario,
     ) -> Result<(), PlayFault> {
         let mut walk = scenario.walk(worker.alloc)?;
+        let mut turns = Vec::new(worker.alloc);
         for _ in 0..walk.until() + 1 {
-            match self.instant(worker, &walk)? {
+            match self.instant(worker, &walk, &mut turns)? {
                 Some(at) => walk.go_to(at),
                 None => break,
             }
@@ -46,11 +47,13 @@ impl<L: Ledger> Conductor<L> {
         Ok(())
     }
 
-    /// Plays the instant at which a walk through the scenario is, and answers the next one, if there is one.
+    /// Plays the instant at which a walk through the scenario is, and answers the next one, if there is one. The list of
+    /// its turns is made in a room that is used anew.
     fn instant<R: Wait, G: Gate>(
         &mut self,
         worker: &mut Worker<'_, '_, L, R, G>,
         walk: &Walk<'_>,
+        turns: &mut Vec<usize>,
     ) -> Result<Option<u64>, PlayFault>
         ensures { IfOk result (λ o. IfSome o (λ at. (walk.now.clock < at) × (at ≤ walk.now.until))) }
     {
@@ -58,8 +61,8 @@ impl<L: Ledger> Conductor<L> {
         let now = walk.now();
         self.steps(rt, alloc, segment, now, walk.today(), false)?;
         self.look(rt, alloc, segment, now)?;
-        let turns = walk.turns(alloc, self.shown(walk)?.due.moments())?;
-        if !turns.is_empty() && !worker.serve_all(now, &turns) {
+        walk.note_turns(self.shown(walk)?.due.moments(), turns)?;
+        if !turns.is_empty() && !worker.serve_all(now, turns) {
             return Ok(None);
         }
         self.steps(rt, alloc, segment, now, walk.today(), true)?;

@@ -33,8 +33,8 @@ fn walks_from_step_to_step(rt: HostRuntime) {
     walk.go_to(5);
     assert_eq!(rt; walk.today().len(), 2);
     assert!(rt; walk.wants(0, at(5)) && !walk.wants(1, at(5)) && !walk.wants(0, at(6)));
-    let turns = walk
-        .turns(rt.alloc(), &[at(5), at(5)])
+    let mut turns = Vec::new(rt.alloc());
+    walk.note_turns(&[at(5), at(5)], &mut turns)
         .expect(&rt, "memory");
     assert!(rt; turns.as_slice() == [0].as_slice());
     assert_eq!(rt; walk.next(&[None, at(5)], at(18)), Some(15));
@@ -71,7 +71,8 @@ fn refused_memory_in_a_walk(rt: HostRuntime) {
 
 fn turns_at_0(rt: &(impl AllocGlobal + Abort)) -> Result<(), AllocError> {
     let walk = Walk::new(rt.alloc(), &[], 2, 30)?;
-    let turns = walk.turns(rt.alloc(), &[at(0), None])?;
+    let mut turns = Vec::new(rt.alloc());
+    walk.note_turns(&[at(0), None], &mut turns)?;
     assert!(rt; turns.as_slice() == [0].as_slice());
     Ok(())
 }

@@ -32,7 +32,7 @@ impl<'a> Model for Walk<'a> {
 }
 
 impl<'a> Walk<'a> {
-    ghost use Rattle.std.specs.Prelude.{◌≡◌, ◌≤◌, ◌<◌, IfOk, IfSome, length};
+    ghost use Rattle.std.specs.Prelude.{◌≡◌, ◌≤◌, ◌<◌, IfOk, OnOk, IfSome, length};
     ghost use Rattle.pb_timers.specs.Timers.{last_moment};
     ghost use Rattle.pb_turn.specs.Stations.{earlier};
     ghost use Rattle.pb_runs.specs.Runs.{comes, wants, next, onward, passing};
@@ -105,19 +105,23 @@ impl<'a> Walk<'a> {
         takes_turn(self.held[tap], self.clock, due)
     }
 
-    /// The taps that take their turns now, in their order, where each is due at a moment or not at all. Its
-    /// fault: memory was refused.
-    pub fn turns(&self, alloc: Global, dues: &[Option<Moment>]) -> Result<Vec<usize>, AllocError>
+    /// Lists the taps that take their turns now, in their order, where each is due at a moment or not at all. The list's
+    /// room is used anew. Its fault: memory was refused.
+    pub fn note_turns(
+        &self,
+        dues: &[Option<Moment>],
+        taps: &mut Vec<usize>,
+    ) -> Result<(), AllocError>
         requires { length dues.now ≡ self.now.taps }
-        ensures { IfOk result (λ taps. taps.items ≡ turns_in self.now dues.now) }
+        ensures { OnOk result (taps.new.items ≡ turns_in self.now dues.now) }
     {
-        let mut taps = Vec::new(alloc);
+        taps.clear();
         for (tap, due) in dues.iter().enumerate() {
             if self.wants(tap, *due) {
                 taps.push(tap)?;
             }
         }
-        Ok(taps)
+        Ok(())
     }
 
     /// The next instant, in bit times, if there is one: the first moment after now and up to the end at

@@ -189,7 +189,7 @@ fn copy_all(alloc: Global, notes: &[Note], chars: &[RxChar]) -> Result<Vec<Mark>
     let mut left = chars;
     for note in notes {
         let (brought, behind) = left.split_at(note.brings());
-        copies.push(note.mark(brought))?;
+        copies.push_reserved(note.mark(brought));
         left = behind;
     }
     Ok(copies)

@@ -60,6 +60,7 @@ impl Note {
     }
 
     /// The mark with its characters.
+    #[inline(always)]
     pub(crate) fn mark(&self, chars: &[RxChar]) -> Mark
         requires { length chars.now ≤ 255 }
         ensures { mark_of result ≡ mark_with self.now chars.now }

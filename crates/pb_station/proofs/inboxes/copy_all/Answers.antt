@@ -1,5 +1,6 @@
-use Rattle.std.proofs.Common.{refl, sym, ap, ◌∙◌, ◌≡◌, ◌++◌, ◌∷◌, [], ◌+◌, ℕ, List, map, arith, append_assoc}
+use Rattle.std.proofs.Common.{rules, refl, sym, ap, ◌∙◌, ◌≡◌, ◌<◌, ◌++◌, ◌∷◌, [], ◌+◌, ℕ, List, length, map, arith, append_assoc, length-append}
 use Rattle.std.specs.Prelude.{drop, take}
+use Rattle.std.specs.Vec.{vec_capacity}
 use Rattle.std.proofs.lemmas.List.{map-append, append-nil}
 use Rattle.pb_turn.specs.Marks.{Mark}
 use Rattle.pb_station.specs.MarkViews.{mark_of}
@@ -11,6 +12,8 @@ pub loop-note-init : goal.loop-note-init
 loop-note-init c = record {
   same = ap (λ (ms : List _). map mark_of ms ++ marks_in c.args.notes.now c.args.chars.now) c.in_ok-copies.ensures.items;
   of = c.requires;
+  copied = ap length c.in_ok-copies.ensures.items;
+  room = omega (arith, c.in_ok-copies.ensures.capacity);
 }
 
 pub split_at-requires : goal.split_at-requires
@@ -27,6 +30,12 @@ mark-requires c =
     let here = next-at c.args.notes.now c.loop-note.note-index n c.loop-note-test.true c.note-item.is in
     omega (arith, (of-at _ _ n left (drop (brings n) left) here refl c.loop-note.invariant.of).1, c.brings.ensures, c.split_at.ensures.front_len)
 
+pub push_reserved-requires : goal.push_reserved-requires
+push_reserved-requires c =
+    let few : length c.loop-note.copies.items < vec_capacity c.loop-note.copies =
+    omega (arith, c.loop-note.invariant.copied, c.loop-note-test.true, c.loop-note.invariant.room) in
+    search rules
+
 pub loop-note-preserved : goal.loop-note-preserved
 loop-note-preserved c =
     let n = c.note-item.result in
@@ -39,13 +48,20 @@ loop-note-preserved c =
     let marks = map mark_of c.loop-note.copies.items in
     let rest = marks_in (drop (c.loop-note.note-index + 1) c.args.notes.now) behind in
     record {
-      same = ap (λ (ms : List _). map mark_of ms ++ rest) c.in_ok-push.ensures.items
+      same = ap (λ (ms : List _). map mark_of ms ++ rest) c.push_reserved.ensures.items
           ∙ ap (λ (ms : List Mark). ms ++ rest) (map-append mark_of c.loop-note.copies.items (c.mark.result ∷ []))
           ∙ append_assoc marks (mark_of c.mark.result ∷ []) rest
           ∙ ap (λ (m : Mark). marks ++ m ∷ rest) c.mark.ensures
           ∙ ap (λ (ms : List Mark). marks ++ ms) (sym (marks-at _ _ n left brought behind here front back))
           ∙ c.loop-note.invariant.same;
       of = (of-at _ _ n left behind here back c.loop-note.invariant.of).2;
+      copied = omega (
+        arith,
+        c.loop-note.invariant.copied,
+        ap length c.push_reserved.ensures.items,
+        length-append c.loop-note.copies.items (c.mark.result ∷ []),
+      );
+      room = omega (arith, c.push_reserved.ensures.capacity, c.loop-note.invariant.room);
     }
 
 pub returns : goal.returns

@@ -2,7 +2,7 @@
 use Rattle.std.proofs.Common.{◌≡◌, ◌++◌, drop}
 use Rattle.pb_runs.specs.Runs.{places, wanted}
 use Rattle.pb_plan.specs.Walks.{plan_in}
-use Rattle.pb_plan.proofs.walks.Walk.turns.Given as goal
+use Rattle.pb_plan.proofs.walks.Walk.note_turns.Given as goal
 
 abbrev pub invariant-loop-tap : goal.invariant-loop-tap
 invariant-loop-tap l =
