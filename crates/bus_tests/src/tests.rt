@@ -7,7 +7,14 @@ use pb_timers::BusParams;
 use pb_world::{
     AuditFault, Entry, Event, Heard, Kind, NewFault, Reply, TapSpec, World, WorldFault, audit, run,
 };
+use std::fmt::Debug;
 use std::process::Abort;
+
+/// Ends the test unless two values are equal. It is a call since the proof of a test that compares in place takes three times as
+/// long; where what follows needs to know it, `assert_eq!` says it in place.
+fn equal<T: PartialEq + Debug>(rt: &impl Abort, left: &T, right: &T) {
+    assert_eq!(rt; *left, *right);
+}
 
 /// A slot of 100, idle times 37 and 60, reply delay 11, no lag, rotation 10,000, GAP factor 10, highest
 /// address 5, one retry.
@@ -74,21 +81,21 @@ fn events_change_a_world(rt: HostRuntime) {
     let alloc = rt.alloc();
     let mut world = two_masters(&rt);
     let second = world.station(1).expect(&rt, "a station");
-    assert_eq!(rt; (second.tap(), second.address()), (1, 2));
+    equal(&rt, &(second.tap(), second.address()), &(1, 2));
     assert!(rt; world.station(2).is_none());
-    assert_eq!(rt; (due(&world, 1), due(&world, 2)), (None, None));
-    assert_eq!(rt; phase_name(&world, 0), Some("Offline"));
+    equal(&rt, &(due(&world, 1), due(&world, 2)), &(None, None));
+    equal(&rt, &phase_name(&world, 0), &Some("Offline"));
     world.apply(alloc, Event::Start(0)).expect(&rt, "a start");
     let passed = world.apply(alloc, Event::Pass(800)).expect(&rt, "a pass");
-    assert_eq!(rt; passed.now.get(), 800);
+    equal(&rt, &passed.now.get(), &800);
     assert!(rt; passed.spoke.is_none());
     assert!(rt; world.trace().is_empty());
     let turn = world.apply(alloc, Event::Turn(0)).expect(&rt, "a turn");
-    assert_eq!(rt; turn.now.get(), 800);
+    equal(&rt, &turn.now.get(), &800);
     let spoke = turn.spoke.expect(&rt, "a token");
-    assert_eq!(rt; spoke.as_slice(), [0xdc, 1, 1].as_slice());
-    assert_eq!(rt; world.trace().len(), 1);
-    assert_eq!(rt; phase_name(&world, 0), Some("Claim"));
+    equal(&rt, &spoke.as_slice(), &[0xdc, 1, 1].as_slice());
+    equal(&rt, &world.trace().len(), &1);
+    equal(&rt, &phase_name(&world, 0), &Some("Claim"));
 }
 
 /// What begins can be known one bit time later; then the next change is its end. A tap that starts amid
@@ -97,24 +104,24 @@ fn events_change_a_world(rt: HostRuntime) {
 fn a_world_says_when_it_changes(rt: HostRuntime) {
     let alloc = rt.alloc();
     let mut world = two_masters(&rt);
-    assert_eq!(rt; next_change(&world), None);
+    equal(&rt, &next_change(&world), &None);
     let events = [Event::Start(0), Event::Pass(800)];
     run(alloc, &mut world, &events).expect(&rt, "800 silent bit times");
-    assert_eq!(rt; next_change(&world), None);
+    equal(&rt, &next_change(&world), &None);
     world.apply(alloc, Event::Turn(0)).expect(&rt, "a claim");
-    assert_eq!(rt; next_change(&world), Some(801));
+    equal(&rt, &next_change(&world), &Some(801));
     world.apply(alloc, Event::Pass(1)).expect(&rt, "a bit time");
-    assert_eq!(rt; next_change(&world), Some(833));
+    equal(&rt, &next_change(&world), &Some(833));
     world
         .apply(alloc, Event::Start(1))
         .expect(&rt, "a start amid the claim");
-    assert_eq!(rt; next_change(&world), Some(802));
+    equal(&rt, &next_change(&world), &Some(802));
     world.apply(alloc, Event::Pass(32)).expect(&rt, "its end");
-    assert_eq!(rt; next_change(&world), None);
+    equal(&rt, &next_change(&world), &None);
     world.apply(alloc, Event::Noise(20)).expect(&rt, "noise");
-    assert_eq!(rt; next_change(&world), Some(834));
+    equal(&rt, &next_change(&world), &Some(834));
     world.apply(alloc, Event::Pass(1)).expect(&rt, "a bit time");
-    assert_eq!(rt; next_change(&world), Some(853));
+    equal(&rt, &next_change(&world), &Some(853));
 }
 
 /// A master claims the token, asks a passive station for its data, and gets it.
@@ -132,7 +139,11 @@ fn a_master_asks_for_data(rt: HostRuntime) {
         world.apply(alloc, event).expect(&rt, "an event");
     }
     let first = world.station(0).expect(&rt, "a station");
-    assert_eq!(rt; (first.queue().len_high(), first.queue().len_low()), (1, 0));
+    equal(
+        &rt,
+        &(first.queue().len_high(), first.queue().len_low()),
+        &(1, 0),
+    );
     assert!(rt; first.last_outcome().is_none() && !first.las().complete());
     for (bits, tap) in [
         (800, 0),
@@ -147,15 +158,15 @@ fn a_master_asks_for_data(rt: HostRuntime) {
         world.apply(alloc, Event::Pass(bits)).expect(&rt, "a pass");
         world.apply(alloc, Event::Turn(tap)).expect(&rt, "a turn");
     }
-    assert_eq!(rt; world.now().get(), 1127);
+    equal(&rt, &world.now().get(), &1127);
     let first = world.station(0).expect(&rt, "a station");
-    assert_eq!(rt; first.queue().len_high(), 0);
+    equal(&rt, &first.queue().len_high(), &0);
     assert!(rt; first.las().contains(1) && !first.las().contains(2));
     let mut data = ArrayVec::new();
     data.push(0xaa);
     assert!(rt; first.last_outcome() == Some((7, Outcome::Data(data))));
     let second = world.station(1).expect(&rt, "a station");
-    assert_eq!(rt; second.executed(), 1);
+    equal(&rt, &second.executed(), &1);
 }
 
 /// A turn that was decided outside the world is the one that the world takes, and no decision fits after it.
@@ -165,27 +176,28 @@ fn a_turn_is_decided_outside_the_world(rt: HostRuntime) {
     let mut world = silent_for_800(&rt);
     assert_eq!(rt; world.taps(), 2);
     let glance = world.glance_of(alloc, 0).expect(&rt, "a glance");
-    assert_eq!(rt;
-        (glance.tap, glance.now.get(), glance.marks.len()),
-        (0, 800, 0)
+    equal(
+        &rt,
+        &(glance.tap, glance.now.get(), glance.marks.len()),
+        &(0, 800, 0),
     );
-    assert_eq!(rt; glance.station.phase().name(), "Listening");
+    equal(&rt, &glance.station.phase().name(), &"Listening");
     let decision = decide(alloc, glance).expect(&rt, "a decision");
     let said = decision.speak.as_ref().expect(&rt, "a telegram");
-    assert_eq!(rt; said.as_slice(), [0xdc, 1, 1].as_slice());
+    equal(&rt, &said.as_slice(), &[0xdc, 1, 1].as_slice());
     let glance = world.glance_of(alloc, 0).expect(&rt, "a glance");
     let again = decide(alloc, glance).expect(&rt, "a decision");
     let phase = decision.after.phase().name();
     assert!(rt; world.fits(&again));
     assert!(rt; world.fits(&decision));
     let taken = world.take(alloc, decision).expect(&rt, "a turn");
-    assert_eq!(rt; phase_name(&world, 0), Some(phase));
+    equal(&rt, &phase_name(&world, 0), &Some(phase));
     assert!(rt; !world.fits(&again));
     let mut other = silent_for_800(&rt);
     let turn = other.apply(alloc, Event::Turn(0)).expect(&rt, "a turn");
-    assert_eq!(rt; turn.copy(), taken);
-    assert_eq!(rt; phase_name(&other, 0), Some(phase));
-    assert_eq!(rt; world.into_trace().len(), 1);
+    equal(&rt, &turn.copy(), &taken);
+    equal(&rt, &phase_name(&other, 0), &Some(phase));
+    equal(&rt, &world.into_trace().len(), &1);
 }
 
 /// Turns that are decided on glances in the room of replaced stations are those that the world takes by itself.
@@ -199,10 +211,10 @@ fn glances_take_the_room_of_replaced_stations(rt: HostRuntime) {
     for tap in [0, 1, 0, 1] {
         let taken = take_decided(&rt, &mut world, tap);
         let turn = other.apply(alloc, Event::Turn(tap)).expect(&rt, "a turn");
-        assert_eq!(rt; taken, Some(turn));
-        assert_eq!(rt; phase_name(&world, tap), phase_name(&other, tap));
+        equal(&rt, &taken, &Some(turn));
+        equal(&rt, &phase_name(&world, tap), &phase_name(&other, tap));
     }
-    assert_eq!(rt; world.into_trace().len(), 1);
+    equal(&rt, &world.into_trace().len(), &1);
 }
 
 /// The turn of a tap, decided on a glance in the room of replaced stations; none where there is no such tap, or the
@@ -231,36 +243,42 @@ fn refusals_are_known_before(rt: HostRuntime) {
     };
     let no_tap = Some(WorldFault::NoSuchTap);
     let stopped = Some(WorldFault::NotRunning);
-    assert_eq!(rt; world.refusal(&Event::Start(2), false), no_tap);
-    assert_eq!(rt; world.refusal(&Event::Stop(0), false), stopped);
-    assert_eq!(rt; world.refusal(&asked, false), stopped);
-    assert_eq!(rt;
-        world.refusal(&Event::Noise(0), false),
-        Some(WorldFault::ZeroTime)
+    equal(&rt, &world.refusal(&Event::Start(2), false), &no_tap);
+    equal(&rt, &world.refusal(&Event::Stop(0), false), &stopped);
+    equal(&rt, &world.refusal(&asked, false), &stopped);
+    equal(
+        &rt,
+        &world.refusal(&Event::Noise(0), false),
+        &Some(WorldFault::ZeroTime),
     );
     let age = Event::Pass(1_000_000_000_001);
-    assert_eq!(rt; world.refusal(&age, false), Some(WorldFault::ClockFull));
-    assert_eq!(rt; world.refusal(&Event::Start(0), false), None);
-    world = silent_for_800(&rt);
-    assert_eq!(rt;
-        world.refusal(&Event::Start(0), false),
-        Some(WorldFault::Running)
+    equal(
+        &rt,
+        &world.refusal(&age, false),
+        &Some(WorldFault::ClockFull),
     );
-    assert_eq!(rt; world.refusal(&asked, false), None);
+    equal(&rt, &world.refusal(&Event::Start(0), false), &None);
+    world = silent_for_800(&rt);
+    equal(
+        &rt,
+        &world.refusal(&Event::Start(0), false),
+        &Some(WorldFault::Running),
+    );
+    equal(&rt, &world.refusal(&asked, false), &None);
     let lost = Event::Unheard { tap: 1, speaker: 0 };
     let nothing = Some(WorldFault::NothingInAir);
-    assert_eq!(rt; world.refusal(&lost, false), nothing);
+    equal(&rt, &world.refusal(&lost, false), &nothing);
     world.apply(alloc, Event::Turn(0)).expect(&rt, "a claim");
-    assert_eq!(rt; world.refusal(&lost, false), None);
+    equal(&rt, &world.refusal(&lost, false), &None);
     let beyond = Some(WorldFault::TooFar(833));
-    assert_eq!(rt; world.refusal(&Event::Pass(34), false), beyond);
+    equal(&rt, &world.refusal(&Event::Pass(34), false), &beyond);
     let hits_itself = Event::Damage {
         tap: 0,
         speaker: 0,
         place: None,
     };
-    assert_eq!(rt; world.refusal(&hits_itself, false), nothing);
-    assert_eq!(rt; (world.now().get(), world.trace().len()), (800, 1));
+    equal(&rt, &world.refusal(&hits_itself, false), &nothing);
+    equal(&rt, &(world.now().get(), world.trace().len()), &(800, 1));
 }
 
 /// Of two starts of a tap the second is refused, and the tap runs.
@@ -269,19 +287,20 @@ fn a_run_stops_at_the_first_refused_event(rt: HostRuntime) {
     let alloc = rt.alloc();
     let mut world = two_masters(&rt);
     let twice = run(alloc, &mut world, &[Event::Start(0), Event::Start(0)]);
-    assert_eq!(rt; twice, Err((1, WorldFault::Running)));
-    assert_eq!(rt; phase_name(&world, 0), Some("Listening"));
-    assert_eq!(rt; due(&world, 0), Some(800));
+    equal(&rt, &twice, &Err((1, WorldFault::Running)));
+    equal(&rt, &phase_name(&world, 0), &Some("Listening"));
+    equal(&rt, &due(&world, 0), &Some(800));
     let claim = run(alloc, &mut world, &[Event::Pass(800), Event::Turn(0)]);
-    assert_eq!(rt; claim, Ok(()));
+    equal(&rt, &claim, &Ok(()));
     let events = [Event::Pass(34), Event::Start(1), Event::Pass(33)];
-    assert_eq!(rt;
-        run(alloc, &mut world, &events),
-        Err((0, WorldFault::TooFar(833)))
+    equal(
+        &rt,
+        &run(alloc, &mut world, &events),
+        &Err((0, WorldFault::TooFar(833))),
     );
-    assert_eq!(rt; world.now().get(), 800);
-    assert_eq!(rt; phase_name(&world, 1), Some("Offline"));
-    assert_eq!(rt; run(alloc, &mut world, &[]), Ok(()));
+    equal(&rt, &world.now().get(), &800);
+    equal(&rt, &phase_name(&world, 1), &Some("Offline"));
+    equal(&rt, &run(alloc, &mut world, &[]), &Ok(()));
 }
 
 /// Two masters wait for a time-out of 800 and of 1000. Where the first starts at 200, both claim the token at 1000.
@@ -302,12 +321,12 @@ fn a_run_is_judged(rt: HostRuntime) {
     assert!(rt; kept.premise.is_none() && kept.illegal.is_none());
     let broken = audit(alloc, params, &specs, &events).expect(&rt, "an audit");
     let (number, clock) = broken.premise.expect(&rt, "a broken premise");
-    assert_eq!(rt; (number, clock.get()), (4, 1000));
-    assert_eq!(rt; broken.illegal, Some(1));
+    equal(&rt, &(number, clock.get()), &(4, 1000));
+    equal(&rt, &broken.illegal, &Some(1));
     let no_taps = audit(alloc, params, &[], &[]).err();
-    assert_eq!(rt; no_taps, Some(AuditFault::New(NewFault::NoTaps)));
+    equal(&rt, &no_taps, &Some(AuditFault::New(NewFault::NoTaps)));
     let twice = audit(alloc, params, &specs, &[Event::Start(0), Event::Start(0)]).err();
-    assert_eq!(rt; twice, Some(AuditFault::At(1, WorldFault::Running)));
+    equal(&rt, &twice, &Some(AuditFault::At(1, WorldFault::Running)));
 }
 
 /// A trace of 100,000 entries takes no more: no noise, and no turn that would speak.
@@ -319,23 +338,26 @@ fn a_full_trace_takes_no_more(rt: HostRuntime) {
         world.apply(alloc, Event::Noise(1)).expect(&rt, "noise");
         world.apply(alloc, Event::Pass(1)).expect(&rt, "a pass");
     }
-    assert_eq!(rt; world.trace().len(), 100_000);
-    assert_eq!(rt;
-        world.refusal(&Event::Noise(1), false),
-        Some(WorldFault::TraceFull)
+    equal(&rt, &world.trace().len(), &100_000);
+    equal(
+        &rt,
+        &world.refusal(&Event::Noise(1), false),
+        &Some(WorldFault::TraceFull),
     );
-    assert_eq!(rt;
-        world.apply(alloc, Event::Noise(1)).err(),
-        Some(WorldFault::TraceFull)
+    equal(
+        &rt,
+        &world.apply(alloc, Event::Noise(1)).err(),
+        &Some(WorldFault::TraceFull),
     );
     world.apply(alloc, Event::Start(0)).expect(&rt, "a start");
     world.apply(alloc, Event::Pass(800)).expect(&rt, "a pass");
-    assert_eq!(rt;
-        world.apply(alloc, Event::Turn(0)).err(),
-        Some(WorldFault::TraceFull)
+    equal(
+        &rt,
+        &world.apply(alloc, Event::Turn(0)).err(),
+        &Some(WorldFault::TraceFull),
     );
-    assert_eq!(rt; due(&world, 0), Some(100_800));
-    assert_eq!(rt; world.trace().len(), 100_000);
+    equal(&rt, &due(&world, 0), &Some(100_800));
+    equal(&rt, &world.trace().len(), &100_000);
 }
 
 /// The clock goes as far as it can, and no further.
@@ -345,12 +367,13 @@ fn a_full_clock_goes_no_further(rt: HostRuntime) {
     let mut world = two_masters(&rt);
     let longest = Event::Pass(1_000_000_000_000);
     let passed = world.apply(alloc, longest).expect(&rt, "a pass");
-    assert_eq!(rt; passed.now.get(), 1_000_000_000_000);
-    assert_eq!(rt;
-        world.apply(alloc, Event::Pass(1)).err(),
-        Some(WorldFault::ClockFull)
+    equal(&rt, &passed.now.get(), &1_000_000_000_000);
+    equal(
+        &rt,
+        &world.apply(alloc, Event::Pass(1)).err(),
+        &Some(WorldFault::ClockFull),
     );
-    assert_eq!(rt; world.now().get(), 1_000_000_000_000);
+    equal(&rt, &world.now().get(), &1_000_000_000_000);
 }
 
 /// Of each priority 16 requests wait at a tap, and no more.
@@ -370,13 +393,14 @@ fn full_lists_take_no_more(rt: HostRuntime) {
         for _ in 0..16 {
             world.apply(alloc, asked()).expect(&rt, "room");
         }
-        assert_eq!(rt;
-            world.apply(alloc, asked()).err(),
-            Some(WorldFault::QueueFull)
+        equal(
+            &rt,
+            &world.apply(alloc, asked()).err(),
+            &Some(WorldFault::QueueFull),
         );
     }
     let queue = world.station(0).expect(&rt, "a station").queue();
-    assert_eq!(rt; (queue.len_high(), queue.len_low()), (16, 16));
+    equal(&rt, &(queue.len_high(), queue.len_low()), &(16, 16));
 }
 
 /// An inbox has 64 marks, a begin and an end of each noise. Where one is full, no time passes to a mark beyond.
@@ -390,13 +414,14 @@ fn a_full_inbox_takes_no_more(rt: HostRuntime) {
         world.apply(alloc, Event::Pass(1)).expect(&rt, "its end");
         world.apply(alloc, Event::Pass(1)).expect(&rt, "silence");
     }
-    assert_eq!(rt; unread(&rt, &world, 1), 64);
+    equal(&rt, &unread(&rt, &world, 1), &64);
     world.apply(alloc, Event::Noise(1)).expect(&rt, "noise");
-    assert_eq!(rt;
-        world.apply(alloc, Event::Pass(1)).err(),
-        Some(WorldFault::InboxFull(1))
+    equal(
+        &rt,
+        &world.apply(alloc, Event::Pass(1)).err(),
+        &Some(WorldFault::InboxFull(1)),
     );
-    assert_eq!(rt; (world.now().get(), unread(&rt, &world, 1)), (64, 64));
+    equal(&rt, &(world.now().get(), unread(&rt, &world, 1)), &(64, 64));
 }
 
 /// How many marks a tap has not read; none where there is no such tap.
@@ -426,7 +451,7 @@ fn faults_are_shown(rt: HostRuntime) {
         (AuditFault::At(0, WorldFault::NoMemory), "At 0 NoMemory"),
     ] {
         let shown = fault.to_string(alloc).expect(&rt, "memory");
-        assert_eq!(rt; shown.as_str(), text);
+        equal(&rt, &shown.as_str(), &text);
     }
 }
 
@@ -483,10 +508,10 @@ fn a_world_has_127_taps(rt: HostRuntime) {
         return;
     };
     assert_eq!(rt; claim.heard.len(), 127);
-    assert_eq!(rt; claim.heard.at(0), Heard::Own);
-    assert_eq!(rt; claim.heard.get(1), Some(Heard::Whole));
-    assert_eq!(rt; claim.heard.get(124), Some(Heard::Whole));
-    assert_eq!(rt; claim.heard.at(125), Heard::Unheard);
-    assert_eq!(rt; claim.heard.at(126), Heard::Damaged);
-    assert_eq!(rt; claim.heard.get(127), None);
+    equal(&rt, &claim.heard.at(0), &Heard::Own);
+    equal(&rt, &claim.heard.get(1), &Some(Heard::Whole));
+    equal(&rt, &claim.heard.get(124), &Some(Heard::Whole));
+    equal(&rt, &claim.heard.at(125), &Heard::Unheard);
+    equal(&rt, &claim.heard.at(126), &Heard::Damaged);
+    equal(&rt, &claim.heard.get(127), &None);
 }

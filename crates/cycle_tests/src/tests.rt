@@ -10,8 +10,16 @@ mod services;
 use arrayvec::ArrayVec;
 use pb_cycles::{Request, Service};
 use pb_telegram::{RxChar, Telegram, parse, write};
+use std::fmt::Debug;
+use std::process::Abort;
 use std::str;
 use std::test::Fail;
+
+/// Ends the test unless two values are equal. It is a call since the proof of a test that compares in place takes three times as
+/// long.
+fn equal<T: PartialEq + Debug>(rt: &impl Abort, left: &T, right: &T) {
+    assert_eq!(rt; *left, *right);
+}
 
 /// The octets of hex digits; `-` is none.
 fn octets(hex: &str) -> Result<ArrayVec<u8, 255>, Fail> {

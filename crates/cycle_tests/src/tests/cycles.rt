@@ -1,4 +1,4 @@
-use super::{octets, request, spelled, telegram, unit};
+use super::{equal, octets, request, spelled, telegram, unit};
 use arrayvec::ArrayVec;
 use pb_cycles::{Initiator, Outcome, Responder, Service, status_reply};
 use pb_telegram::{Fc, Telegram, write};
@@ -8,56 +8,58 @@ use std::test::Fail;
 fn frame_count_bits_alternate_until_no_answer(rt: HostRuntime) -> Result<(), Fail> {
     let mut initiator = Initiator::new(1);
     let first = initiator.request(1, request(7, Service::Sda, false, "-")?);
-    assert_eq!(rt; write(&first), octets("100701636b16")?);
-    assert_eq!(rt;
-        initiator.outcome(Some(&Telegram::Ack)),
-        Some(Outcome::Acked)
+    equal(&rt, &write(&first), &octets("100701636b16")?);
+    equal(
+        &rt,
+        &initiator.outcome(Some(&Telegram::Ack)),
+        &Some(Outcome::Acked),
     );
     let second = initiator.request(1, request(7, Service::Sda, false, "-")?);
-    assert_eq!(rt; write(&second), octets("100701535b16")?);
-    assert_eq!(rt;
-        initiator.outcome(Some(&Telegram::Ack)),
-        Some(Outcome::Acked)
+    equal(&rt, &write(&second), &octets("100701535b16")?);
+    equal(
+        &rt,
+        &initiator.outcome(Some(&Telegram::Ack)),
+        &Some(Outcome::Acked),
     );
     let third = initiator.request(1, request(7, Service::Sda, false, "-")?);
-    assert_eq!(rt; write(&third), octets("100701737b16")?);
+    equal(&rt, &write(&third), &octets("100701737b16")?);
     assert!(rt; initiator.retry_left());
-    assert_eq!(rt; spelled(initiator.again()), octets("100701737b16")?);
+    equal(&rt, &spelled(initiator.again()), &octets("100701737b16")?);
     assert!(rt; !initiator.retry_left());
-    assert_eq!(rt; initiator.again(), None);
-    assert_eq!(rt; initiator.outcome(None), Some(Outcome::NoAnswer));
+    equal(&rt, &initiator.again(), &None);
+    equal(&rt, &initiator.outcome(None), &Some(Outcome::NoAnswer));
     let fresh = initiator.request(1, request(7, Service::Sda, false, "-")?);
-    assert_eq!(rt; write(&fresh), octets("100701636b16")?);
+    equal(&rt, &write(&fresh), &octets("100701636b16")?);
     let reply_of_another = telegram("100108091216")?;
-    assert_eq!(rt; initiator.outcome(Some(&reply_of_another)), None);
+    equal(&rt, &initiator.outcome(Some(&reply_of_another)), &None);
     Ok(())
 }
 
 #[test]
 fn no_request_is_open_at_first_nor_after_an_sdn(rt: HostRuntime) -> Result<(), Fail> {
     let mut initiator = Initiator::new(7);
-    assert_eq!(rt; initiator.again(), None);
-    assert_eq!(rt; initiator.outcome(None), None);
+    equal(&rt, &initiator.again(), &None);
+    equal(&rt, &initiator.outcome(None), &None);
     initiator.request(1, request(7, Service::Srd, true, "-")?);
     let told = initiator.request(1, request(127, Service::Sdn, true, "-")?);
-    assert_eq!(rt; write(&told), octets("107f0146c616")?);
+    equal(&rt, &write(&told), &octets("107f0146c616")?);
     let told_low = initiator.request(1, request(127, Service::Sdn, false, "-")?);
-    assert_eq!(rt; write(&told_low), octets("107f0144c416")?);
-    assert_eq!(rt; initiator.again(), None);
-    assert_eq!(rt; initiator.outcome(Some(&Telegram::Ack)), None);
+    equal(&rt, &write(&told_low), &octets("107f0144c416")?);
+    equal(&rt, &initiator.again(), &None);
+    equal(&rt, &initiator.outcome(Some(&Telegram::Ack)), &None);
     Ok(())
 }
 
 #[test]
 fn what_is_kept_can_be_read(rt: HostRuntime) -> Result<(), Fail> {
     let mut initiator = Initiator::new(1);
-    assert_eq!(rt; initiator.open_to(), None);
+    equal(&rt, &initiator.open_to(), &None);
     initiator.request(1, request(7, Service::Srd, true, "-")?);
-    assert_eq!(rt; initiator.open_to(), Some(7));
+    equal(&rt, &initiator.open_to(), &Some(7));
     let responder = Responder::new(unit("aabb")?);
-    assert_eq!(rt; responder.data(), [0xaa, 0xbb].as_slice());
+    equal(&rt, &responder.data(), &[0xaa, 0xbb].as_slice());
     let outcome = Outcome::Data(unit("aabb")?);
-    assert_eq!(rt; outcome.copy(), outcome);
+    equal(&rt, &outcome.copy(), &outcome);
     Ok(())
 }
 
@@ -70,11 +72,12 @@ fn a_repeat_is_answered_and_not_executed(rt: HostRuntime) -> Result<(), Fail> {
         ("1007015c6416", "100107091116", 2),
         ("10870163eb16", "100107030b16", 3),
     ] {
-        assert_eq!(rt;
-            spelled(responder.answer(7, 0, &telegram(asked)?)),
-            octets(replied)?
+        equal(
+            &rt,
+            &spelled(responder.answer(7, 0, &telegram(asked)?)),
+            &octets(replied)?,
         );
-        assert_eq!(rt; responder.executed(), executed);
+        equal(&rt, &responder.executed(), &executed);
     }
     Ok(())
 }
@@ -88,12 +91,13 @@ fn a_station_replies_with_the_priority_of_the_request(rt: HostRuntime) -> Result
         ("1007017c8416", "68050568010708aabb7516"),
         ("100701495116", "100107000816"),
     ] {
-        assert_eq!(rt;
-            spelled(responder.answer(7, 0, &telegram(asked)?)),
-            octets(replied)?
+        equal(
+            &rt,
+            &spelled(responder.answer(7, 0, &telegram(asked)?)),
+            &octets(replied)?,
         );
     }
-    assert_eq!(rt; responder.executed(), 3);
+    equal(&rt, &responder.executed(), &3);
     Ok(())
 }
 
@@ -107,7 +111,7 @@ fn an_interrupted_cycle_goes_on_with_its_retry(rt: HostRuntime) -> Result<(), Fa
         ("1007017d8516", false),
     ] {
         let mut asked = initiator.request(1, request(7, Service::Srd, true, "-")?);
-        assert_eq!(rt; write(&asked), octets(octets_asked)?);
+        equal(&rt, &write(&asked), &octets(octets_asked)?);
         if sent_again {
             responder.answer(7, 0, &asked);
             let again = initiator.again();
@@ -115,26 +119,27 @@ fn an_interrupted_cycle_goes_on_with_its_retry(rt: HostRuntime) -> Result<(), Fa
                 return Err(Fail::new("no retry is left"));
             };
             asked = again;
-            assert_eq!(rt; write(&asked), octets(octets_asked)?);
+            equal(&rt, &write(&asked), &octets(octets_asked)?);
         }
         let replied = responder.answer(7, 0, &asked);
-        assert_eq!(rt;
-            initiator.outcome(replied.as_ref()),
-            Some(Outcome::Data(unit("aabb")?))
+        equal(
+            &rt,
+            &initiator.outcome(replied.as_ref()),
+            &Some(Outcome::Data(unit("aabb")?)),
         );
     }
-    assert_eq!(rt; responder.executed(), 3);
+    equal(&rt, &responder.executed(), &3);
     Ok(())
 }
 
 #[test]
 fn an_acknowledgement_is_no_status(rt: HostRuntime) -> Result<(), Fail> {
     let ready = telegram("100102202316")?;
-    assert_eq!(rt; status_reply(1, 2, &ready), Some(Fc(0x20)));
-    assert_eq!(rt; status_reply(1, 3, &ready), None);
-    assert_eq!(rt; status_reply(2, 2, &ready), None);
-    assert_eq!(rt; status_reply(1, 2, &telegram("100102242716")?), None);
-    assert_eq!(rt; status_reply(1, 2, &Telegram::Ack), None);
+    equal(&rt, &status_reply(1, 2, &ready), &Some(Fc(0x20)));
+    equal(&rt, &status_reply(1, 3, &ready), &None);
+    equal(&rt, &status_reply(2, 2, &ready), &None);
+    equal(&rt, &status_reply(1, 2, &telegram("100102242716")?), &None);
+    equal(&rt, &status_reply(1, 2, &Telegram::Ack), &None);
     Ok(())
 }
 
@@ -149,9 +154,13 @@ fn copies_go_on_alike(rt: HostRuntime) -> Result<(), Fail> {
     assert!(rt; other_initiator.is_same(&initiator));
     let again = spelled(initiator.again());
     assert!(rt; !other_initiator.is_same(&initiator));
-    assert_eq!(rt; spelled(other_initiator.again()), again);
+    equal(&rt, &spelled(other_initiator.again()), &again);
     let replied = spelled(responder.answer(7, 0, &asked));
-    assert_eq!(rt; spelled(other_responder.answer(7, 0, &asked)), replied);
-    assert_eq!(rt; other_responder.executed(), responder.executed());
+    equal(
+        &rt,
+        &spelled(other_responder.answer(7, 0, &asked)),
+        &replied,
+    );
+    equal(&rt, &other_responder.executed(), &responder.executed());
     Ok(())
 }

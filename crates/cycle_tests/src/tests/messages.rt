@@ -1,4 +1,4 @@
-use super::{octets, telegram, unit};
+use super::{equal, octets, telegram, unit};
 use pb_messages::{Frame, Message, Reply};
 use pb_telegram::{Telegram, write};
 use std::test::Fail;
@@ -19,12 +19,12 @@ fn a_telegram_says_its_fields(rt: HostRuntime) -> Result<(), Fail> {
         let Message::Framed(frame) = Message::read(&telegram(hex)?) else {
             return Err(Fail::new("a telegram without a control octet"));
         };
-        assert_eq!(rt; frame, Frame::new(da, sa, fc, unit(data)?));
-        assert_eq!(rt; (frame.da(), frame.sa(), frame.fc()), (da, sa, fc));
-        assert_eq!(rt; frame.unit(), unit(data)?.as_slice());
-        assert_eq!(rt; write(&frame.telegram()), octets(hex)?);
+        equal(&rt, &frame, &Frame::new(da, sa, fc, unit(data)?));
+        equal(&rt, &(frame.da(), frame.sa(), frame.fc()), &(da, sa, fc));
+        equal(&rt, &frame.unit(), &unit(data)?.as_slice());
+        equal(&rt, &write(&frame.telegram()), &octets(hex)?);
         let reply = Reply::Answer(frame.copy());
-        assert_eq!(rt; write(&reply.copy().telegram()), octets(hex)?);
+        equal(&rt, &write(&reply.copy().telegram()), &octets(hex)?);
     }
     Ok(())
 }
@@ -33,6 +33,6 @@ fn a_telegram_says_its_fields(rt: HostRuntime) -> Result<(), Fail> {
 fn acknowledgements_and_tokens_have_no_fields(rt: HostRuntime) -> Result<(), Fail> {
     assert!(rt; matches!(Message::read(&Telegram::Ack), Message::Acknowledgement));
     assert!(rt; matches!(Message::read(&telegram("dc0605")?), Message::TokenPass));
-    assert_eq!(rt; Reply::Acknowledge.copy().telegram(), Telegram::Ack);
+    equal(&rt, &Reply::Acknowledge.copy().telegram(), &Telegram::Ack);
     Ok(())
 }

@@ -1,4 +1,4 @@
-use super::request;
+use super::{equal, request};
 use pb_messages::{Queue, Service};
 use std::test::Fail;
 
@@ -10,17 +10,33 @@ fn sixteen_requests_wait_in_order(rt: HostRuntime) -> Result<(), Fail> {
         queue.push_low(request(da, Service::Sda, false, "-")?)?;
     }
     let refused = queue.push_high(request(16, Service::Sda, true, "-")?);
-    assert_eq!(rt; refused.err().map(|refused| refused.request.da()), Some(16));
+    equal(
+        &rt,
+        &refused.err().map(|refused| refused.request.da()),
+        &Some(16),
+    );
     let refused = queue.push_low(request(17, Service::Sda, false, "-")?);
-    assert_eq!(rt; refused.err().map(|refused| refused.request.da()), Some(17));
+    equal(
+        &rt,
+        &refused.err().map(|refused| refused.request.da()),
+        &Some(17),
+    );
     for da in 0..16 {
-        assert_eq!(rt; queue.take_high().map(|request| request.da()), Some(da));
-        assert_eq!(rt; queue.take_low().map(|request| request.da()), Some(da));
+        equal(
+            &rt,
+            &queue.take_high().map(|request| request.da()),
+            &Some(da),
+        );
+        equal(
+            &rt,
+            &queue.take_low().map(|request| request.da()),
+            &Some(da),
+        );
     }
     assert!(rt; queue.take_high().is_none());
     assert!(rt; queue.take_low().is_none());
-    assert_eq!(rt; queue.len_high(), 0);
-    assert_eq!(rt; queue.len_low(), 0);
+    equal(&rt, &queue.len_high(), &0);
+    equal(&rt, &queue.len_low(), &0);
     Ok(())
 }
 
@@ -32,9 +48,17 @@ fn a_queue_of_requests_has_them_in_order(rt: HostRuntime) -> Result<(), Fail> {
     ];
     let low = [request(3, Service::Sda, false, "-")?];
     let mut queue = Queue::of(&high, &low);
-    assert_eq!(rt; (queue.len_high(), queue.len_low()), (2, 1));
-    assert_eq!(rt; queue.take_high().map(|request| request.da()), Some(1));
-    assert_eq!(rt; queue.take_high().map(|request| request.da()), Some(2));
-    assert_eq!(rt; queue.take_low().map(|request| request.da()), Some(3));
+    equal(&rt, &(queue.len_high(), queue.len_low()), &(2, 1));
+    equal(
+        &rt,
+        &queue.take_high().map(|request| request.da()),
+        &Some(1),
+    );
+    equal(
+        &rt,
+        &queue.take_high().map(|request| request.da()),
+        &Some(2),
+    );
+    equal(&rt, &queue.take_low().map(|request| request.da()), &Some(3));
     Ok(())
 }

@@ -2,7 +2,7 @@ ghost use Rattle.std.specs.Prelude.{◌≤◌};
 
 use super::first_half::FIRST_HALF;
 use super::second_half::SECOND_HALF;
-use super::{octets, spelled, telegram, unit};
+use super::{equal, octets, spelled, telegram, unit};
 use arrayvec::ArrayVec;
 use pb_cycles::{Initiator, Outcome, Request, Responder, Service};
 use pb_telegram::write;
@@ -110,6 +110,6 @@ fn a_hundred_sequences_agree(rt: HostRuntime) -> Result<(), Fail> {
             }
         }
     }
-    assert_eq!(rt; count, 100);
+    equal(&rt, &count, &100);
     Ok(())
 }

@@ -1,3 +1,4 @@
+use super::equal;
 use pb_messages::{Asked, Service};
 use std::test::Fail;
 
@@ -11,11 +12,11 @@ fn function_codes_name_services(rt: HostRuntime) -> Result<(), Fail> {
         (12, Service::Srd, false),
         (13, Service::Srd, true),
     ] {
-        assert_eq!(rt; service.code(high), code);
-        assert_eq!(rt; Asked::by(code), Asked::Send(service, high));
+        equal(&rt, &service.code(high), &code);
+        equal(&rt, &Asked::by(code), &Asked::Send(service, high));
     }
-    assert_eq!(rt; Asked::by(9), Asked::Status);
-    assert_eq!(rt; Asked::by(0), Asked::Unknown);
+    equal(&rt, &Asked::by(9), &Asked::Status);
+    equal(&rt, &Asked::by(0), &Asked::Unknown);
     assert!(rt; Service::Srd.is_answered());
     assert!(rt; !Service::Sdn.is_answered());
     Ok(())
