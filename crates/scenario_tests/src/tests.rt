@@ -8,7 +8,14 @@ use pb_taps::{Event, Kind, NewFault, WorldFault};
 use pb_timers::{Moment, ParamFault};
 use pb_world::{Audit, World, audit, run};
 use std::alloc::{AllocError, AllocGlobal, Global};
+use std::fmt::Debug;
 use std::process::Abort;
+
+/// Ends the test unless two values are equal. It is a call since the proof of a test that compares in place takes three times as
+/// long.
+fn equal<T: PartialEq + Debug>(rt: &impl Abort, left: &T, right: &T) {
+    assert_eq!(rt; *left, *right);
+}
 
 /// A path names the table, with the index of a tap or step, and the key.
 #[test]
@@ -73,10 +80,10 @@ fn names_are_short_and_plain(rt: HostRuntime) {
         ).expect(&rt, "memory");
         fault_in(&rt, TOP, line.as_str(), "")
     };
-    assert_eq!(rt; named("b").as_str(), "");
-    assert_eq!(rt; named("Az09Az09Az09Az09").as_str(), "");
+    equal(&rt, &named("b").as_str(), &"");
+    equal(&rt, &named("Az09Az09Az09Az09").as_str(), &"");
     for name in ["Az09Az09Az09Az09x", "", "a b", "ä"] {
-        assert_eq!(rt; named(name).as_str(), "5 BadValue tap[1].name");
+        equal(&rt, &named(name).as_str(), &"5 BadValue tap[1].name");
     }
 }
 
@@ -108,16 +115,16 @@ fn words_stand_for_what_they_name(rt: HostRuntime) {
     let Err(fault) = service_in(&rt, "SRD") else {
         panic!(rt; "a service in other letters");
     };
-    assert_eq!(rt; fault.as_str(), "5 BadValue step[0].service");
+    equal(&rt, &fault.as_str(), &"5 BadValue step[0].service");
     let step = fault_in(
         &rt,
         TOP,
         SECOND,
         "[[step]]\nat = 0\ndo = \"Start\"\ntap = \"a\"",
     );
-    assert_eq!(rt; step.as_str(), "5 BadValue step[0].do");
+    equal(&rt, &step.as_str(), &"5 BadValue step[0].do");
     let kind = fault_in(&rt, TOP, "name = \"b\"\nkind = \"\"\naddress = 2", "");
-    assert_eq!(rt; kind.as_str(), "5 BadValue tap[1].kind");
+    equal(&rt, &kind.as_str(), &"5 BadValue tap[1].kind");
 }
 
 /// A file of each kind of step is read.
@@ -168,12 +175,12 @@ tap = \"a\"
 ";
     let text = file(alloc, TOP, SECOND, steps).expect(&rt, "memory");
     let scenario = read(alloc, text.as_bytes()).expect(&rt, "a scenario");
-    assert_eq!(rt; scenario.until(), 1400);
-    assert_eq!(rt; scenario.params().hsa(), 5);
+    equal(&rt, &scenario.until(), &1400);
+    equal(&rt, &scenario.params().hsa(), &5);
     let taps = scenario.taps();
     assert!(rt; taps.len() == 2);
-    assert_eq!(rt; scenario.name(0), "a");
-    assert_eq!(rt; scenario.name(1), "b");
+    equal(&rt, &scenario.name(0), &"a");
+    equal(&rt, &scenario.name(1), &"b");
     assert!(rt; taps[0].kind == Kind::Master && taps[1].kind == Kind::Passive);
     assert!(rt; taps[1].address == 2 && taps[1].reply.as_slice() == [0x0a, 0xff].as_slice());
     let steps = scenario.steps();
@@ -215,58 +222,75 @@ tap = \"a\"
 #[test]
 fn tells_the_first_fault(rt: HostRuntime) {
     let first = |top: &str| fault_in(&rt, top, SECOND, "");
-    assert_eq!(rt; first(TOP).as_str(), "");
-    assert_eq!(rt; first("version").as_str(), "1 NotToml");
-    assert_eq!(rt; first("version = 3").as_str(), "2 BadVersion");
-    assert_eq!(rt; first("").as_str(), "3 Missing version");
-    assert_eq!(rt; first("version = true").as_str(), "4 BadKind version");
-    assert_eq!(rt; first("version = 1").as_str(), "3 Missing until");
-    assert_eq!(rt;
-        first("version = 1\nuntil = \"x\"").as_str(),
-        "4 BadKind until"
+    equal(&rt, &first(TOP).as_str(), &"");
+    equal(&rt, &first("version").as_str(), &"1 NotToml");
+    equal(&rt, &first("version = 3").as_str(), &"2 BadVersion");
+    equal(&rt, &first("").as_str(), &"3 Missing version");
+    equal(&rt, &first("version = true").as_str(), &"4 BadKind version");
+    equal(&rt, &first("version = 1").as_str(), &"3 Missing until");
+    equal(
+        &rt,
+        &(first("version = 1\nuntil = \"x\"").as_str()),
+        &"4 BadKind until",
     );
-    assert_eq!(rt;
-        first("version = 1\nuntil = 0").as_str(),
-        "5 BadValue until"
+    equal(
+        &rt,
+        &(first("version = 1\nuntil = 0").as_str()),
+        &"5 BadValue until",
     );
-    assert_eq!(rt;
-        first("version = 1\nuntil = 10000001").as_str(),
-        "5 BadValue until"
+    equal(
+        &rt,
+        &(first("version = 1\nuntil = 10000001").as_str()),
+        &"5 BadValue until",
     );
-    assert_eq!(rt;
-        first("version = 1\nfoo = 1\neoo = 2").as_str(),
-        "6 Unknown eoo"
+    equal(
+        &rt,
+        &(first("version = 1\nfoo = 1\neoo = 2").as_str()),
+        &"6 Unknown eoo",
     );
     let second = |table: &str| fault_in(&rt, TOP, table, "");
-    assert_eq!(rt; second("name = \"a\"").as_str(), "7 Twice tap[1].name");
-    assert_eq!(rt; second("name = \"a b\"").as_str(), "5 BadValue tap[1].name");
-    assert_eq!(rt;
-        second("name = \"b\"\nkinds = 1").as_str(),
-        "6 Unknown tap[1].kinds"
+    equal(
+        &rt,
+        &(second("name = \"a\"").as_str()),
+        &"7 Twice tap[1].name",
     );
-    assert_eq!(rt;
-        second("name = \"b\"\nkind = \"Master\"").as_str(),
-        "5 BadValue tap[1].kind"
+    equal(
+        &rt,
+        &(second("name = \"a b\"").as_str()),
+        &"5 BadValue tap[1].name",
     );
-    assert_eq!(rt;
-        second("name = \"b\"\nkind = \"master\"\naddress = 256").as_str(),
-        "5 BadValue tap[1].address"
+    equal(
+        &rt,
+        &(second("name = \"b\"\nkinds = 1").as_str()),
+        &"6 Unknown tap[1].kinds",
+    );
+    equal(
+        &rt,
+        &(second("name = \"b\"\nkind = \"Master\"").as_str()),
+        &"5 BadValue tap[1].kind",
+    );
+    equal(
+        &rt,
+        &(second("name = \"b\"\nkind = \"master\"\naddress = 256").as_str()),
+        &"5 BadValue tap[1].address",
     );
     let step = |lines: &str| fault_in(&rt, TOP, SECOND, lines);
-    assert_eq!(rt;
-        step("[[step]]\nat = 0\ndo = \"start\"\ntap = \"z\"").as_str(),
-        "8 NoSuchName step[0].tap"
+    equal(
+        &rt,
+        &(step("[[step]]\nat = 0\ndo = \"start\"\ntap = \"z\"").as_str()),
+        &"8 NoSuchName step[0].tap",
     );
     let late =
         "[[step]]\nat = 1\ndo = \"noise\"\nbits = 1\n[[step]]\nat = 0\ndo = \"noise\"\nbits = 1";
-    assert_eq!(rt; step(late).as_str(), "9 StepOrder step[1].at");
-    assert_eq!(rt;
-        step("[[step]]\nat = 0\ndo = \"noisy\"").as_str(),
-        "5 BadValue step[0].do"
+    equal(&rt, &step(late).as_str(), &"9 StepOrder step[1].at");
+    equal(
+        &rt,
+        &(step("[[step]]\nat = 0\ndo = \"noisy\"").as_str()),
+        &"5 BadValue step[0].do",
     );
     let unit =
         "[[step]]\nat = 0\ndo = \"queue\"\ntap = \"a\"\nservice = \"sda\"\nto = 127\nhigh = 1";
-    assert_eq!(rt; step(unit).as_str(), "5 BadValue step[0].to");
+    equal(&rt, &step(unit).as_str(), &"5 BadValue step[0].to");
 }
 /// The events of a run lead to its trace: noise, then the claim of a master whose time-out it prolonged.
 #[test]
@@ -279,8 +303,8 @@ fn plays_noise(rt: HostRuntime) {
     let events = events_of(alloc, &scenario).expect(&rt, "a run");
     let mut world = World::new(alloc, *scenario.params(), scenario.taps()).expect(&rt, "a world");
     run(alloc, &mut world, &events).expect(&rt, "events");
-    assert_eq!(rt; world.now().get(), 990);
-    assert_eq!(rt; world.trace().len(), 2);
+    equal(&rt, &world.now().get(), &990);
+    equal(&rt, &world.trace().len(), &2);
     let noise = Entry::Noise {
         begin: 100,
         end: 150,
@@ -299,8 +323,8 @@ fn plays_with_a_cable_delay(rt: HostRuntime) {
     let text = file(alloc, "version = 1\nuntil = 1450", second, steps).expect(&rt, "memory");
     let scenario = read(alloc, text.as_bytes()).expect(&rt, "a scenario");
     let (scenario, fault) = scenario.with_ttd(20).expect_err(&rt, "too long a delay");
-    assert_eq!(rt; fault, ParamFault::TakeLate);
-    assert_eq!(rt; scenario.params().ttd(), 0);
+    equal(&rt, &fault, &ParamFault::TakeLate);
+    equal(&rt, &scenario.params().ttd(), &0);
     let Ok(scenario) = scenario.with_ttd(15) else {
         return;
     };
@@ -336,16 +360,20 @@ fn delay_in(rt: &(impl AllocGlobal + Abort), version: u8, line: &str) -> String 
 #[test]
 fn version_2_has_a_cable_delay(rt: HostRuntime) {
     let delay = |version: u8, line: &str| delay_in(&rt, version, line);
-    assert_eq!(rt; delay(1, "").as_str(), "0");
-    assert_eq!(rt; delay(2, "ttd = 0").as_str(), "0");
-    assert_eq!(rt; delay(2, "ttd = 19").as_str(), "19");
-    assert_eq!(rt; delay(2, "ttd = 20").as_str(), "10 Params 9");
-    assert_eq!(rt; delay(2, "").as_str(), "3 Missing bus.ttd");
-    assert_eq!(rt; delay(1, "ttd = 0").as_str(), "6 Unknown bus.ttd");
-    assert_eq!(rt; delay(2, "ttd = true").as_str(), "4 BadKind bus.ttd");
-    assert_eq!(rt; delay(2, "ttd = 4294967296").as_str(), "5 BadValue bus.ttd");
-    assert_eq!(rt; delay(2, "ttd = -1").as_str(), "5 BadValue bus.ttd");
-    assert_eq!(rt; delay(3, "ttd = 0").as_str(), "2 BadVersion");
+    equal(&rt, &delay(1, "").as_str(), &"0");
+    equal(&rt, &delay(2, "ttd = 0").as_str(), &"0");
+    equal(&rt, &delay(2, "ttd = 19").as_str(), &"19");
+    equal(&rt, &delay(2, "ttd = 20").as_str(), &"10 Params 9");
+    equal(&rt, &delay(2, "").as_str(), &"3 Missing bus.ttd");
+    equal(&rt, &delay(1, "ttd = 0").as_str(), &"6 Unknown bus.ttd");
+    equal(&rt, &delay(2, "ttd = true").as_str(), &"4 BadKind bus.ttd");
+    equal(
+        &rt,
+        &delay(2, "ttd = 4294967296").as_str(),
+        &"5 BadValue bus.ttd",
+    );
+    equal(&rt, &delay(2, "ttd = -1").as_str(), &"5 BadValue bus.ttd");
+    equal(&rt, &delay(3, "ttd = 0").as_str(), &"2 BadVersion");
 }
 
 /// How many taps are read of a file with so many, or the number of the fault.
@@ -375,10 +403,10 @@ fn taps_in(
 /// A whole segment fits into a file of version 2, and 32 taps into one of version 1.
 #[test]
 fn a_segment_has_127_taps(rt: HostRuntime) {
-    assert_eq!(rt; taps_in(&rt, 1, "", 32), Ok(32));
-    assert_eq!(rt; taps_in(&rt, 1, "", 33), Err(11));
-    assert_eq!(rt; taps_in(&rt, 2, "ttd = 0", 127), Ok(127));
-    assert_eq!(rt; taps_in(&rt, 2, "ttd = 0", 128), Err(11));
+    equal(&rt, &taps_in(&rt, 1, "", 32), &Ok(32));
+    equal(&rt, &taps_in(&rt, 1, "", 33), &Err(11));
+    equal(&rt, &taps_in(&rt, 2, "ttd = 0", 127), &Ok(127));
+    equal(&rt, &taps_in(&rt, 2, "ttd = 0", 128), &Err(11));
 }
 
 /// Two masters wait out their time-outs at one clock, since one starts later by what makes them differ.
@@ -395,10 +423,10 @@ fn an_audit_follows_the_run(rt: HostRuntime) {
         premise: Some((4, Moment::new(1000).expect(&rt, "a moment"))),
         illegal: Some(1),
     };
-    assert_eq!(rt; found, expected);
+    equal(&rt, &found, &expected);
     let events = events_of(alloc, &scenario).expect(&rt, "a run");
     let listed = audit(alloc, *scenario.params(), scenario.taps(), &events).expect(&rt, "an audit");
-    assert_eq!(rt; found, listed);
+    equal(&rt, &found, &listed);
 }
 
 /// A run ends where a step is refused, and where there is no new world.
@@ -411,15 +439,15 @@ fn a_run_ends_by_a_fault(rt: HostRuntime) {
     let moment = Moment::new(100).expect(&rt, "a moment");
     let fault = events_of(alloc, &scenario).expect_err(&rt, "a refusal");
     let told = format!(in alloc; "{fault}").expect(&rt, "memory");
-    assert_eq!(rt; told.as_str(), "NotRunning at 100");
-    assert_eq!(rt; fault, RunFault::At(moment, WorldFault::NotRunning));
+    equal(&rt, &told.as_str(), &"NotRunning at 100");
+    equal(&rt, &fault, &RunFault::At(moment, WorldFault::NotRunning));
     let master = "name = \"b\"\nkind = \"master\"\naddress = 6";
     let text = file(alloc, TOP, master, "").expect(&rt, "memory");
     let scenario = read(alloc, text.as_bytes()).expect(&rt, "a scenario");
     let fault = events_of(alloc, &scenario).expect_err(&rt, "no world");
     let told = format!(in alloc; "{fault}").expect(&rt, "memory");
-    assert_eq!(rt; told.as_str(), "BadAddress 1");
-    assert_eq!(rt; fault, RunFault::New(NewFault::BadAddress(1)));
+    equal(&rt, &told.as_str(), &"BadAddress 1");
+    equal(&rt, &fault, &RunFault::New(NewFault::BadAddress(1)));
 }
 
 /// Each prefix of a file describes a scenario, or has a fault.
@@ -443,7 +471,7 @@ fn refused_memory_in_reading(rt: HostRuntime) {
         return;
     };
     if let Err(fault) = read(rt.alloc(), text.as_bytes()) {
-        assert_eq!(rt; fault, ScenarioFault::NoMemory);
+        equal(&rt, &fault, &ScenarioFault::NoMemory);
         let _ = println!(rt; "refused");
     }
 }
@@ -460,13 +488,13 @@ fn refused_memory_in_a_run(rt: HostRuntime) {
         return;
     };
     match events_of(rt.alloc(), &scenario) {
-        Ok(events) => assert_eq!(rt; events.len(), 9),
+        Ok(events) => equal(&rt, &events.len(), &9),
         Err(RunFault::New(fault)) => {
-            assert_eq!(rt; fault, NewFault::NoMemory);
+            equal(&rt, &fault, &NewFault::NoMemory);
             let _ = println!(rt; "refused");
         }
         Err(RunFault::At(_, fault)) => {
-            assert_eq!(rt; fault, WorldFault::NoMemory);
+            equal(&rt, &fault, &WorldFault::NoMemory);
             let _ = println!(rt; "refused");
         }
     }
@@ -486,11 +514,11 @@ fn refused_memory_in_an_audit(rt: HostRuntime) {
     match audit_of(rt.alloc(), &scenario) {
         Ok(found) => assert!(rt; found.premise.is_none() && found.illegal.is_none()),
         Err(RunFault::New(fault)) => {
-            assert_eq!(rt; fault, NewFault::NoMemory);
+            equal(&rt, &fault, &NewFault::NoMemory);
             let _ = println!(rt; "refused");
         }
         Err(RunFault::At(_, fault)) => {
-            assert_eq!(rt; fault, WorldFault::NoMemory);
+            equal(&rt, &fault, &WorldFault::NoMemory);
             let _ = println!(rt; "refused");
         }
     }
