@@ -1,5 +1,7 @@
 mod memory;
 
+ghost use Rattle.std.specs.Prelude.{◌≡◌, true};
+
 use arrayvec::ArrayVec;
 use pb_cycles::{Outcome, Request, Service};
 use pb_station::decide;
@@ -12,7 +14,9 @@ use std::process::Abort;
 
 /// Ends the test unless two values are equal. It is a call since the proof of a test that compares in place takes three times as
 /// long; where what follows needs to know it, `assert_eq!` says it in place.
-fn equal<T: PartialEq + Debug>(rt: &impl Abort, left: &T, right: &T) {
+fn equal<T: PartialEq + Debug>(rt: &impl Abort, left: &T, right: &T)
+    ensures { T.eq left.now right.now ≡ true }
+{
     assert_eq!(rt; *left, *right);
 }
 

@@ -7,6 +7,8 @@ mod second_half;
 mod sequences;
 mod services;
 
+ghost use Rattle.std.specs.Prelude.{◌≡◌, true};
+
 use arrayvec::ArrayVec;
 use pb_cycles::{Request, Service};
 use pb_telegram::{RxChar, Telegram, parse, write};
@@ -17,7 +19,9 @@ use std::test::Fail;
 
 /// Ends the test unless two values are equal. It is a call since the proof of a test that compares in place takes three times as
 /// long.
-fn equal<T: PartialEq + Debug>(rt: &impl Abort, left: &T, right: &T) {
+fn equal<T: PartialEq + Debug>(rt: &impl Abort, left: &T, right: &T)
+    ensures { T.eq left.now right.now ≡ true }
+{
     assert_eq!(rt; *left, *right);
 }
 

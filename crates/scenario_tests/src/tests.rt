@@ -1,3 +1,5 @@
+ghost use Rattle.std.specs.Prelude.{◌≡◌, true};
+
 use pb_cycles::Service;
 use pb_medium::Entry;
 use pb_plan::Deed;
@@ -13,7 +15,9 @@ use std::process::Abort;
 
 /// Ends the test unless two values are equal. It is a call since the proof of a test that compares in place takes three times as
 /// long.
-fn equal<T: PartialEq + Debug>(rt: &impl Abort, left: &T, right: &T) {
+fn equal<T: PartialEq + Debug>(rt: &impl Abort, left: &T, right: &T)
+    ensures { T.eq left.now right.now ≡ true }
+{
     assert_eq!(rt; *left, *right);
 }
 
