@@ -1,4 +1,6 @@
 mod memory;
+mod stations;
+mod telegrams;
 
 ghost use Rattle.std.specs.Prelude.{◌≡◌, true};
 

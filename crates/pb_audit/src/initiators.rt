@@ -1,15 +1,13 @@
-ghost use Rattle.std.specs.Prelude.{◌≡◌, ◌≤◌, length, map};
+ghost use Rattle.std.specs.Prelude.{◌≡◌};
 ghost use Rattle.pb_core.specs.Arrivals.{brings};
-ghost use Rattle.pb_telegram.specs.declared.chars.RxChar.TheVariants.{Good};
 ghost use Rattle.pb_turn.specs.Arrivals.{Arrival};
 ghost use Rattle.pb_theorem.specs.Initiators as initiators;
 ghost use Rattle.pb_medium.specs.Entries.{entry_of, record_of};
 ghost use Rattle.pb_audit.specs.Meanings.{meaning_in, meaning_of};
 
-use arrayvec::ArrayVec;
-use pb_core::{is_request, whole_telegram};
+use pb_core::{is_request, spelled_telegram, spelled_token};
 use pb_medium::{Entry, Record};
-use pb_telegram::{RxChar, Telegram};
+use pb_telegram::Telegram;
 
 /// What a telegram says, as far as it matters who may send it.
 #[derive(Clone, Copy, Debug)]
@@ -32,8 +30,22 @@ pub(crate) fn meaning_in(entry: &Entry) -> Meaning
     }
 }
 
-/// What the telegram says that was meant, also where it was cut.
+/// What the telegram says that was meant, also where it was cut: most are tokens, which are read at once.
 fn meaning_of(sent: &Record) -> Meaning
+    ensures { result ≡ meaning_of (initiators.telegram_of (record_of sent.now)) }
+{
+    match spelled_token(&sent.octets) {
+        Some(token) => Meaning::Token {
+            da: token.da,
+            sa: token.sa,
+        },
+        None => meaning_of_any(sent),
+    }
+}
+
+/// The same, whatever telegram it is. It is a call of its own since the room of the longest is cleared for it.
+#[inline(never)]
+fn meaning_of_any(sent: &Record) -> Meaning
     ensures { result ≡ meaning_of (initiators.telegram_of (record_of sent.now)) }
 {
     match telegram_of(sent) {
@@ -84,17 +96,5 @@ pub(crate) fn claims_for(meaning: Meaning, address: u8) -> bool
 fn telegram_of(sent: &Record) -> Option<Telegram>
     ensures { brings result ≡ initiators.telegram_of (record_of sent.now) }
 {
-    whole_telegram(&characters(&sent.octets))
-}
-
-/// The characters of octets, all good.
-fn characters(octets: &[u8]) -> ArrayVec<RxChar, 255>
-    requires { length octets.now ≤ 255 }
-    ensures { result.items ≡ map Good octets.now }
-{
-    let mut chars = ArrayVec::new();
-    for place in 0..octets.len() {
-        chars.push(RxChar::Good(octets[place]));
-    }
-    chars
+    spelled_telegram(&sent.octets)
 }

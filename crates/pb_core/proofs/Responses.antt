@@ -1,11 +1,18 @@
 -- What a station answers to a telegram with a control octet.
-use Rattle.std.proofs.Common.{◌≡◌, ◌∙◌, ap, refl, ℕ, ◌+◌, true, false, List, Option, Some, None}
+use Rattle.std.proofs.Common.{◌≡◌, ◌∙◌, ap, refl, sym, ℕ, ◌+◌, ◌==◌, ◌%◌, Bool, true, false, List, [], Option, Some, None}
+use Rattle.std.specs.Prelude.{◌||◌, if◌then◌else◌}
 use Rattle.std.specs.Option.{option_map, option_or}
 use Rattle.pb_timers.specs.Timers.{Params}
-use Rattle.pb_messages.specs.Messages.{message_of, reply_octets}
+use Rattle.pb_messages.specs.Fields.{Fields}
+use Rattle.pb_messages.specs.Messages.{message_of, reply_octets, has_bit, address_in}
+use Rattle.pb_messages.specs.Requests.{asked_by}
 use Rattle.pb_messages.specs.declared.messages.Message.{Message}
 use Rattle.pb_messages.specs.declared.messages.Reply.{Reply}
-use Rattle.pb_cycles.specs.Responding.{reply_to_message, after_message}
+use Rattle.pb_messages.specs.declared.services.Asked.{Asked}
+use Rattle.pb_messages.specs.declared.services.Asked.TheVariants.{Send, Status, Unknown}
+use Rattle.pb_messages.specs.declared.services.Service.{Service}
+use Rattle.pb_messages.specs.declared.services.Service.TheVariants.{Sda, Sdn, Srd}
+use Rattle.pb_cycles.specs.Responding.{reply_to_message, after_message, reply_to_framed, after_framed, reply_to_asked, after_asked, reply_to_service, after_service, reply_frame, service_reply, once, reply_once, counted}
 use Rattle.pb_cycles.specs.Tables.{ResponderTable}
 use Rattle.pb_telegram.specs.declared.telegrams.Telegram.{Telegram}
 use Rattle.pb_telegram.specs.declared.telegrams.Telegram.TheVariants.{Short, Var, Fixed8, Token, Ack}
@@ -13,7 +20,7 @@ use Rattle.pb_turn.specs.Hearing.{in_ring, passive, idle_hears, passive_hears}
 use Rattle.pb_turn.specs.Stations as turn
 use Rattle.pb_turn.specs.Stations.{Station}
 use Rattle.pb_core.specs.Arrivals.{telegram_brings, is_framed}
-use Rattle.pb_core.specs.Replies.{reply_to, answers}
+use Rattle.pb_core.specs.Replies.{reply_to, answers, is_for, goes_to}
 
 -- a reply by its octets
 answered : (f : List ℕ → turn.Reply) (o : Option Reply) (xs : Option (List ℕ)) (r : Option turn.Reply) → r ≡ option_map f xs → xs ≡ option_map reply_octets o
@@ -55,3 +62,69 @@ in_passive p s at (Var t) e = refl
 in_passive p s at (Fixed8 t) e = refl
 in_passive p s at (Token t) e = absurd cc
 in_passive p s at Ack e = absurd cc
+
+-- ---- a telegram that goes neither to the station nor to all
+
+not_this : (a b : Bool) → (a || b) ≡ false → a ≡ false
+not_this true b e = absurd cc
+not_this false b e = refl
+
+either : {X : Type 0} (b : Bool) (x y : X) → x ≡ y → (if b then x else y) ≡ y
+either true x y e = e
+either false x y e = refl
+
+service-none : (t : ResponderTable) (ts code : ℕ) (f : Fields) (s : Service) (high : Bool) → is_for ts f.da ≡ false → reply_to_service t ts code f s high ≡ None
+service-none t ts code f Sda high e =
+    ap (λ (b : Bool). if b then reply_once t f (service_reply ts code f Sda high t.reply) else None) (not_this (address_in f.da == ts) (address_in f.da == 127) e)
+service-none t ts code f Sdn high e = refl
+service-none t ts code f Srd high e =
+    ap (λ (b : Bool). if b then reply_once t f (service_reply ts code f Srd high t.reply) else None) (not_this (address_in f.da == ts) (address_in f.da == 127) e)
+
+service-same : (t : ResponderTable) (ts code : ℕ) (f : Fields) (s : Service) (high : Bool) → is_for ts f.da ≡ false → after_service t ts code f s high ≡ t
+service-same t ts code f Sda high e =
+    ap (λ (b : Bool). if b then once t f (service_reply ts code f Sda high t.reply) else t) (not_this (address_in f.da == ts) (address_in f.da == 127) e)
+service-same t ts code f Sdn high e = ap (λ (b : Bool). if b then counted t else t) e
+service-same t ts code f Srd high e =
+    ap (λ (b : Bool). if b then once t f (service_reply ts code f Srd high t.reply) else t) (not_this (address_in f.da == ts) (address_in f.da == 127) e)
+
+asked-none : (t : ResponderTable) (ts code : ℕ) (f : Fields) (a : Asked) → is_for ts f.da ≡ false → reply_to_asked t ts code f a ≡ None
+asked-none t ts code f (Send service high) e = service-none t ts code f service high e
+asked-none t ts code f Status e =
+    ap (λ (b : Bool). if b then Some (reply_frame ts code f 0 []) else None) (not_this (address_in f.da == ts) (address_in f.da == 127) e)
+asked-none t ts code f Unknown e = refl
+
+asked-same : (t : ResponderTable) (ts code : ℕ) (f : Fields) (a : Asked) → is_for ts f.da ≡ false → after_asked t ts code f a ≡ t
+asked-same t ts code f (Send service high) e = service-same t ts code f service high e
+asked-same t ts code f Status e = refl
+asked-same t ts code f Unknown e = refl
+
+framed-none : (t : ResponderTable) (ts code : ℕ) (f : Fields) → is_for ts f.da ≡ false → reply_to_framed t ts code f ≡ None
+framed-none t ts code f e = either (has_bit f.fc 6) _ None (asked-none t ts code f (asked_by (f.fc % 16)) e)
+
+framed-same : (t : ResponderTable) (ts code : ℕ) (f : Fields) → is_for ts f.da ≡ false → after_framed t ts code f ≡ t
+framed-same t ts code f e = either (has_bit f.fc 6) _ t (asked-same t ts code f (asked_by (f.fc % 16)) e)
+
+message-none : (t : ResponderTable) (ts code : ℕ) (m : Telegram) → goes_to ts m ≡ false → reply_to_message t ts code (message_of m) ≡ None
+message-none t ts code (Short m) e = framed-none t ts code (record { da = m.da; sa = m.sa; fc = m.fc; unit = [] }) e
+message-none t ts code (Var m) e = framed-none t ts code (record { da = m.da; sa = m.sa; fc = m.fc; unit = m.unit.items }) e
+message-none t ts code (Fixed8 m) e = framed-none t ts code (record { da = m.da; sa = m.sa; fc = m.fc; unit = m.unit }) e
+message-none t ts code (Token m) e = refl
+message-none t ts code Ack e = refl
+
+message-same : (t : ResponderTable) (ts code : ℕ) (m : Telegram) → goes_to ts m ≡ false → after_message t ts code (message_of m) ≡ t
+message-same t ts code (Short m) e = framed-same t ts code (record { da = m.da; sa = m.sa; fc = m.fc; unit = [] }) e
+message-same t ts code (Var m) e = framed-same t ts code (record { da = m.da; sa = m.sa; fc = m.fc; unit = m.unit.items }) e
+message-same t ts code (Fixed8 m) e = framed-same t ts code (record { da = m.da; sa = m.sa; fc = m.fc; unit = m.unit }) e
+message-same t ts code (Token m) e = refl
+message-same t ts code Ack e = refl
+
+-- nothing is answered, and nothing changes
+pub not_asked : (p : Params) (s : Station) (at code : ℕ) (m : Telegram) → goes_to s.address m ≡ false → s ≡ answers p s at code (message_of m)
+not_asked p s at code m e =
+    let t = s.cycles.responder in
+    sym
+    (ap (λ (r : Option Reply). record s {
+      reply = option_or (option_map (λ (a : Reply). record { ready = at + p.tsdr; octets = reply_octets a; joins = false }) r) s.reply;
+      cycles = record s.cycles { responder = after_message t s.address code (message_of m) };
+    }) (message-none t s.address code m e)
+    ∙ ap (λ (x : ResponderTable). record s { reply = s.reply; cycles = record s.cycles { responder = x } }) (message-same t s.address code m e))

@@ -1,10 +1,12 @@
 -- A reply that is not sent yet, and the type of a station in it.
 use Rattle.std.specs.Option.{option_map, option_or}
-use Rattle.std.specs.Prelude.{ℕ, ◌+◌, Bool, true, false, if◌then◌else◌, [], Option, Some, None}
+use Rattle.std.specs.Prelude.{ℕ, ◌+◌, ◌==◌, ◌||◌, Bool, true, false, if◌then◌else◌, [], Option, Some, None}
 use Rattle.pb_timers.specs.Timers.{Params}
 use Rattle.pb_telegram.specs.declared.heads.Head.{Head}
+use Rattle.pb_telegram.specs.declared.telegrams.Telegram.{Telegram}
+use Rattle.pb_telegram.specs.declared.telegrams.Telegram.TheVariants as telegram
 use Rattle.pb_messages.specs.Fields.{Fields}
-use Rattle.pb_messages.specs.Messages.{reply_octets}
+use Rattle.pb_messages.specs.Messages.{address_in, reply_octets}
 use Rattle.pb_messages.specs.declared.messages.Message.{Message}
 use Rattle.pb_cycles.specs.Responding.{reply_frame, reply_to_message, after_message}
 use Rattle.pb_turn.specs.Stations as turn
@@ -39,6 +41,18 @@ answer_to p ts at f station_type =
     if asks_status ts f
     then Some (record { ready = at + p.tsdr; octets = reply_octets (reply_frame ts (code_of station_type) f 0 []); joins = joins station_type })
     else None
+
+-- an address octet is a station's, or that of all
+abbrev pub is_for : (ts da : ℕ) → Bool
+is_for ts da = address_in da == ts || address_in da == 127
+
+-- a telegram goes to a station, or to all
+abbrev pub goes_to : ℕ → Telegram → Bool
+goes_to ts (telegram.Short t) = is_for ts t.da
+goes_to ts (telegram.Var t) = is_for ts t.da
+goes_to ts (telegram.Fixed8 t) = is_for ts t.da
+goes_to ts (telegram.Token t) = false
+goes_to ts telegram.Ack = false
 
 -- the reply that a responder's answer to a message that ended at a moment makes
 abbrev pub reply_to : Params → turn.Station → ℕ → ℕ → Message → Option turn.Reply

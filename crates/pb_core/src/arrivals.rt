@@ -1,14 +1,15 @@
-ghost use Rattle.std.specs.Prelude.{◌≡◌, ◌<◌, ◌≤◌, ◌+◌, ◌∷◌, ◌++◌, [], length, map, IfSome};
-ghost use Rattle.std.specs.List.{All};
+ghost use Rattle.std.specs.Prelude.{◌≡◌, ◌+◌, ◌∷◌, ◌++◌, [], List, length, map, IfSome};
 ghost use Rattle.pb_turn.specs.Arrivals as turn;
-ghost use Rattle.pb_telegram.specs.Grammar.{sd1, sd2, ed, Spells};
+ghost use Rattle.pb_telegram.specs.Grammar.{sd1, sd2, ed, spelling};
+ghost use Rattle.pb_telegram.specs.Receiving.{StandsFor};
+ghost use Rattle.pb_telegram.specs.declared.chars.RxChar.{RxChar};
 ghost use Rattle.pb_telegram.specs.declared.chars.RxChar.TheVariants.{Good};
 ghost use Rattle.pb_telegram.specs.declared.telegrams.Telegram.TheVariants.{Short, Var};
 ghost use Rattle.pb_core.specs.Arrivals.{brings};
 
 use arrayvec::ArrayVec;
 use pb_telegram::{
-    Receiver, RxChar, ShortTelegram, Telegram, TokenTelegram, VarTelegram, fcs,
+    Receiver, RxChar, ShortTelegram, Telegram, TokenTelegram, VarTelegram, copy_octets, fcs,
     spelled_unit_is_the_telegrams, what_is_spelled_has_no_fault,
 };
 
@@ -31,10 +32,47 @@ const END: u8 = 0x16;
 pub fn whole_telegram(chars: &[RxChar]) -> Option<Telegram>
     ensures { brings result ≡ turn.arrival_of chars.now }
 {
-    match token_in(chars) {
-        Some(token) => Some(Telegram::Token(token)),
-        None => other_telegram(chars),
+    match chars {
+        [RxChar::Good(_), ..] => read_as_octets(chars),
+        _ => received(chars),
     }
+}
+
+/// The same, read as octets where no character is damaged.
+///
+/// Its call is never put in place: who hears noise would make room for octets.
+#[inline(never)]
+fn read_as_octets(chars: &[RxChar]) -> Option<Telegram>
+    ensures { brings result ≡ turn.arrival_of chars.now }
+{
+    match octets_of(chars) {
+        Some(octets) => spelled_telegram(&octets),
+        None => received(chars),
+    }
+}
+
+/// The telegram of octets that all came good. Most telegrams are read at once, and a receiver is asked about the others.
+///
+/// Its call is never put in place: who hears a token would make room for a unit.
+#[inline(never)]
+pub fn spelled_telegram(octets: &[u8]) -> Option<Telegram>
+    ensures { brings result ≡ turn.arrival_of (map Good octets.now) }
+{
+    spelled_unit_is_the_telegrams();
+    what_is_spelled_has_no_fault();
+    if let [ACKNOWLEDGEMENT] = octets {
+        return Some(Telegram::Ack);
+    }
+    if let Some(token) = spelled_token(octets) {
+        return Some(Telegram::Token(token));
+    }
+    if let Some(short) = short_in(octets) {
+        return Some(Telegram::Short(short));
+    }
+    if let Some(var) = var_in(octets) {
+        return Some(Telegram::Var(var));
+    }
+    received_octets(octets)
 }
 
 /// The token that characters spell, read at once: most telegrams are tokens.
@@ -51,6 +89,16 @@ pub fn token_in(chars: &[RxChar]) -> Option<TokenTelegram>
     }
 }
 
+/// The token that octets spell which all came good, likewise.
+pub fn spelled_token(octets: &[u8]) -> Option<TokenTelegram>
+    ensures { IfSome result (λ t. turn.Token t.da t.sa ≡ turn.arrival_of (map Good octets.now)) }
+{
+    match octets {
+        [TOKEN_START, da, sa] => token_of(*da, *sa),
+        _ => None,
+    }
+}
+
 /// The token with two addresses, where they are stations'.
 fn token_of(da: u8, sa: u8) -> Option<TokenTelegram>
     ensures { IfSome result (λ t. turn.Token t.da t.sa
@@ -62,49 +110,19 @@ fn token_of(da: u8, sa: u8) -> Option<TokenTelegram>
     None
 }
 
-/// The telegram of characters that `token_in` doesn't read. Most of these are read at once too, and a receiver is asked
-/// about the others.
-///
-/// Its call is never put in place: who hears a token would make room for a unit.
-#[inline(never)]
-fn other_telegram(chars: &[RxChar]) -> Option<Telegram>
-    ensures { brings result ≡ turn.arrival_of chars.now }
+/// The telegram without data that octets spell.
+fn short_in(octets: &[u8]) -> Option<ShortTelegram>
+    ensures { IfSome result (λ t. octets.now ≡ spelling (Short t)) }
 {
-    spelled_unit_is_the_telegrams();
-    what_is_spelled_has_no_fault();
-    if let [RxChar::Good(ACKNOWLEDGEMENT)] = chars {
-        return Some(Telegram::Ack);
-    }
-    if let Some(short) = short_in(chars) {
-        return Some(Telegram::Short(short));
-    }
-    if let Some(var) = var_in(chars) {
-        return Some(Telegram::Var(var));
-    }
-    received(chars)
-}
-
-/// The telegram without data that characters spell.
-fn short_in(chars: &[RxChar]) -> Option<ShortTelegram>
-    ensures { IfSome result (λ t. Spells chars.now (Short t)) }
-{
-    match chars {
-        [
-            RxChar::Good(SHORT_START),
-            RxChar::Good(da),
-            RxChar::Good(sa),
-            RxChar::Good(fc),
-            RxChar::Good(check),
-            RxChar::Good(END),
-        ] => short_of(*da, *sa, *fc, *check),
+    match octets {
+        [SHORT_START, da, sa, fc, check, END] => short_of(*da, *sa, *fc, *check),
         _ => None,
     }
 }
 
 /// The telegram with these octets between its delimiters, where they are a telegram's.
 fn short_of(da: u8, sa: u8, fc: u8, check: u8) -> Option<ShortTelegram>
-    ensures { IfSome result (λ t. Spells
-        (Good sd1 ∷ Good da ∷ Good sa ∷ Good fc ∷ Good check ∷ Good ed ∷ []) (Short t)) }
+    ensures { IfSome result (λ t. sd1 ∷ da ∷ sa ∷ fc ∷ check ∷ ed ∷ [] ≡ spelling (Short t)) }
 {
     if sa % 128 == 127 || fc >= 128 || check != fcs(da, sa, fc, &[]) {
         return None;
@@ -112,22 +130,22 @@ fn short_of(da: u8, sa: u8, fc: u8, check: u8) -> Option<ShortTelegram>
     Some(ShortTelegram { da, sa, fc })
 }
 
-/// The telegram with data of variable length that characters spell.
-fn var_in(chars: &[RxChar]) -> Option<VarTelegram>
-    ensures { IfSome result (λ t. Spells chars.now (Var t)) }
+/// The telegram with data of variable length that octets spell.
+fn var_in(octets: &[u8]) -> Option<VarTelegram>
+    ensures { IfSome result (λ t. octets.now ≡ spelling (Var t)) }
 {
-    match chars {
+    match octets {
         [
-            RxChar::Good(VAR_START),
-            RxChar::Good(length),
-            RxChar::Good(again),
-            RxChar::Good(VAR_START),
-            RxChar::Good(da),
-            RxChar::Good(sa),
-            RxChar::Good(fc),
+            VAR_START,
+            length,
+            again,
+            VAR_START,
+            da,
+            sa,
+            fc,
             unit @ ..,
-            RxChar::Good(check),
-            RxChar::Good(END),
+            check,
+            END,
         ] if length == again && usize::from(*length) == unit.len() + 3 => {
             var_of(*da, *sa, *fc, unit, *check)
         }
@@ -135,29 +153,33 @@ fn var_in(chars: &[RxChar]) -> Option<VarTelegram>
     }
 }
 
-/// The telegram with these octets and the characters of this unit between its delimiters, where they are a telegram's.
-fn var_of(da: u8, sa: u8, fc: u8, unit: &[RxChar], check: u8) -> Option<VarTelegram>
-    ensures { IfSome result (λ t. Spells (Good sd2 ∷ Good (length unit.now + 3) ∷ Good (length unit.now + 3)
-        ∷ Good sd2 ∷ Good da ∷ Good sa ∷ Good fc ∷ (unit.now ++ Good check ∷ Good ed ∷ [])) (Var t)) }
+/// The telegram with these octets and this unit between its delimiters, where they are a telegram's.
+fn var_of(da: u8, sa: u8, fc: u8, unit: &[u8], check: u8) -> Option<VarTelegram>
+    ensures { IfSome result (λ t. sd2 ∷ (length unit.now + 3) ∷ (length unit.now + 3) ∷ sd2 ∷ da ∷ sa ∷ fc
+        ∷ (unit.now ++ check ∷ ed ∷ []) ≡ spelling (Var t)) }
 {
     if sa % 128 == 127 || fc >= 128 || unit.is_empty() || unit.len() > 246 {
         return None;
     }
-    let unit = octets_of(unit)?;
-    if check != fcs(da, sa, fc, &unit) {
+    if check != fcs(da, sa, fc, unit) {
         return None;
     }
-    Some(VarTelegram { da, sa, fc, unit })
+    Some(VarTelegram {
+        da,
+        sa,
+        fc,
+        unit: copy_octets(unit),
+    })
 }
 
-/// The octets of the characters of a unit, where none is damaged; most are taken four at a time, for speed.
-#[inline(never)]
-fn octets_of(chars: &[RxChar]) -> Option<ArrayVec<u8, 246>>
-    requires { length chars.now ≤ 246 }
-    ensures good { IfSome result (λ octets. chars.now ≡ map Good octets.items) }
-    ensures len { IfSome result (λ octets. length octets.items ≡ length chars.now) }
-    ensures small { IfSome result (λ octets. All (λ octet. octet < 256) octets.items) }
+/// The octets of characters, where none is damaged and they are no more than the longest telegram's; most are taken four
+/// at a time, for speed.
+fn octets_of(chars: &[RxChar]) -> Option<ArrayVec<u8, 255>>
+    ensures { IfSome result (λ octets. chars.now ≡ map Good octets.items) }
 {
+    if chars.len() > 255 {
+        return None;
+    }
     let mut octets = ArrayVec::new();
     let mut left = chars;
     while let [
@@ -183,16 +205,35 @@ fn octets_of(chars: &[RxChar]) -> Option<ArrayVec<u8, 246>>
     Some(octets)
 }
 
-/// The telegram that a receiver makes of the characters.
+/// The telegram that a receiver makes of characters.
+#[inline(never)]
 fn received(chars: &[RxChar]) -> Option<Telegram>
     ensures { brings result ≡ turn.arrival_of chars.now }
 {
-    spelled_unit_is_the_telegrams();
-    what_is_spelled_has_no_fault();
     let mut receiver = Receiver::new();
     for char in chars {
         receiver.feed(*char);
     }
+    telegram_of(receiver)
+}
+
+/// The telegram that a receiver makes of octets that all came good.
+fn received_octets(octets: &[u8]) -> Option<Telegram>
+    ensures { brings result ≡ turn.arrival_of (map Good octets.now) }
+{
+    let mut receiver = Receiver::new();
+    for octet in octets {
+        receiver.feed(RxChar::Good(*octet));
+    }
+    telegram_of(receiver)
+}
+
+/// The telegram of the characters that came to a receiver.
+fn telegram_of(receiver: Receiver) -> Option<Telegram>
+    ensures { (chars : List RxChar) → StandsFor receiver chars → brings result ≡ turn.arrival_of chars }
+{
+    spelled_unit_is_the_telegrams();
+    what_is_spelled_has_no_fault();
     match receiver.end() {
         Ok(telegram) => Some(telegram),
         Err(_) => None,

@@ -16,7 +16,7 @@ mod sending;
 mod waiting;
 
 pub use addresses::Address;
-pub use arrivals::{token_in, whole_telegram};
+pub use arrivals::{spelled_telegram, spelled_token, token_in, whole_telegram};
 pub use cores::{Core, Kept};
 pub use cycles::{Cycles, copy_outcome, give_up};
 pub use lists::{entered, heard, readied, removed};
@@ -25,6 +25,3 @@ pub use past::Past;
 pub use replies::{Reply, StationType, answer, is_request, status_answer};
 pub use sending::SendBuffer;
 pub use waiting::Waiting;
-
-#[cfg(test)]
-mod tests;

@@ -7,7 +7,7 @@ ghost use Rattle.pb_core.specs.Arrivals.{is_request};
 ghost use Rattle.pb_core.specs.Clocks.{last_turn};
 ghost use Rattle.pb_turn.specs.Phases.{Phase};
 ghost use Rattle.pb_core.specs.Cores.{Becomes};
-ghost use Rattle.pb_core.specs.Replies.{reply_of, code_of, joins, fields_of, answer_to, answers};
+ghost use Rattle.pb_core.specs.Replies.{reply_of, code_of, joins, fields_of, answer_to, answers, goes_to};
 
 use crate::cores::Kept;
 use crate::moments::after;
@@ -64,6 +64,9 @@ impl StationType {
 /// The function code of Request FDL Status.
 const STATUS_CODE: u8 = 9;
 
+/// The destination address of what goes to all stations.
+const ALL: u8 = 127;
+
 /// The answer to a telegram that ended at a moment, if it is a request for the station's status.
 pub fn status_answer(
     kept: &Kept,
@@ -102,6 +105,9 @@ pub fn answer(
         kept.old phase kept.new phase }
 {
     let ts = kept.address.get();
+    if !goes_to(telegram, ts) {
+        return;
+    }
     let ready = reply_moment(params, at);
     let code = station_type.code();
     if let Some(answer) = kept.cycles.responder.answer(ts, code, telegram) {
@@ -110,6 +116,16 @@ pub fn answer(
             octets: write(&answer),
             joins: false,
         });
+    }
+}
+
+/// Whether a telegram goes to the station `ts`, or to all. Others are not read further.
+fn goes_to(telegram: &Telegram, ts: u8) -> bool
+    ensures { result ≡ goes_to ts telegram.now }
+{
+    match telegram.head() {
+        Some(head) => head.da % 128 == ts || head.da % 128 == ALL,
+        None => false,
     }
 }
 

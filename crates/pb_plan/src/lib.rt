@@ -9,6 +9,3 @@ mod walks;
 
 pub use steps::{Deed, Step};
 pub use walks::Walk;
-
-#[cfg(test)]
-mod tests;

@@ -10,6 +10,3 @@ mod turning;
 
 pub use reports::{Look, Report};
 pub use reviews::is_run;
-
-#[cfg(test)]
-mod tests;

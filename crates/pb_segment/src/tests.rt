@@ -1,4 +1,4 @@
-ghost use Rattle.std.specs.Prelude.{◌≡◌, ◌+◌, ◌<◌, ◌≤◌, length};
+ghost use Rattle.std.specs.Prelude.{◌≡◌, ◌+◌, ◌<◌, ◌≤◌, true, length};
 ghost use Rattle.pb_segment.specs.Origins.{IsNew};
 
 use crate::{
@@ -9,12 +9,21 @@ use arrayvec::ArrayVec;
 use pb_station::decide;
 use pb_timers::BusParams;
 use pb_world::{Event, Kind, TapSpec, World, WorldFault};
+use std::fmt::Debug;
 use std::marker::Brand;
 use std::process::Abort;
 use std::sync::Wait;
 use std::sync::ledger::{Blank, Ledger};
 use std::thread;
 use std::thread::Threads;
+
+/// Ends the test unless two values are equal. It is a call since the proof of a test that compares in place takes three times as
+/// long.
+fn equal<T: PartialEq + Debug>(rt: &impl Abort, left: &T, right: &T)
+    ensures { T.eq left.now right.now ≡ true }
+{
+    assert_eq!(rt; *left, *right);
+}
 
 /// A slot of 100, idle times 37 and 60, reply delay 11, no lag, rotation 10,000, GAP factor 10, highest
 /// address 5, one retry.
@@ -58,12 +67,12 @@ fn two_decisions<L: Ledger, R: AllocGlobal + Abort + Wait>(rt: &R, blank: Blank,
     );
     let mut second = seats.pop().expect(rt, "the second seat");
     let mut first = seats.pop().expect(rt, "the first seat");
-    assert_eq!(rt; (first.tap(), second.tap()), (0, 1));
+    equal(rt, &(first.tap(), second.tap()), &(0, 1));
     let before = segment
         .outlook(rt, alloc, &mut conductor)
         .expect(rt, "an outlook");
-    assert_eq!(rt; (before.place, before.now.get()), (0, 0));
-    assert_eq!(rt; (due(&before, 0), due(&before, 1)), (None, None));
+    equal(rt, &(before.place, before.now.get()), &(0, 0));
+    equal(rt, &(due(&before, 0), due(&before, 1)), &(None, None));
     assert!(rt; before.next_change.is_none());
     for (place, event) in [Event::Start(0), Event::Start(1), Event::Pass(800)]
         .into_iter()
@@ -72,7 +81,7 @@ fn two_decisions<L: Ledger, R: AllocGlobal + Abort + Wait>(rt: &R, blank: Blank,
         let receipt = segment
             .drive(rt, alloc, &mut conductor, event)
             .expect(rt, "an event");
-        assert_eq!(rt; receipt.place, place);
+        equal(rt, &receipt.place, &place);
     }
     let glance = segment.glance(rt, alloc, &first).expect(rt, "a glance");
     let again = segment.glance(rt, alloc, &first).expect(rt, "a glance");
@@ -83,25 +92,29 @@ fn two_decisions<L: Ledger, R: AllocGlobal + Abort + Wait>(rt: &R, blank: Blank,
     let receipt = segment
         .commit(rt, alloc, &mut first, decision)
         .expect(rt, "a turn");
-    assert_eq!(rt; receipt.place, 3);
+    equal(rt, &receipt.place, &3);
     assert!(rt; receipt.reply.spoke.is_some());
     let fault = segment.commit(rt, alloc, &mut first, stale).err();
     let expected = CommitFault::Stale { turns: 1, now: 800 };
-    assert_eq!(rt; fault, Some(expected));
+    equal(rt, &fault, &Some(expected));
     let fault = segment.commit(rt, alloc, &mut second, foreign).err();
-    assert_eq!(rt; fault, Some(CommitFault::WrongTap));
+    equal(rt, &fault, &Some(CommitFault::WrongTap));
     let fault = segment
         .drive(rt, alloc, &mut conductor, Event::Turn(0))
         .err();
-    assert_eq!(rt; fault, Some(CommitFault::WrongTap));
+    equal(rt, &fault, &Some(CommitFault::WrongTap));
     let glance = segment.glance(rt, alloc, &first).expect(rt, "a glance");
-    assert_eq!(rt; glance.station.phase().name(), "Claim");
+    equal(rt, &glance.station.phase().name(), &"Claim");
     let after = segment
         .outlook(rt, alloc, &mut conductor)
         .expect(rt, "an outlook");
-    assert_eq!(rt; (after.place, after.now.get()), (4, 800));
-    assert_eq!(rt; (due(&after, 0), due(&after, 1)), (Some(870), Some(1000)));
-    assert_eq!(rt; after.next_change.map(|m| m.get()), Some(801));
+    equal(rt, &(after.place, after.now.get()), &(4, 800));
+    equal(
+        rt,
+        &(due(&after, 0), due(&after, 1)),
+        &(Some(870), Some(1000)),
+    );
+    equal(rt, &after.next_change.map(|m| m.get()), &Some(801));
     seats.push(first).expect(rt, "room");
     closes(rt, segment, conductor, seats, second);
 }
@@ -117,17 +130,17 @@ fn closes<L: Ledger, R: Abort>(
     let Some(mut back) = segment.close(conductor, seats).err() else {
         panic!(rt; "closed without a seat");
     };
-    assert_eq!(rt; back.fault, CloseFault::MissingSeat);
+    equal(rt, &back.fault, &CloseFault::MissingSeat);
     back.seats.push(last).expect(rt, "room");
     let Ok(report) = back.segment.close(back.conductor, back.seats) else {
         panic!(rt; "not closed");
     };
-    assert_eq!(rt; report.history().len(), 4);
-    assert_eq!(rt; report.turns(), [1, 0].as_slice());
-    assert_eq!(rt; report.trace().len(), 1);
+    equal(rt, &report.history().len(), &4);
+    equal(rt, &report.turns(), &[1, 0].as_slice());
+    equal(rt, &report.trace().len(), &1);
     let (event, reply) = report.history().at(3).expect(rt, "an event");
     assert!(rt; *event == Event::Turn(0));
-    assert_eq!(rt; reply.now.get(), 800);
+    equal(rt, &reply.now.get(), &800);
     assert!(rt; report.history().at(4).is_none());
 }
 
@@ -158,15 +171,15 @@ fn full_history<L: Ledger, R: AllocGlobal + Abort + Wait>(rt: &R, blank: Blank, 
     let fault = segment
         .drive(rt, alloc, &mut conductor, Event::Pass(0))
         .err();
-    assert_eq!(rt; fault, Some(CommitFault::World(WorldFault::ZeroTime)));
+    equal(rt, &fault, &Some(CommitFault::World(WorldFault::ZeroTime)));
     let fault = segment
         .drive(rt, alloc, &mut conductor, Event::Pass(1))
         .err();
-    assert_eq!(rt; fault, Some(CommitFault::HistoryFull));
+    equal(rt, &fault, &Some(CommitFault::HistoryFull));
     let glance = segment.glance(rt, alloc, &seat).expect(rt, "a glance");
     let decision = decide(alloc, glance).expect(rt, "a decision");
     let fault = segment.commit(rt, alloc, &mut seat, decision).err();
-    assert_eq!(rt; fault, Some(CommitFault::HistoryFull));
+    equal(rt, &fault, &Some(CommitFault::HistoryFull));
 }
 
 #[test]
@@ -208,9 +221,9 @@ fn reports_passes(rt: &impl Abort, history: &History) {
         clock = clock.wrapping_add(bits);
         let (event, reply) = history.at(place).expect(rt, "an event");
         assert!(rt; *event == Event::Pass(bits), "{place}");
-        assert_eq!(rt; reply.now.get(), clock);
+        equal(rt, &reply.now.get(), &clock);
     }
-    assert_eq!(rt; history.len() as u64, PASSES);
+    equal(rt, &(history.len() as u64), &PASSES);
 }
 
 #[test]
@@ -250,8 +263,8 @@ fn three_threads<L: Ledger + Send + Sync, R: AllocGlobal + Abort + Threads + Wai
     let Ok(report) = segment.close(conductor, seats) else {
         panic!(rt; "not closed");
     };
-    assert_eq!(rt; report.turns(), [ACCEPTED, ACCEPTED].as_slice());
-    assert_eq!(rt; report.history().len(), 2 + 3 * ACCEPTED);
+    equal(rt, &report.turns(), &[ACCEPTED, ACCEPTED].as_slice());
+    equal(rt, &report.history().len(), &(2 + 3 * ACCEPTED));
 }
 
 /// A thread for each seat takes turns, while time passes in this one; the seats come back in their order.
@@ -341,7 +354,11 @@ fn refused_once<L: Ledger, R: AllocGlobal + Abort + Print + Wait>(
         .into_iter()
         .enumerate()
     {
-        assert_eq!(rt; driven(rt, &segment, &mut conductor, event).place, place);
+        equal(
+            rt,
+            &driven(rt, &segment, &mut conductor, event).place,
+            &place,
+        );
     }
     let receipt = match turn(rt, &segment, &mut first) {
         Some(receipt) => receipt,
@@ -350,10 +367,14 @@ fn refused_once<L: Ledger, R: AllocGlobal + Abort + Print + Wait>(
             turn(rt, &segment, &mut first).expect(rt, "a turn")
         }
     };
-    assert_eq!(rt; receipt.place, 3);
+    equal(rt, &receipt.place, &3);
     let after = shown(rt, &segment, &mut conductor);
-    assert_eq!(rt; (after.place, after.now.get()), (4, 800));
-    assert_eq!(rt; (due(&after, 0), due(&after, 1)), (Some(870), Some(1000)));
+    equal(rt, &(after.place, after.now.get()), &(4, 800));
+    equal(
+        rt,
+        &(due(&after, 0), due(&after, 1)),
+        &(Some(870), Some(1000)),
+    );
     if seats.push(first).is_err() {
         refused(rt);
         return;
@@ -374,7 +395,7 @@ fn driven<L: Ledger, R: AllocGlobal + Abort + Print + Wait>(
     match segment.drive(rt, rt.alloc(), conductor, event.copy()) {
         Ok(receipt) => receipt,
         Err(fault) => {
-            assert_eq!(rt; fault, CommitFault::World(WorldFault::NoMemory));
+            equal(rt, &fault, &CommitFault::World(WorldFault::NoMemory));
             refused(rt);
             segment
                 .drive(rt, rt.alloc(), conductor, event)
@@ -391,7 +412,7 @@ fn shown<L: Ledger, R: AllocGlobal + Abort + Print + Wait>(
     match segment.outlook(rt, rt.alloc(), conductor) {
         Ok(outlook) => outlook,
         Err(fault) => {
-            assert_eq!(rt; fault, GlanceFault::NoMemory);
+            equal(rt, &fault, &GlanceFault::NoMemory);
             refused(rt);
             segment
                 .outlook(rt, rt.alloc(), conductor)
@@ -411,7 +432,7 @@ fn turn<L: Ledger, R: AllocGlobal + Abort + Wait>(
     match segment.commit(rt, rt.alloc(), seat, decision) {
         Ok(receipt) => Some(receipt),
         Err(fault) => {
-            assert_eq!(rt; fault, CommitFault::World(WorldFault::NoMemory));
+            equal(rt, &fault, &CommitFault::World(WorldFault::NoMemory));
             None
         }
     }

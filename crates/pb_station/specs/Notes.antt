@@ -1,26 +1,37 @@
--- Notes of marks, whose characters stand apart.
-use Rattle.std.specs.Prelude.{◌≡◌, ◌≤◌, ℕ, List, [], ◌∷◌, length, take, drop}
+-- Notes of marks, whose characters stand apart: octets that came good as octets, and other characters as such.
+use Rattle.std.specs.Prelude.{◌≡◌, ◌≤◌, ℕ, List, [], ◌∷◌, length, map, take, drop}
 use Rattle.pb_telegram.specs.declared.chars.RxChar.{RxChar}
+use Rattle.pb_telegram.specs.declared.chars.RxChar.TheVariants.{Good}
 use Rattle.pb_turn.specs.Marks.{Mark, Begin, End}
 use Rattle.pb_station.specs.declared.notes.Note.{Note}
 use Rattle.pb_station.specs.declared.notes.Note.TheVariants as note
 
--- how many characters a mark brings
-abbrev pub brings : Note → ℕ
-brings (note.Begin at seen) = 0
-brings (note.End at seen count) = count
+-- how many characters a mark brings, apart from octets that came good
+abbrev pub chars_of : Note → ℕ
+chars_of (note.Begin at seen) = 0
+chars_of (note.End at seen count) = count
+chars_of (note.GoodEnd at seen count) = 0
 
--- the mark that a note stands for, with its characters
-abbrev pub mark_with : Note → List RxChar → Mark
-mark_with (note.Begin at seen) chars = Begin at seen
-mark_with (note.End at seen count) chars = End at seen chars
+-- how many octets it brings that all came good
+abbrev pub octets_of : Note → ℕ
+octets_of (note.Begin at seen) = 0
+octets_of (note.End at seen count) = 0
+octets_of (note.GoodEnd at seen count) = count
 
--- the marks that notes stand for, with the characters of all of them behind one another
-abbrev pub marks_in : List Note → List RxChar → List Mark
-marks_in [] chars = []
-marks_in (n ∷ ns) chars = mark_with n (take (brings n) chars) ∷ marks_in ns (drop (brings n) chars)
+-- the mark that a note stands for, with its characters and its octets
+abbrev pub mark_with : Note → List RxChar → List ℕ → Mark
+mark_with (note.Begin at seen) chars octets = Begin at seen
+mark_with (note.End at seen count) chars octets = End at seen chars
+mark_with (note.GoodEnd at seen count) chars octets = End at seen (map Good octets)
 
--- some characters are those of the notes, each of which brings few enough
-abbrev pub AreOf : List Note → List RxChar → Type 0
-AreOf [] chars = chars ≡ []
-AreOf (n ∷ ns) chars = (brings n ≤ length chars) × (brings n ≤ 255) × AreOf ns (drop (brings n) chars)
+-- the marks that notes stand for, with the characters of all of them behind one another, and so their octets
+abbrev pub marks_in : List Note → List RxChar → List ℕ → List Mark
+marks_in [] chars octets = []
+marks_in (n ∷ ns) chars octets = mark_with n (take (chars_of n) chars) (take (octets_of n) octets)
+    ∷ marks_in ns (drop (chars_of n) chars) (drop (octets_of n) octets)
+
+-- some characters and octets are those of the notes, each of which brings few enough
+abbrev pub AreOf : List Note → List RxChar → List ℕ → Type 0
+AreOf [] chars octets = (chars ≡ []) × (octets ≡ [])
+AreOf (n ∷ ns) chars octets = (chars_of n ≤ length chars) × (chars_of n ≤ 255) × (octets_of n ≤ length octets) × (octets_of n ≤ 255)
+    × AreOf ns (drop (chars_of n) chars) (drop (octets_of n) octets)

@@ -1,7 +1,6 @@
-ghost use Rattle.std.specs.Prelude.{◌≡◌, ◌+◌, ◌≤◌, ◌++◌, List, IsTrue, ◌↔◌, IfOk, length, map};
+ghost use Rattle.std.specs.Prelude.{◌≡◌, ◌+◌, ◌≤◌, ◌++◌, ℕ, List, IsTrue, ◌↔◌, IfOk, length, map};
 ghost use Rattle.std.specs.Vec.{vec_capacity};
 ghost use Rattle.pb_telegram.specs.declared.chars.RxChar.{RxChar};
-ghost use Rattle.pb_telegram.specs.declared.chars.RxChar.TheVariants.{Good};
 ghost use Rattle.pb_turn.specs.Stations.{first_seen};
 ghost use Rattle.pb_station.specs.MarkViews.{mark_of};
 ghost use Rattle.pb_station.specs.Notes.{AreOf, marks_in};
@@ -20,11 +19,13 @@ pub const MARK_LIMIT: usize = 64;
 const CHAR_LIMIT: usize = 16_320;
 
 /// The unread marks of a tap, with room for as many as there may be: a list of marks in every clause. The characters of all
-/// marks stand behind one another, so that nothing is moved but what a mark brings.
+/// marks stand behind one another, so that nothing is moved but what a mark brings, and apart from those the octets of
+/// marks whose characters all came good, which are most.
 #[derive(Debug, Drop)]
 pub struct Inbox {
     notes: Vec<Note>,
     chars: Vec<RxChar>,
+    octets: Vec<u8>,
 }
 
 impl Model for Inbox {
@@ -35,17 +36,19 @@ impl Model for Inbox {
 
     ghost Value = { List model.Mark };
 
-    ghost view = { λ b. marks_in b.notes.items b.chars.items };
+    ghost view = { λ b. marks_in b.notes.items b.chars.items b.octets.items };
 
     ghost invariant = { λ b. (64 ≤ vec_capacity b.notes) × (length b.notes.items ≤ 64)
-        × (16320 ≤ vec_capacity b.chars) × AreOf b.notes.items b.chars.items };
+        × (16320 ≤ vec_capacity b.chars) × (16320 ≤ vec_capacity b.octets)
+        × AreOf b.notes.items b.chars.items b.octets.items };
 }
 
-/// Notes of marks, with the characters of them all.
+/// Notes of marks, with the characters and the octets of them all.
 #[derive(Clone, Copy, Debug)]
 pub(crate) struct Unread<'a> {
     pub(crate) notes: &'a [Note],
     pub(crate) chars: &'a [RxChar],
+    pub(crate) octets: &'a [u8],
 }
 
 impl Inbox {
@@ -62,7 +65,12 @@ impl Inbox {
     {
         let notes = Vec::with_capacity(alloc, MARK_LIMIT)?;
         let chars = Vec::with_capacity(alloc, CHAR_LIMIT)?;
-        Ok(Inbox { notes, chars })
+        let octets = Vec::with_capacity(alloc, CHAR_LIMIT)?;
+        Ok(Inbox {
+            notes,
+            chars,
+            octets,
+        })
     }
 
     /// Activity has begun at a moment, which a mark says behind the others.
@@ -93,8 +101,8 @@ impl Inbox {
         requires fits { length octets.now ≤ 255 }
         ensures { self.new ≡ self.old ++ model.End at seen (map Good octets.now) ∷ [] }
     {
-        push_good(&mut self.chars, octets);
-        self.notes.push_reserved(Note::End {
+        push_octets(&mut self.octets, octets);
+        self.notes.push_reserved(Note::GoodEnd {
             at,
             seen,
             count: octets.len(),
@@ -107,6 +115,7 @@ impl Inbox {
     {
         self.notes.clear();
         self.chars.clear();
+        self.octets.clear();
     }
 
     /// How many marks have not been read.
@@ -121,14 +130,14 @@ impl Inbox {
     pub fn copy_marks(&self, alloc: Global) -> Result<Vec<Mark>, AllocError>
         ensures { IfOk result (λ v. map mark_of v.items ≡ self.now) }
     {
-        copy_all(alloc, &self.notes, &self.chars)
+        copy_all(alloc, &self.notes, &self.chars, &self.octets)
     }
 
     /// Whether these are its marks.
     pub fn are(&self, marks: &[Mark]) -> bool
         ensures { IsTrue result ↔ (map mark_of marks.now ≡ self.now) }
     {
-        are_noted(&self.notes, &self.chars, marks)
+        are_noted(&self.notes, &self.chars, &self.octets, marks)
     }
 
     /// When the first mark was delivered.
@@ -140,19 +149,21 @@ impl Inbox {
 
     /// The marks that have not been read, the oldest first.
     pub(crate) fn unread(&self) -> Unread<'_>
-        ensures marks { marks_in result.notes.now result.chars.now ≡ self.now }
-        ensures of { AreOf result.notes.now result.chars.now }
+        ensures marks { marks_in result.notes.now result.chars.now result.octets.now ≡ self.now }
+        ensures of { AreOf result.notes.now result.chars.now result.octets.now }
     {
         Unread {
             notes: &self.notes,
             chars: &self.chars,
+            octets: &self.octets,
         }
     }
 }
 
 /// When the first of some marks was delivered.
 fn first_seen(notes: &[Note]) -> Option<Moment>
-    ensures { (chars : List RxChar) → result ≡ first_seen (marks_in notes.now chars) }
+    ensures { (chars : List RxChar) (octets : List ℕ)
+        → result ≡ first_seen (marks_in notes.now chars octets) }
 {
     match notes {
         [note, ..] => Some(note.seen()),
@@ -169,47 +180,56 @@ fn push_all(chars: &mut Vec<RxChar>, more: &[RxChar])
     chars.extend_from_slice(more).unwrap();
 }
 
-/// The characters of octets that came good stand behind others, with room for them.
-fn push_good(chars: &mut Vec<RxChar>, octets: &[u8])
-    requires { length chars.old.items + length octets.now ≤ vec_capacity chars.old }
-    ensures items { chars.new.items ≡ chars.old.items ++ map Good octets.now }
-    ensures room { vec_capacity chars.new ≡ vec_capacity chars.old }
+/// Octets stand behind others, with room for them.
+fn push_octets(octets: &mut Vec<u8>, more: &[u8])
+    requires { length octets.old.items + length more.now ≤ vec_capacity octets.old }
+    ensures items { octets.new.items ≡ octets.old.items ++ more.now }
+    ensures room { vec_capacity octets.old ≤ vec_capacity octets.new }
 {
-    for octet in octets {
-        chars.push_reserved(RxChar::Good(*octet));
-    }
+    octets.extend_from_slice(more).unwrap();
 }
 
 /// The marks themselves. The fault: memory was refused.
-fn copy_all(alloc: Global, notes: &[Note], chars: &[RxChar]) -> Result<Vec<Mark>, AllocError>
-    requires { AreOf notes.now chars.now }
-    ensures { IfOk result (λ v. map mark_of v.items ≡ marks_in notes.now chars.now) }
+fn copy_all(
+    alloc: Global,
+    notes: &[Note],
+    chars: &[RxChar],
+    octets: &[u8],
+) -> Result<Vec<Mark>, AllocError>
+    requires { AreOf notes.now chars.now octets.now }
+    ensures { IfOk result (λ v. map mark_of v.items ≡ marks_in notes.now chars.now octets.now) }
 {
     let mut copies = Vec::with_capacity(alloc, notes.len())?;
     let mut left = chars;
+    let mut good_left = octets;
     for note in notes {
-        let (brought, behind) = left.split_at(note.brings());
-        copies.push_reserved(note.mark(brought));
+        let (brought, behind) = note.split_chars(left);
+        let (good, good_behind) = note.split_octets(good_left);
+        copies.push_reserved(note.mark(brought, good));
         left = behind;
+        good_left = good_behind;
     }
     Ok(copies)
 }
 
 /// Whether marks are those that are noted.
-fn are_noted(notes: &[Note], chars: &[RxChar], marks: &[Mark]) -> bool
-    requires { AreOf notes.now chars.now }
-    ensures { IsTrue result ↔ (map mark_of marks.now ≡ marks_in notes.now chars.now) }
+fn are_noted(notes: &[Note], chars: &[RxChar], octets: &[u8], marks: &[Mark]) -> bool
+    requires { AreOf notes.now chars.now octets.now }
+    ensures { IsTrue result ↔ (map mark_of marks.now ≡ marks_in notes.now chars.now octets.now) }
 {
     if notes.len() != marks.len() {
         return false;
     }
     let mut left = chars;
+    let mut good_left = octets;
     for (place, note) in notes.iter().enumerate() {
-        let (brought, behind) = left.split_at(note.brings());
-        if !note.is_noted(brought, &marks[place]) {
+        let (brought, behind) = note.split_chars(left);
+        let (good, good_behind) = note.split_octets(good_left);
+        if !note.is_noted(brought, good, &marks[place]) {
             return false;
         }
         left = behind;
+        good_left = good_behind;
     }
     true
 }

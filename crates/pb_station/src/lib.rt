@@ -20,6 +20,3 @@ pub use marks::Mark;
 pub use pb_core::SendBuffer;
 pub use spares::Spares;
 pub use stations::{NoMemory, Station};
-
-#[cfg(test)]
-mod tests;

@@ -1,4 +1,5 @@
-ghost use Rattle.std.specs.Prelude.{◌≡◌, ◌≤◌, length};
+ghost use Rattle.std.specs.Prelude.{◌≡◌, ◌≤◌, length, map};
+ghost use Rattle.pb_telegram.specs.declared.chars.RxChar.TheVariants.{Good};
 ghost use Rattle.pb_turn.specs.Marks.{moment_of, seen_at};
 ghost use Rattle.pb_station.specs.MarkViews.{mark_of};
 
@@ -73,4 +74,16 @@ pub fn copy_chars(chars: &[RxChar]) -> ArrayVec<RxChar, 255>
     let mut copy = ArrayVec::new();
     copy.try_extend_from_slice(chars).unwrap();
     copy
+}
+
+/// The characters of octets that came good.
+pub(crate) fn good_chars(octets: &[u8]) -> ArrayVec<RxChar, 255>
+    requires { length octets.now ≤ 255 }
+    ensures { result.items ≡ map Good octets.now }
+{
+    let mut chars = ArrayVec::new();
+    for octet in octets {
+        chars.push(RxChar::Good(*octet));
+    }
+    chars
 }

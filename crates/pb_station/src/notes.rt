@@ -1,11 +1,12 @@
 //! What is noted of marks whose characters stand apart.
 
-ghost use Rattle.std.specs.Prelude.{◌≡◌, ◌≤◌, [], IsTrue, ◌↔◌, length};
+ghost use Rattle.std.specs.Prelude.{◌≡◌, ◌≤◌, [], IsTrue, ◌↔◌, length, map, take, drop};
+ghost use Rattle.pb_telegram.specs.declared.chars.RxChar.TheVariants.{Good};
 ghost use Rattle.pb_turn.specs.Marks.{moment_of, seen_at};
 ghost use Rattle.pb_station.specs.MarkViews.{mark_of};
-ghost use Rattle.pb_station.specs.Notes.{brings, mark_with};
+ghost use Rattle.pb_station.specs.Notes.{chars_of, octets_of, mark_with};
 
-use crate::marks::{Mark, copy_chars};
+use crate::marks::{Mark, copy_chars, good_chars};
 use pb_telegram::RxChar;
 use pb_timers::Moment;
 
@@ -28,42 +29,82 @@ pub(crate) enum Note {
         /// How many characters it has brought.
         count: usize,
     },
+    /// Activity has ended, and all characters that it has brought came good.
+    GoodEnd {
+        /// When it ended.
+        at: Moment,
+        /// When the mark was delivered.
+        seen: Moment,
+        /// How many octets it has brought.
+        count: usize,
+    },
 }
 
 impl Note {
-    /// How many characters the mark brings.
-    pub(crate) fn brings(&self) -> usize
-        ensures { result ≡ brings self.now }
+    /// The characters that the mark brings, of those that are left, and those behind them.
+    #[inline(always)]
+    pub(crate) fn split_chars<'a>(&self, left: &'a [RxChar]) -> (&'a [RxChar], &'a [RxChar])
+        requires { chars_of self.now ≤ length left.now }
+        ensures brought { result.0.now ≡ take (chars_of self.now) left.now }
+        ensures behind { result.1.now ≡ drop (chars_of self.now) left.now }
+    {
+        left.split_at(self.chars())
+    }
+
+    /// The octets that it brings, of those that are left, and those behind them.
+    #[inline(always)]
+    pub(crate) fn split_octets<'a>(&self, left: &'a [u8]) -> (&'a [u8], &'a [u8])
+        requires { octets_of self.now ≤ length left.now }
+        ensures brought { result.0.now ≡ take (octets_of self.now) left.now }
+        ensures behind { result.1.now ≡ drop (octets_of self.now) left.now }
+    {
+        left.split_at(self.octets())
+    }
+
+    /// How many characters it brings, apart from octets that came good.
+    fn chars(&self) -> usize
+        ensures { result ≡ chars_of self.now }
     {
         match self {
-            Note::Begin { .. } => 0,
             Note::End { count, .. } => *count,
+            Note::Begin { .. } | Note::GoodEnd { .. } => 0,
+        }
+    }
+
+    /// How many octets it brings that all came good.
+    fn octets(&self) -> usize
+        ensures { result ≡ octets_of self.now }
+    {
+        match self {
+            Note::GoodEnd { count, .. } => *count,
+            Note::Begin { .. } | Note::End { .. } => 0,
         }
     }
 
     /// The mark's own moment.
     pub(crate) fn moment(&self) -> Moment
-        ensures { result ≡ moment_of (mark_with self.now []) }
+        ensures { result ≡ moment_of (mark_with self.now [] []) }
     {
         match self {
-            Note::Begin { at, .. } | Note::End { at, .. } => *at,
+            Note::Begin { at, .. } | Note::End { at, .. } | Note::GoodEnd { at, .. } => *at,
         }
     }
 
     /// When the mark was delivered.
     pub(crate) fn seen(&self) -> Moment
-        ensures { result ≡ seen_at (mark_with self.now []) }
+        ensures { result ≡ seen_at (mark_with self.now [] []) }
     {
         match self {
-            Note::Begin { seen, .. } | Note::End { seen, .. } => *seen,
+            Note::Begin { seen, .. } | Note::End { seen, .. } | Note::GoodEnd { seen, .. } => *seen,
         }
     }
 
-    /// The mark with its characters.
+    /// The mark with its characters, and with its octets.
     #[inline(always)]
-    pub(crate) fn mark(&self, chars: &[RxChar]) -> Mark
-        requires { length chars.now ≤ 255 }
-        ensures { mark_of result ≡ mark_with self.now chars.now }
+    pub(crate) fn mark(&self, chars: &[RxChar], octets: &[u8]) -> Mark
+        requires chars { length chars.now ≤ 255 }
+        requires octets { length octets.now ≤ 255 }
+        ensures { mark_of result ≡ mark_with self.now chars.now octets.now }
     {
         match self {
             Note::Begin { at, seen } => Mark::Begin {
@@ -75,12 +116,17 @@ impl Note {
                 seen: *seen,
                 chars: copy_chars(chars),
             },
+            Note::GoodEnd { at, seen, .. } => Mark::End {
+                at: *at,
+                seen: *seen,
+                chars: good_chars(octets),
+            },
         }
     }
 
-    /// Whether a mark is this one with some characters.
-    pub(crate) fn is_noted(&self, chars: &[RxChar], mark: &Mark) -> bool
-        ensures { IsTrue result ↔ (mark_of mark.now ≡ mark_with self.now chars.now) }
+    /// Whether a mark is this one with some characters, and with some octets.
+    pub(crate) fn is_noted(&self, chars: &[RxChar], octets: &[u8], mark: &Mark) -> bool
+        ensures { IsTrue result ↔ (mark_of mark.now ≡ mark_with self.now chars.now octets.now) }
     {
         match (self, mark) {
             (
@@ -98,6 +144,14 @@ impl Note {
                     chars: brought,
                 },
             ) => at == ended && seen == told && are_same(chars, brought),
+            (
+                Note::GoodEnd { at, seen, .. },
+                Mark::End {
+                    at: ended,
+                    seen: told,
+                    chars: brought,
+                },
+            ) => at == ended && seen == told && are_good(octets, brought),
             _ => false,
         }
     }
@@ -108,4 +162,26 @@ fn are_same(one: &[RxChar], other: &[RxChar]) -> bool
     ensures { IsTrue result ↔ (one.now ≡ other.now) }
 {
     one == other
+}
+
+/// Whether characters are those of octets that came good.
+fn are_good(octets: &[u8], chars: &[RxChar]) -> bool
+    ensures { IsTrue result ↔ (chars.now ≡ map Good octets.now) }
+{
+    if octets.len() != chars.len() {
+        return false;
+    }
+    for (place, octet) in octets.iter().enumerate() {
+        if !is_good(chars[place], *octet) {
+            return false;
+        }
+    }
+    true
+}
+
+/// Whether a character is that of an octet that came good.
+fn is_good(char: RxChar, octet: u8) -> bool
+    ensures { IsTrue result ↔ (char ≡ Good octet) }
+{
+    char == RxChar::Good(octet)
 }

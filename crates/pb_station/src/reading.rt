@@ -12,10 +12,11 @@ ghost use Rattle.pb_core.specs.Clocks.{last_turn};
 ghost use Rattle.pb_core.specs.Cores.{Becomes};
 ghost use Rattle.pb_station.specs.MarkViews.{mark_of, AreOver, AllOver};
 ghost use Rattle.pb_station.specs.Notes.{mark_with, marks_in, AreOf};
+ghost use Rattle.pb_telegram.specs.declared.chars.RxChar.TheVariants.{Good};
 
 use crate::marks::Mark;
 use crate::notes::Note;
-use pb_core::{Kept, token_in, whole_telegram};
+use pb_core::{Kept, spelled_telegram, spelled_token, token_in, whole_telegram};
 use pb_phases::{after_timer, begun, ended};
 use pb_telegram::{RxChar, Telegram, TokenTelegram};
 use pb_timers::{BusParams, Moment};
@@ -28,21 +29,25 @@ pub(crate) fn after_notes(
     params: &BusParams,
     notes: &[Note],
     chars: &[RxChar],
+    octets: &[u8],
     now: Moment,
 ) -> Phase
     requires clock { now ≤ last_turn }
-    requires over { AllOver now (marks_in notes.now chars.now) }
-    requires of { AreOf notes.now chars.now }
-    ensures { Becomes (λ s. after_marks params.now s (marks_in notes.now chars.now))
+    requires over { AllOver now (marks_in notes.now chars.now octets.now) }
+    requires of { AreOf notes.now chars.now octets.now }
+    ensures { Becomes (λ s. after_marks params.now s (marks_in notes.now chars.now octets.now))
         kept.old (phase_of phase) kept.new (phase_of result) }
 {
     let mut current = phase;
     let mut left = chars;
+    let mut good_left = octets;
     for note in notes {
-        let (brought, behind) = left.split_at(note.brings());
+        let (brought, behind) = note.split_chars(left);
+        let (good, good_behind) = note.split_octets(good_left);
         let timed = after_timer(current, kept, params, note.moment());
-        current = after_note(timed, kept, params, note, brought);
+        current = after_note(timed, kept, params, note, brought, good);
         left = behind;
+        good_left = good_behind;
     }
     current
 }
@@ -80,7 +85,7 @@ fn after_mark(phase: Phase, kept: &mut Kept, params: &BusParams, mark: &Mark) ->
     }
 }
 
-/// The station after a mark that is noted, with the characters that it brings.
+/// The station after a mark that is noted, with the characters and the octets that it brings.
 #[inline(always)]
 fn after_note(
     phase: Phase,
@@ -88,14 +93,16 @@ fn after_note(
     params: &BusParams,
     note: &Note,
     chars: &[RxChar],
+    octets: &[u8],
 ) -> Phase
-    requires { moment_of (mark_with note.now chars.now) ≤ last_turn }
-    ensures { Becomes (λ s. after_mark params.now s (mark_with note.now chars.now))
+    requires { moment_of (mark_with note.now chars.now octets.now) ≤ last_turn }
+    ensures { Becomes (λ s. after_mark params.now s (mark_with note.now chars.now octets.now))
         kept.old (phase_of phase) kept.new (phase_of result) }
 {
     match note {
         Note::Begin { at, .. } => after_begin(phase, kept, *at),
         Note::End { at, .. } => after_end(phase, kept, params, *at, chars),
+        Note::GoodEnd { at, .. } => after_good_end(phase, kept, params, *at, octets),
     }
 }
 
@@ -131,6 +138,28 @@ fn after_end(
     }
 }
 
+/// The station after activity has ended at a moment and brought octets that all came good; one that is offline notices
+/// nothing.
+fn after_good_end(
+    phase: Phase,
+    kept: &mut Kept,
+    params: &BusParams,
+    at: Moment,
+    octets: &[u8],
+) -> Phase
+    requires { at ≤ last_turn }
+    ensures { (seen : ℕ) → Becomes (λ s. after_mark params.now s (End at seen (map Good octets.now)))
+        kept.old (phase_of phase) kept.new (phase_of result) }
+{
+    if is_offline(&phase) {
+        return phase;
+    }
+    match spelled_token(octets) {
+        Some(token) => after_token(phase, kept, params, at, token),
+        None => after_other_octets(phase, kept, params, at, octets),
+    }
+}
+
 /// The station after activity has ended at a moment and brought a token, as most activity does.
 #[inline(never)]
 fn after_token(
@@ -147,8 +176,8 @@ fn after_token(
     ended(phase, kept, params, at, &Some(Telegram::Token(token)))
 }
 
-/// The station after activity has ended at a moment and brought anything. It is a call of its own since the room of the longest
-/// telegram is cleared for it.
+/// The station after activity has ended at a moment and brought any characters. It is a call of its own since the room of the
+/// longest telegram is cleared for it.
 #[inline(never)]
 fn after_others(
     phase: Phase,
@@ -162,6 +191,22 @@ fn after_others(
         kept.old (phase_of phase) kept.new (phase_of result) }
 {
     ended(phase, kept, params, at, &whole_telegram(chars))
+}
+
+/// The station after activity has ended at a moment and brought any octets that all came good, likewise.
+#[inline(never)]
+fn after_other_octets(
+    phase: Phase,
+    kept: &mut Kept,
+    params: &BusParams,
+    at: Moment,
+    octets: &[u8],
+) -> Phase
+    requires { at ≤ last_turn }
+    ensures { Becomes (λ s. ended params.now s at (arrival_of (map Good octets.now)))
+        kept.old (phase_of phase) kept.new (phase_of result) }
+{
+    ended(phase, kept, params, at, &spelled_telegram(octets))
 }
 
 fn is_offline(phase: &Phase) -> bool

@@ -107,8 +107,12 @@ fn settle(phase: Phase, kept: &mut Kept, params: &BusParams, inbox: &Inbox, now:
     ensures { Becomes (λ s. settled params.now s inbox.now now)
         kept.old (phase_of phase) kept.new (phase_of result) }
 {
-    let Unread { notes, chars } = inbox.unread();
-    let read = after_notes(phase, kept, params, notes, chars, now);
+    let Unread {
+        notes,
+        chars,
+        octets,
+    } = inbox.unread();
+    let read = after_notes(phase, kept, params, notes, chars, octets, now);
     after_timer(read, kept, params, after(now, 1))
 }
 

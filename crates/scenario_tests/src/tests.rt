@@ -1,3 +1,6 @@
+mod reviews;
+mod walks;
+
 ghost use Rattle.std.specs.Prelude.{◌≡◌, true};
 
 use pb_cycles::Service;

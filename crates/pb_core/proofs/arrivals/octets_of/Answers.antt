@@ -1,7 +1,5 @@
-use Rattle.std.proofs.Common.{◌≡◌, ◌<◌, ◌≤◌, ◌-◌, ◌∷◌, ◌++◌, [], length, map, get_or, take, drop, ℕ, List, arith, ap}
-use Rattle.std.specs.List.{All}
+use Rattle.std.proofs.Common.{◌≡◌, ◌≤◌, ◌-◌, ◌∷◌, ◌++◌, [], length, map, get_or, take, drop, ℕ, List, arith, ap}
 use Rattle.std.proofs.lemmas.Grind.{common_steps}
-use Rattle.std.proofs.lemmas.List.Elements.{All-push}
 use Rattle.pb_telegram.specs.declared.chars.RxChar.TheVariants.{Good, Bad}
 use Rattle.pb_telegram.specs.declared.chars.RxChar.{RxChar}
 use Rattle.pb_core.proofs.arrivals.octets_of.Goals as goal
@@ -18,14 +16,6 @@ four_more : (chars left more : List RxChar) (octets one two three four : List �
     → chars ≡ map Good four ++ more
 four_more chars left more octets one two three four a b c d read next first second third fourth = grind (arith, common_steps)
 
--- four octets more
-four_small : (octets one two three four : List ℕ) (a b c d : ℕ) → All (λ octet. octet < 256) octets → a < 256 → b < 256 → c < 256 → d < 256
-    → one ≡ octets ++ a ∷ [] → two ≡ one ++ b ∷ [] → three ≡ two ++ c ∷ [] → four ≡ three ++ d ∷ []
-    → All (λ octet. octet < 256) four
-four_small octets one two three four a b c d small first second third fourth e f g h =
-    let P : ℕ → Type 0 = λ octet. octet < 256 in
-    rw (h, g, f, e) (All-push P _ d (All-push P _ c (All-push P _ b (All-push P octets a small first) second) third) fourth)
-
 pub loop-left-preserved : goal.loop-left-preserved
 loop-left-preserved c =
     let left = c.loop-left.left.now in
@@ -37,6 +27,4 @@ loop-left-preserved c =
       four_more c.args.chars.now left _ c.loop-left.octets.items _ _ _ _ _ _ _ _ c.loop-left.invariant.0 next
           c.push.ensures.items c.push-in-Good.ensures.items c.push-in-Good-2.ensures.items c.push-in-Good-3.ensures.items,
       omega (arith, ap length next),
-      four_small c.loop-left.octets.items _ _ _ _ _ _ _ _ c.loop-left.invariant.2 (omega arith) (omega arith) (omega arith) (omega arith)
-          c.push.ensures.items c.push-in-Good.ensures.items c.push-in-Good-2.ensures.items c.push-in-Good-3.ensures.items,
     )

@@ -7,8 +7,8 @@ use Rattle.pb_station.proofs.inboxes.copy_all.Given as goal
 
 abbrev pub invariant-loop-note : goal.invariant-loop-note
 invariant-loop-note l = record {
-  same : map mark_of l.copies.items ++ marks_in (drop l.note-index l.notes) l.left ≡ marks_in l.notes l.chars;
-  of : AreOf (drop l.note-index l.notes) l.left;
+  same : map mark_of l.copies.items ++ marks_in (drop l.note-index l.notes) l.left l.good_left ≡ marks_in l.notes l.chars l.octets;
+  of : AreOf (drop l.note-index l.notes) l.left l.good_left;
   copied : length l.copies.items ≡ l.note-index;
   room : length l.notes ≤ vec_capacity l.copies;
 }

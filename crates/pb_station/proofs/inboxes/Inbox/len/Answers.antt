@@ -4,6 +4,7 @@ use Rattle.pb_station.proofs.inboxes.Inbox.len.Goals as goal
 
 pub returns-clause-value : goal.returns-clause-value
 returns-clause-value c =
-    let many : length c.args.self.now ≡ length c.self.inside.notes.items =
-    sym (ap length c.self.view_is) ∙ as-many c.self.inside.notes.items c.self.inside.chars.items in
+    let inside = c.self.inside in
+    let many : length c.args.self.now ≡ length inside.notes.items =
+    sym (ap length c.self.view_is) ∙ as-many inside.notes.items inside.chars.items inside.octets.items in
     search rules

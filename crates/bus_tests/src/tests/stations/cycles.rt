@@ -1,7 +1,7 @@
 use super::{at, master, take_turn, usual};
-use crate::Station;
 use arrayvec::ArrayVec;
 use pb_cycles::{Outcome, Request, Service};
+use pb_station::Station;
 use pb_timers::BusParams;
 use std::alloc::Global;
 use std::test::Fail;

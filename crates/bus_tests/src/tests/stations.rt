@@ -1,11 +1,12 @@
 ghost use Rattle.std.specs.Prelude.{◌≡◌, true, IfOk};
-ghost use Rattle.pb_station.specs.MarkViews.{AreOver};
+ghost use Rattle.pb_turn.specs.Marks.{moment_of};
+ghost use Rattle.pb_station.specs.MarkViews.{mark_of, AreOver};
 
 mod cycles;
 mod turns;
 
-use super::*;
 use arrayvec::ArrayVec;
+use pb_station::{Glance, Inbox, Mark, NoMemory, Spares, Station, decide, due};
 use pb_telegram::RxChar;
 use pb_timers::{BusParams, Moment};
 use std::alloc::Global;
@@ -80,7 +81,16 @@ fn mark(word: &str) -> Result<Mark, Fail> {
 fn are_over(marks: &[Mark], now: Moment) -> bool
     ensures { result ≡ true → AreOver now marks.now }
 {
-    marks.iter().all(|mark| mark.moment() <= now)
+    marks.iter().all(|mark| moment(mark) <= now)
+}
+
+/// A mark's own moment.
+fn moment(mark: &Mark) -> Moment
+    ensures { result ≡ moment_of (mark_of mark.now) }
+{
+    match mark {
+        Mark::Begin { at, .. } | Mark::End { at, .. } => *at,
+    }
 }
 
 /// A moment, or `-` for none.

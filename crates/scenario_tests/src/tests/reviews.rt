@@ -1,5 +1,5 @@
-use crate::{Look, Report, is_run};
 use pb_plan::{Deed, Step, Walk};
+use pb_review::{Look, Report, is_run};
 use pb_taps::Event;
 use pb_timers::Moment;
 use std::alloc::{AllocError, Global};

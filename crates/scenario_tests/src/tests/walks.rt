@@ -1,4 +1,5 @@
-use crate::{Deed, Step, Walk};
+use super::equal;
+use pb_plan::{Deed, Step, Walk};
 use pb_taps::Event;
 use pb_timers::Moment;
 use std::alloc::AllocError;
@@ -27,22 +28,22 @@ fn walks_from_step_to_step(rt: HostRuntime) {
     ];
     let mut walk = Walk::new(rt.alloc(), &steps, 2, 30).expect(&rt, "memory");
     assert!(rt; walk.today().is_empty());
-    assert_eq!(rt; walk.next(&[None, at(7)], None), Some(5));
-    assert_eq!(rt; walk.pass_to(Some(5)), Some(5));
+    equal(&rt, &walk.next(&[None, at(7)], None), &Some(5));
+    equal(&rt, &walk.pass_to(Some(5)), &Some(5));
 
     walk.go_to(5);
-    assert_eq!(rt; walk.today().len(), 2);
+    equal(&rt, &walk.today().len(), &2);
     assert!(rt; walk.wants(0, at(5)) && !walk.wants(1, at(5)) && !walk.wants(0, at(6)));
     let mut turns = Vec::new(rt.alloc());
     walk.note_turns(&[at(5), at(5)], &mut turns)
         .expect(&rt, "memory");
     assert!(rt; turns.as_slice() == [0].as_slice());
-    assert_eq!(rt; walk.next(&[None, at(5)], at(18)), Some(15));
-    assert_eq!(rt; walk.sooner(Some(18), 1, at(5)), Some(15));
-    assert_eq!(rt; walk.sooner(Some(9), 0, at(5)), Some(9));
-    assert_eq!(rt; walk.sooner(None, 0, at(7)), Some(7));
-    assert_eq!(rt; walk.next_by(Some(15), at(18)), Some(15));
-    assert_eq!(rt; walk.next_by(None, at(40)), Some(20));
+    equal(&rt, &walk.next(&[None, at(5)], at(18)), &Some(15));
+    equal(&rt, &walk.sooner(Some(18), 1, at(5)), &Some(15));
+    equal(&rt, &walk.sooner(Some(9), 0, at(5)), &Some(9));
+    equal(&rt, &walk.sooner(None, 0, at(7)), &Some(7));
+    equal(&rt, &walk.next_by(Some(15), at(18)), &Some(15));
+    equal(&rt, &walk.next_by(None, at(40)), &Some(20));
 
     walk.go_to(15);
     assert!(rt; walk.today().is_empty() && walk.wants(1, at(5)));
@@ -57,8 +58,8 @@ fn walks_from_step_to_step(rt: HostRuntime) {
             .iter()
             .all(|step| step.deed.after_turns().is_some())
     );
-    assert_eq!(rt; walk.next(&[None, at(31)], None), None);
-    assert_eq!(rt; walk.pass_to(None), Some(10));
+    equal(&rt, &walk.next(&[None, at(31)], None), &None);
+    equal(&rt, &walk.pass_to(None), &Some(10));
 }
 
 /// Run with one allocation refused: a walk is made and says whose turn it is, or memory was refused.

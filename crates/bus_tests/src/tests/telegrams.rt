@@ -1,6 +1,6 @@
-use super::*;
 use arrayvec::ArrayVec;
-use pb_telegram::{RxChar, ShortTelegram, Telegram, TokenTelegram, VarTelegram};
+use pb_core::{spelled_telegram, whole_telegram};
+use pb_telegram::{Fixed8Telegram, RxChar, ShortTelegram, Telegram, TokenTelegram, VarTelegram};
 use std::alloc::{AllocError, Global};
 use std::test::Fail;
 
@@ -26,6 +26,12 @@ fn telegrams_are_read(rt: HostRuntime) -> Result<(), Fail> {
         fc: 0x7d,
         unit: ArrayVec::try_from([1, 2, 3, 4, 5, 6].as_slice())?,
     });
+    let eight = Telegram::Fixed8(Fixed8Telegram {
+        da: 5,
+        sa: 2,
+        fc: 0x7d,
+        unit: [1, 2, 3, 4, 5, 6, 7, 8],
+    });
     let spellings = [
         (Some(token), [0xdc, 3, 2].as_slice()),
         (Some(status_request), &[0x10, 3, 2, 0x49, 0x4e, 0x16]),
@@ -33,7 +39,13 @@ fn telegrams_are_read(rt: HostRuntime) -> Result<(), Fail> {
             Some(data),
             &[0x68, 9, 9, 0x68, 5, 2, 0x7d, 1, 2, 3, 4, 5, 6, 0x99, 0x16],
         ),
+        (
+            Some(eight),
+            &[0xa2, 5, 2, 0x7d, 1, 2, 3, 4, 5, 6, 7, 8, 0xa8, 0x16],
+        ),
         (Some(Telegram::Ack), &[0xe5]),
+        (None, &[]),
+        (None, &[0xdc, 3]),
         (None, &[0x10, 3, 2, 0x49, 0x4f, 0x16]),
         (
             None,
@@ -42,6 +54,7 @@ fn telegrams_are_read(rt: HostRuntime) -> Result<(), Fail> {
     ];
     for (telegram, octets) in &spellings {
         assert_eq!(rt; whole_telegram(&good(rt.alloc(), octets)?), *telegram);
+        assert_eq!(rt; spelled_telegram(octets), *telegram);
     }
     Ok(())
 }
