@@ -1,5 +1,6 @@
 ghost use Rattle.std.specs.Prelude.{◌≡◌};
 ghost use Rattle.pb_fleet.specs.Faults.{IsOfPlay};
+ghost use Rattle.pb_fleet.specs.declared.faults.PlayFault.TheVariants as play;
 
 use pb_segment::{CloseFault, CommitFault, NewFault};
 use pb_station::NoMemory;
@@ -82,12 +83,16 @@ impl From<PlayFault> for FleetFault {
 }
 
 impl From<AllocError> for PlayFault {
+    ghost from_gives = { λ _ fault. fault ≡ play.NoMemory };
+
     fn from(_refused: AllocError) -> PlayFault {
         PlayFault::NoMemory
     }
 }
 
 impl From<NoMemory> for PlayFault {
+    ghost from_gives = { λ _ fault. fault ≡ play.NoMemory };
+
     fn from(_refused: NoMemory) -> PlayFault {
         PlayFault::NoMemory
     }
