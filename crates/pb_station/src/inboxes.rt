@@ -101,7 +101,7 @@ impl Inbox {
         requires fits { length octets.now ≤ 255 }
         ensures { self.new ≡ self.old ++ model.End at seen (map Good octets.now) ∷ [] }
     {
-        push_octets(&mut self.octets, octets);
+        push_all(&mut self.octets, octets);
         self.notes.push_reserved(Note::GoodEnd {
             at,
             seen,
@@ -171,22 +171,13 @@ fn first_seen(notes: &[Note]) -> Option<Moment>
     }
 }
 
-/// Characters stand behind others, with room for them.
-fn push_all(chars: &mut Vec<RxChar>, more: &[RxChar])
-    requires { length chars.old.items + length more.now ≤ vec_capacity chars.old }
-    ensures items { chars.new.items ≡ chars.old.items ++ more.now }
-    ensures room { vec_capacity chars.old ≤ vec_capacity chars.new }
+/// What a mark brings stands behind what others brought, with room for it.
+fn push_all<T: Copy>(brought: &mut Vec<T>, more: &[T])
+    requires { length brought.old.items + length more.now ≤ vec_capacity brought.old }
+    ensures items { brought.new.items ≡ brought.old.items ++ more.now }
+    ensures room { vec_capacity brought.old ≤ vec_capacity brought.new }
 {
-    chars.extend_from_slice(more).unwrap();
-}
-
-/// Octets stand behind others, with room for them.
-fn push_octets(octets: &mut Vec<u8>, more: &[u8])
-    requires { length octets.old.items + length more.now ≤ vec_capacity octets.old }
-    ensures items { octets.new.items ≡ octets.old.items ++ more.now }
-    ensures room { vec_capacity octets.old ≤ vec_capacity octets.new }
-{
-    octets.extend_from_slice(more).unwrap();
+    brought.extend_from_slice(more).unwrap();
 }
 
 /// The marks themselves. The fault: memory was refused.

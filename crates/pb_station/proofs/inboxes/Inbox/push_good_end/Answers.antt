@@ -6,8 +6,8 @@ use Rattle.pb_station.specs.declared.notes.Note.TheVariants as note
 use Rattle.pb_station.proofs.Noted.{as-many, few-octets, of-next, marks-next}
 use Rattle.pb_station.proofs.inboxes.Inbox.push_good_end.Goals as goal
 
-pub push_octets-requires : goal.push_octets-requires
-push_octets-requires c =
+pub push_all-requires : goal.push_all-requires
+push_all-requires c =
     let many = sym (ap length c.self.view_is) ∙ as-many c.self.inside.notes.items c.self.inside.chars.items c.self.inside.octets.items in
     omega (
       arith,
@@ -32,9 +32,9 @@ invariant_of-self c =
       search rules,
       omega (arith, c.requires.room, many, ap length c.push_reserved.ensures.items, length-append c.self.inside.notes.items (new ∷ [])),
       c.self.invariant.2,
-      omega (arith, c.self.invariant.3, c.push_octets.ensures.room),
+      omega (arith, c.self.invariant.3, c.push_all.ensures.room),
       of-next c.self.inside.notes.items _ chars chars [] c.self.inside.octets.items _ c.args.octets.now new c.push_reserved.ensures.items (sym (append-nil chars))
-          c.push_octets.ensures.items c.self.invariant.4 refl (omega arith) refl c.requires.fits,
+          c.push_all.ensures.items c.self.invariant.4 refl (omega arith) refl c.requires.fits,
     )
 
 pub returns : goal.returns
@@ -42,5 +42,5 @@ returns c =
     let chars = c.self.inside.chars.items in
     let new = note.GoodEnd c.args.at c.args.seen (length c.args.octets.now) in
     marks-next c.self.inside.notes.items _ chars chars [] c.self.inside.octets.items _ c.args.octets.now new c.push_reserved.ensures.items (sym (append-nil chars))
-    c.push_octets.ensures.items c.self.invariant.4 refl refl
+    c.push_all.ensures.items c.self.invariant.4 refl refl
     ∙ ap (λ (ms : List Mark). ms ++ End c.args.at c.args.seen (map Good c.args.octets.now) ∷ []) c.self.view_is
