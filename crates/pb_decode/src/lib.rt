@@ -11,6 +11,3 @@ mod texts;
 
 pub use laws::spelled_text_is_the_telegrams;
 pub use lines::{Decoded, decode};
-
-#[cfg(test)]
-mod tests;

@@ -30,6 +30,3 @@ pub use list_laws::{
     the_members_are_a_set,
 };
 pub use lists::Las;
-
-#[cfg(test)]
-mod tests;

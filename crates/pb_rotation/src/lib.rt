@@ -8,6 +8,3 @@
 mod rotations;
 
 pub use rotations::Rotation;
-
-#[cfg(test)]
-mod tests;

@@ -30,6 +30,3 @@ pub use parsing::parse;
 pub use receiving::Receiver;
 pub use telegrams::{Fixed8Telegram, ShortTelegram, Telegram, TokenTelegram, VarTelegram};
 pub use writing::write;
-
-#[cfg(test)]
-mod tests;

@@ -11,6 +11,3 @@ mod params;
 pub use durations::{CHARACTER_BITS, bits};
 pub use moments::{ClockFull, Moment};
 pub use params::{BusParams, ParamFault};
-
-#[cfg(test)]
-mod tests;

@@ -14,6 +14,3 @@ pub use laws::states_seen_alike_are_equal;
 pub use phases::Phase;
 pub use states::{AwaitData, AwaitStatus, Checking, Claim, Holding, Pass, TRIES, Use};
 pub use waiting::{Idle, Listening, Offline, PassiveIdle};
-
-#[cfg(test)]
-mod tests;

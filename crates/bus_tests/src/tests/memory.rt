@@ -1,4 +1,4 @@
-use super::{due, master, next_change, phase_name, two_masters, usual};
+use super::{due, equal, master, next_change, phase_name, two_masters, usual};
 use pb_world::{AuditFault, Entry, Event, NewFault, World, WorldFault, audit};
 
 /// Two masters form a ring, with one allocation refused: the fault is `NoMemory` then, nothing has changed, and the
@@ -8,7 +8,7 @@ fn refused_memory_in_a_world(rt: HostRuntime) {
     let alloc = rt.alloc();
     let mut world = World::new(alloc, usual(&rt), &[master(1), master(2)]).unwrap_or_else(
         |fault| {
-            assert_eq!(rt; fault, NewFault::NoMemory);
+            equal(&rt, &fault, &NewFault::NoMemory);
             let _ = println!(rt; "refused");
             two_masters(&rt)
         },
@@ -62,16 +62,16 @@ fn refused_memory_in_a_world(rt: HostRuntime) {
     ] {
         let before = Seen::of(&world);
         if let Err(fault) = world.apply(alloc, event.copy()) {
-            assert_eq!(rt; fault, WorldFault::NoMemory);
-            assert_eq!(rt; Seen::of(&world), before);
+            equal(&rt, &fault, &WorldFault::NoMemory);
+            equal(&rt, &Seen::of(&world), &before);
             let _ = println!(rt; "refused");
             world.apply(alloc, event).expect(&rt, "an event");
         }
     }
     let begins = [800u64, 870, 940, 1017, 1120, 1190, 1356];
     assert!(rt; world.trace().iter().map(begin_of).eq(begins));
-    assert_eq!(rt; phase_name(&world, 0), Some("Use"));
-    assert_eq!(rt; phase_name(&world, 1), Some("Checking"));
+    equal(&rt, &phase_name(&world, 0), &Some("Use"));
+    equal(&rt, &phase_name(&world, 1), &Some("Checking"));
 }
 
 fn begin_of(entry: &Entry) -> u64 {
@@ -111,8 +111,8 @@ fn refused_memory_in_an_audit(rt: HostRuntime) {
     let events = [Event::Start(0), Event::Pass(800), Event::Turn(0)];
     match audit(alloc, usual(&rt), &[master(1), master(2)], &events) {
         Ok(audit) => {
-            assert_eq!(rt; audit.premise, None);
-            assert_eq!(rt; audit.illegal, None);
+            equal(&rt, &audit.premise, &None);
+            equal(&rt, &audit.illegal, &None);
         }
         Err(fault) => {
             let of_the_bus = fault == AuditFault::New(NewFault::NoMemory);

@@ -5,6 +5,7 @@ ghost use Rattle.pb_station.specs.MarkViews.{mark_of, AreOver};
 mod cycles;
 mod turns;
 
+use super::equal;
 use arrayvec::ArrayVec;
 use pb_station::{Glance, Inbox, Mark, NoMemory, Spares, Station, decide, due};
 use pb_telegram::RxChar;
@@ -160,14 +161,14 @@ fn take_turn(alloc: Global, station: Station, line: &str) -> Result<Step, Fail> 
 fn a_new_master_listens_and_claims(rt: HostRuntime) -> Result<(), Fail> {
     let alloc = rt.alloc();
     let mut station = master(alloc)?;
-    assert_eq!(rt; station.phase().name(), "Offline");
-    assert_eq!(rt; NoMemory.to_string(alloc)?.as_str(), "NoMemory");
+    equal(&rt, &station.phase().name(), &"Offline");
+    equal(&rt, &NoMemory.to_string(alloc)?.as_str(), &"NoMemory");
     assert!(rt; due(&station, &[]).is_none());
-    assert_eq!(rt; station.tap(), 0);
-    assert_eq!(rt; station.address(), 1);
-    assert_eq!(rt; station.params().tsl(), 100);
+    equal(&rt, &station.tap(), &0);
+    equal(&rt, &station.address(), &1);
+    equal(&rt, &station.params().tsl(), &100);
     station.start(at(0)?);
-    assert_eq!(rt; station.phase().name(), "Listening");
+    equal(&rt, &station.phase().name(), &"Listening");
     assert!(rt; !station.las().complete());
     assert!(rt; same_moment(due(&station, &[]), "800")?);
     let first = take_turn(alloc, station, "800 800 dc0101 Claim 870")?;
@@ -231,8 +232,8 @@ fn a_passive_station_waits(rt: HostRuntime) -> Result<(), Fail> {
     let alloc = rt.alloc();
     let mut station = Station::new(alloc, 2, usual()?, 9, false, ArrayVec::new())?;
     station.start(at(40)?);
-    assert_eq!(rt; station.phase().name(), "PassiveIdle");
-    assert_eq!(rt; station.address(), 9);
+    equal(&rt, &station.phase().name(), &"PassiveIdle");
+    equal(&rt, &station.address(), &9);
     assert!(rt; due(&station, &[]).is_none());
     Ok(())
 }

@@ -1,3 +1,4 @@
+use super::equal;
 use arrayvec::ArrayVec;
 use pb_core::{spelled_telegram, whole_telegram};
 use pb_telegram::{Fixed8Telegram, RxChar, ShortTelegram, Telegram, TokenTelegram, VarTelegram};
@@ -53,8 +54,8 @@ fn telegrams_are_read(rt: HostRuntime) -> Result<(), Fail> {
         ),
     ];
     for (telegram, octets) in &spellings {
-        assert_eq!(rt; whole_telegram(&good(rt.alloc(), octets)?), *telegram);
-        assert_eq!(rt; spelled_telegram(octets), *telegram);
+        equal(&rt, &whole_telegram(&good(rt.alloc(), octets)?), &*telegram);
+        equal(&rt, &spelled_telegram(octets), &*telegram);
     }
     Ok(())
 }
@@ -67,7 +68,7 @@ fn a_damaged_unit_is_no_telegram(rt: HostRuntime) -> Result<(), Fail> {
         if let Some(char) = chars.get_mut(place) {
             *char = RxChar::Bad;
         }
-        assert_eq!(rt; whole_telegram(&chars), None);
+        equal(&rt, &whole_telegram(&chars), &None);
     }
     Ok(())
 }

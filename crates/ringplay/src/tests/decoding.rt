@@ -1,3 +1,4 @@
+use super::equal;
 use pb_cli::{CountedReader, CountedWriter, Status, decode_lines};
 use std::test::Fail;
 
@@ -61,9 +62,9 @@ fn a_line_of_text_for_each_line(rt: HostRuntime) -> Result<(), Fail> {
             &mut writer,
         )?;
         let wanted = format!(in rt.alloc(); "{text}\n")?;
-        assert_eq!(rt; writer.writer().as_slice(), wanted.as_bytes(), "{line}");
+        equal(&rt, &writer.writer().as_slice(), &wanted.as_bytes());
         let refused = text.starts_with("fault");
-        assert_eq!(rt; status == Status::Refused, refused, "{line}");
+        equal(&rt, &(status == Status::Refused), &refused);
     }
     Ok(())
 }
@@ -86,8 +87,8 @@ fn lines_end_with_a_line_feed_or_the_input(rt: HostRuntime) -> Result<(), Fail> 
     for (input, output, wanted) in INPUTS {
         let mut writer = CountedWriter::new(Vec::new(rt.alloc()));
         let status = decode_lines(rt.alloc(), &mut CountedReader::new(input), &mut writer)?;
-        assert_eq!(rt; writer.writer().as_slice(), output.as_bytes(), "{input:?}");
-        assert_eq!(rt; status, wanted, "{input:?}");
+        equal(&rt, &writer.writer().as_slice(), &output.as_bytes());
+        equal(&rt, &status, &wanted);
     }
     Ok(())
 }

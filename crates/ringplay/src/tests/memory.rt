@@ -1,3 +1,4 @@
+use super::equal;
 use pb_cli::{AskFault, CliFault, CountedReader, CountedWriter, ask, decode_lines};
 use std::io;
 use std::io::Write;
@@ -40,8 +41,8 @@ fn refused_memory_in_decode_lines(rt: HostRuntime) {
     match decode_lines(rt.alloc(), &mut CountedReader::new(INPUT), &mut writer) {
         Ok(_) => assert!(rt; writer.writer().same && writer.writer().wanted.is_empty()),
         Err(fault) => {
-            assert_eq!(rt; fault, CliFault::NoMemory);
-            assert_eq!(rt; writer.writer().wanted.len(), OUTPUT.len());
+            equal(&rt, &fault, &CliFault::NoMemory);
+            equal(&rt, &writer.writer().wanted.len(), &OUTPUT.len());
             let _ = println!(rt; "refused");
         }
     }

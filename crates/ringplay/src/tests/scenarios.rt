@@ -1,3 +1,4 @@
+use super::equal;
 use pb_cli::{CliFault, CountedReader, CountedWriter, Status, audit_file, play};
 use std::io;
 use std::io::{Error, ErrorKind, Read, Write};
@@ -137,7 +138,7 @@ fn a_run_prints_its_trace(rt: HostRuntime) {
             workers,
             None,
         );
-        assert_eq!(rt; answer, Ok(Status::Done));
+        equal(&rt, &answer, &Ok(Status::Done));
         assert!(rt; writer.writer().as_slice() == TRACE, "{workers:?}");
     }
 }
@@ -155,7 +156,7 @@ fn a_run_prints_its_last_lines(rt: HostRuntime) {
             Some(2),
             Some(last),
         );
-        assert_eq!(rt; answer, Ok(Status::Done));
+        equal(&rt, &answer, &Ok(Status::Done));
         assert!(rt; writer.writer().as_slice() == lines, "{last}");
     }
 }
@@ -174,11 +175,11 @@ fn a_refused_file_prints_its_fault(rt: HostRuntime) {
         None,
         Some(3),
     );
-    assert_eq!(rt; answer, Ok(Status::Refused));
+    equal(&rt, &answer, &Ok(Status::Refused));
     assert!(rt; writer.writer().as_slice() == line);
     let mut writer = CountedWriter::new(Vec::new(rt.alloc()));
     let answer = audit_file(rt.alloc(), &mut CountedReader::new(file), &mut writer);
-    assert_eq!(rt; answer, Ok(Status::Refused));
+    equal(&rt, &answer, &Ok(Status::Refused));
     assert!(rt; writer.writer().as_slice() == line);
 }
 
@@ -195,7 +196,7 @@ fn an_audit_tells_premise_and_record(rt: HostRuntime) {
     ] {
         let mut writer = CountedWriter::new(Vec::new(rt.alloc()));
         let answer = audit_file(rt.alloc(), &mut CountedReader::new(file), &mut writer);
-        assert_eq!(rt; answer, Ok(status));
+        equal(&rt, &answer, &Ok(status));
         assert!(rt; writer.writer().as_slice() == told);
     }
 }
@@ -212,7 +213,7 @@ fn a_reader_that_fails_at_any_call(rt: HostRuntime) {
         };
         let mut writer = CountedWriter::new(Vec::new(rt.alloc()));
         let answer = audit_file(rt.alloc(), &mut CountedReader::new(failing()), &mut writer);
-        assert_eq!(rt; answer, Err(CliFault::Read), "at call {calls_before}");
+        equal(&rt, &answer, &Err(CliFault::Read));
         let answer = play(
             &rt,
             rt.alloc(),
@@ -221,7 +222,7 @@ fn a_reader_that_fails_at_any_call(rt: HostRuntime) {
             None,
             None,
         );
-        assert_eq!(rt; answer, Err(CliFault::Read), "at call {calls_before}");
+        equal(&rt, &answer, &Err(CliFault::Read));
         assert!(rt; writer.writer().is_empty());
     }
 }
@@ -240,7 +241,7 @@ fn a_reader_that_is_interrupted_for_ever(rt: HostRuntime) {
         &mut CountedReader::new(interrupted()),
         &mut writer,
     );
-    assert_eq!(rt; answer, Err(CliFault::Read));
+    equal(&rt, &answer, &Err(CliFault::Read));
     let answer = play(
         &rt,
         rt.alloc(),
@@ -249,7 +250,7 @@ fn a_reader_that_is_interrupted_for_ever(rt: HostRuntime) {
         None,
         None,
     );
-    assert_eq!(rt; answer, Err(CliFault::Read));
+    equal(&rt, &answer, &Err(CliFault::Read));
     assert!(rt; writer.writer().is_empty());
 }
 
@@ -269,7 +270,7 @@ fn an_interrupted_read_is_tried_again(rt: HostRuntime) {
             &mut CountedReader::new(interrupted()),
             &mut writer,
         );
-        assert_eq!(rt; answer, Ok(Status::Done), "{errors}");
+        equal(&rt, &answer, &Ok(Status::Done));
         assert!(rt; writer.writer().as_slice() == AUDIT, "{errors}");
         let mut writer = CountedWriter::new(Vec::new(rt.alloc()));
         let answer = play(
@@ -280,7 +281,7 @@ fn an_interrupted_read_is_tried_again(rt: HostRuntime) {
             Some(2),
             None,
         );
-        assert_eq!(rt; answer, Ok(Status::Done), "{errors}");
+        equal(&rt, &answer, &Ok(Status::Done));
         assert!(rt; writer.writer().as_slice() == TRACE, "{errors}");
     }
 }
@@ -298,7 +299,7 @@ fn an_interrupted_write_is_tried_again(rt: HostRuntime) {
     for interruptions in [1, 1000] {
         let mut writer = interrupted(interruptions);
         let answer = audit_file(rt.alloc(), &mut CountedReader::new(RING), &mut writer);
-        assert_eq!(rt; answer, Ok(Status::Done), "{interruptions}");
+        equal(&rt, &answer, &Ok(Status::Done));
         assert!(rt;
             writer.writer().taken.as_slice() == AUDIT,
             "{interruptions}"
@@ -312,7 +313,7 @@ fn an_interrupted_write_is_tried_again(rt: HostRuntime) {
             Some(1),
             None,
         );
-        assert_eq!(rt; answer, Ok(Status::Done), "{interruptions}");
+        equal(&rt, &answer, &Ok(Status::Done));
         assert!(rt;
             writer.writer().taken.as_slice() == TRACE,
             "{interruptions}"
@@ -321,7 +322,7 @@ fn an_interrupted_write_is_tried_again(rt: HostRuntime) {
     for interruptions in [1001, u32::MAX] {
         let mut writer = interrupted(interruptions);
         let answer = audit_file(rt.alloc(), &mut CountedReader::new(RING), &mut writer);
-        assert_eq!(rt; answer, Err(CliFault::Write), "{interruptions}");
+        equal(&rt, &answer, &Err(CliFault::Write));
         assert!(rt; writer.writer().taken.is_empty(), "{interruptions}");
         let mut writer = interrupted(interruptions);
         let answer = play(
@@ -332,7 +333,7 @@ fn an_interrupted_write_is_tried_again(rt: HostRuntime) {
             Some(1),
             None,
         );
-        assert_eq!(rt; answer, Err(CliFault::Write), "{interruptions}");
+        equal(&rt, &answer, &Err(CliFault::Write));
         assert!(rt; writer.writer().taken.is_empty(), "{interruptions}");
     }
 }
@@ -342,7 +343,7 @@ fn an_interrupted_write_is_tried_again(rt: HostRuntime) {
 fn a_write_that_takes_nothing_is_a_fault(rt: HostRuntime) {
     let mut writer = CountedWriter::new(FullWriter);
     let answer = audit_file(rt.alloc(), &mut CountedReader::new(RING), &mut writer);
-    assert_eq!(rt; answer, Err(CliFault::Write));
+    equal(&rt, &answer, &Err(CliFault::Write));
     let answer = play(
         &rt,
         rt.alloc(),
@@ -351,7 +352,7 @@ fn a_write_that_takes_nothing_is_a_fault(rt: HostRuntime) {
         Some(1),
         None,
     );
-    assert_eq!(rt; answer, Err(CliFault::Write));
+    equal(&rt, &answer, &Err(CliFault::Write));
 }
 
 /// A writer that fails at any call is told, and has taken a front of the text.
@@ -363,7 +364,7 @@ fn a_writer_that_fails_at_any_call(rt: HostRuntime) {
             room,
         });
         let answer = audit_file(rt.alloc(), &mut CountedReader::new(RING), &mut writer);
-        assert_eq!(rt; answer, Err(CliFault::Write), "at call {room}");
+        equal(&rt, &answer, &Err(CliFault::Write));
         assert!(rt; writer.writer().taken.as_slice() == &AUDIT[..room]);
     }
     for room in 0..TRACE.len() {
@@ -379,7 +380,7 @@ fn a_writer_that_fails_at_any_call(rt: HostRuntime) {
             Some(1),
             None,
         );
-        assert_eq!(rt; answer, Err(CliFault::Write), "at call {room}");
+        equal(&rt, &answer, &Err(CliFault::Write));
         assert!(rt; writer.writer().taken.as_slice() == &TRACE[..room]);
     }
 }
@@ -390,9 +391,9 @@ fn refused_memory_in_audit_file(rt: HostRuntime) {
     let mut room = [0; 64];
     let mut writer = CountedWriter::new(room.as_mut_slice());
     match audit_file(rt.alloc(), &mut CountedReader::new(RING), &mut writer) {
-        Ok(status) => assert_eq!(rt; status, Status::Done),
+        Ok(status) => equal(&rt, &status, &Status::Done),
         Err(fault) => {
-            assert_eq!(rt; fault, CliFault::NoMemory);
+            equal(&rt, &fault, &CliFault::NoMemory);
             let _ = println!(rt; "refused");
         }
     }

@@ -1,3 +1,4 @@
+use super::equal;
 use pb_cli::{CliFault, CountedReader, CountedWriter, Status, decode_lines};
 use std::io;
 use std::io::{Error, ErrorKind, Read, Write};
@@ -116,8 +117,8 @@ fn a_reader_that_fails_at_any_call(rt: HostRuntime) {
         });
         let mut writer = CountedWriter::new(Vec::new(rt.alloc()));
         let answer = decode_lines(rt.alloc(), &mut reader, &mut writer);
-        assert_eq!(rt; answer, Err(CliFault::Read), "at call {calls_before}");
-        assert_eq!(rt; reader.failures(), 1);
+        equal(&rt, &answer, &Err(CliFault::Read));
+        equal(&rt, &reader.failures(), &1);
         assert!(rt; writer.writer().is_empty());
     }
 }
@@ -132,9 +133,9 @@ fn an_interrupted_read_is_tried_again(rt: HostRuntime) {
         });
         let mut writer = CountedWriter::new(Vec::new(rt.alloc()));
         let answer = decode_lines(rt.alloc(), &mut reader, &mut writer);
-        assert_eq!(rt; answer, Ok(Status::Refused), "at call {calls_before}");
-        assert_eq!(rt; writer.writer().as_slice(), OUTPUT);
-        assert_eq!(rt; reader.calls(), 15);
+        equal(&rt, &answer, &Ok(Status::Refused));
+        equal(&rt, &writer.writer().as_slice(), &OUTPUT);
+        equal(&rt, &reader.calls(), &15);
     }
 }
 
@@ -153,9 +154,9 @@ fn reading_ends_at_the_limit_of_calls(rt: HostRuntime) {
     let mut reader = CountedReader::new(InterruptedReader);
     let mut writer = CountedWriter::new(Vec::new(rt.alloc()));
     let answer = decode_lines(rt.alloc(), &mut reader, &mut writer);
-    assert_eq!(rt; answer, Err(CliFault::Read));
-    assert_eq!(rt; reader.calls(), 2_097_152);
-    assert_eq!(rt; reader.failures(), 0);
+    equal(&rt, &answer, &Err(CliFault::Read));
+    equal(&rt, &reader.calls(), &2_097_152);
+    equal(&rt, &reader.failures(), &0);
     assert!(rt; writer.writer().is_empty());
 }
 
@@ -182,8 +183,8 @@ fn the_longest_input_comes_a_byte_a_call(rt: HostRuntime) {
     let mut reader = CountedReader::new(BlankReader { left: 1_048_576 });
     let mut writer = CountedWriter::new(Vec::new(rt.alloc()));
     let answer = decode_lines(rt.alloc(), &mut reader, &mut writer);
-    assert_eq!(rt; answer, Ok(Status::Refused));
-    assert_eq!(rt; reader.calls(), 1_048_577);
+    equal(&rt, &answer, &Ok(Status::Refused));
+    equal(&rt, &reader.calls(), &1_048_577);
 }
 
 #[test]
@@ -196,10 +197,10 @@ fn a_writer_that_fails_at_any_call(rt: HostRuntime) {
             errors: 1,
         });
         let answer = decode_lines(rt.alloc(), &mut CountedReader::new(INPUT), &mut writer);
-        assert_eq!(rt; answer, Err(CliFault::Write), "at call {calls_before}");
+        equal(&rt, &answer, &Err(CliFault::Write));
         let taken = writer.writer().taken.as_slice();
-        assert_eq!(rt; Some(taken), OUTPUT.get(..calls_before as usize));
-        assert_eq!(rt; writer.failures(), 1);
+        equal(&rt, &Some(taken), &OUTPUT.get(..calls_before as usize));
+        equal(&rt, &writer.failures(), &1);
     }
 }
 
@@ -213,10 +214,10 @@ fn an_interrupted_write_is_tried_again(rt: HostRuntime) {
             errors,
         });
         let answer = decode_lines(rt.alloc(), &mut CountedReader::new(INPUT), &mut writer);
-        assert_eq!(rt; answer, wanted);
-        assert_eq!(rt; writer.interruptions(), u64::from(errors));
+        equal(&rt, &answer, &wanted);
+        equal(&rt, &writer.interruptions(), &u64::from(errors));
         let length = if answer.is_ok() { OUTPUT.len() } else { 3 };
-        assert_eq!(rt; writer.writer().taken.len(), length);
+        equal(&rt, &writer.writer().taken.len(), &length);
     }
 }
 
@@ -228,17 +229,17 @@ fn interruptions_count_anew_after_a_write(rt: HostRuntime) {
         left: 1000,
     });
     let answer = decode_lines(rt.alloc(), &mut CountedReader::new(INPUT), &mut writer);
-    assert_eq!(rt; answer, Ok(Status::Refused));
-    assert_eq!(rt; writer.interruptions(), 1000 * OUTPUT.len() as u64);
-    assert_eq!(rt; writer.writer().taken.as_slice(), OUTPUT);
+    equal(&rt, &answer, &Ok(Status::Refused));
+    equal(&rt, &writer.interruptions(), &(1000 * OUTPUT.len() as u64));
+    equal(&rt, &writer.writer().taken.as_slice(), &OUTPUT);
 }
 
 #[test]
 fn a_write_that_takes_nothing_is_a_fault(rt: HostRuntime) {
     let mut writer = CountedWriter::new(FullWriter);
     let answer = decode_lines(rt.alloc(), &mut CountedReader::new(INPUT), &mut writer);
-    assert_eq!(rt; answer, Err(CliFault::Write));
-    assert_eq!(rt; writer.failures(), 1);
+    equal(&rt, &answer, &Err(CliFault::Write));
+    equal(&rt, &writer.failures(), &1);
 }
 
 #[test]
@@ -254,8 +255,8 @@ fn an_input_has_a_limit(rt: HostRuntime) -> Result<(), Fail> {
             &mut CountedReader::new(input.as_slice()),
             &mut writer,
         );
-        assert_eq!(rt; answer, wanted);
-        assert_eq!(rt; writer.writer().is_empty(), answer.is_err());
+        equal(&rt, &answer, &wanted);
+        equal(&rt, &writer.writer().is_empty(), &answer.is_err());
     }
     Ok(())
 }

@@ -1,3 +1,4 @@
+use super::equal;
 use pb_cli::{Ask, AskFault, ask};
 use std::alloc::{AllocError, Global};
 use std::test::Fail;
@@ -12,7 +13,7 @@ fn words(alloc: Global, line: &str) -> Result<Vec<String>, AllocError> {
 #[test]
 fn decode_is_understood(rt: HostRuntime) -> Result<(), Fail> {
     let words = words(rt.alloc(), "ringplay decode")?;
-    assert_eq!(rt; ask(rt.alloc(), &words)?, Ask::Decode);
+    equal(&rt, &ask(rt.alloc(), &words)?, &Ask::Decode);
     Ok(())
 }
 
@@ -20,7 +21,7 @@ fn decode_is_understood(rt: HostRuntime) -> Result<(), Fail> {
 fn audit_takes_a_file(rt: HostRuntime) -> Result<(), Fail> {
     let words = words(rt.alloc(), "ringplay audit rings/two.toml")?;
     let file = String::from_str(rt.alloc(), "rings/two.toml")?;
-    assert_eq!(rt; ask(rt.alloc(), &words)?, Ask::Audit { file });
+    equal(&rt, &ask(rt.alloc(), &words)?, &Ask::Audit { file });
     Ok(())
 }
 
@@ -46,7 +47,7 @@ fn run_takes_a_file_and_numbers(rt: HostRuntime) -> Result<(), Fail> {
             workers,
             last,
         };
-        assert_eq!(rt; ask(rt.alloc(), &words)?, wanted);
+        equal(&rt, &ask(rt.alloc(), &words)?, &wanted);
     }
     Ok(())
 }

@@ -1,4 +1,4 @@
-use super::{at, master, take_turn, usual};
+use super::{at, equal, master, take_turn, usual};
 use arrayvec::ArrayVec;
 use pb_cycles::{Outcome, Request, Service};
 use pb_station::Station;
@@ -76,10 +76,10 @@ fn requests_are_sent_until_they_are_answered(rt: HostRuntime) -> Result<(), Fail
     let high = (7, Service::Srd, true);
     let station = asking(alloc, &[high, high, high])?;
     assert!(rt; station.last_outcome().is_none());
-    assert_eq!(rt; station.queue().len_high(), 3);
-    assert_eq!(rt; station.queue().len_low(), 0);
+    equal(&rt, &station.queue().len_high(), &3);
+    equal(&rt, &station.queue().len_low(), &0);
     let station = play(alloc, play(alloc, station, CLAIMS)?, THREE_REQUESTS)?;
-    assert_eq!(rt; station.queue().len_high(), 0);
+    equal(&rt, &station.queue().len_high(), &0);
     let data = ArrayVec::try_from([0xaa, 0xbb].as_slice())?;
     assert!(rt; station.last_outcome() == Some((7, Outcome::Data(data))));
     Ok(())
@@ -101,15 +101,15 @@ const THREE_REPLIES: &str = "\
 fn a_request_that_comes_again_is_executed_once(rt: HostRuntime) -> Result<(), Fail> {
     let alloc = rt.alloc();
     let station = passive(alloc)?;
-    assert_eq!(rt; station.executed(), 0);
+    equal(&rt, &station.executed(), &0);
     let mut station = play(alloc, station, THREE_REPLIES)?;
-    assert_eq!(rt; station.executed(), 3);
+    equal(&rt, &station.executed(), &3);
     station.start(at(2000)?);
-    assert_eq!(rt; station.executed(), 0);
+    equal(&rt, &station.executed(), &0);
     let again =
         "2200 2100 6805056801070aaabb7716 PassiveIdle - b:2100:2100 e:2166:2166:1007015d6516";
     let station = play(alloc, station, again)?;
-    assert_eq!(rt; station.executed(), 1);
+    equal(&rt, &station.executed(), &1);
     Ok(())
 }
 
@@ -133,9 +133,9 @@ fn low_priority_waits_for_time(rt: HostRuntime) -> Result<(), Fail> {
     let mut station = play(alloc, station, look)?;
     let high = (127, Service::Sdn, true);
     push_all(&mut station, &[high, high, (127, Service::Sdn, false)])?;
-    assert_eq!(rt; station.queue().len_low(), 1);
+    equal(&rt, &station.queue().len_low(), &1);
     let station = play(alloc, station, SHORT_ROTATION)?;
-    assert_eq!(rt; station.queue().len_low(), 0);
+    equal(&rt, &station.queue().len_low(), &0);
     assert!(rt; station.last_outcome().is_none());
     Ok(())
 }
@@ -183,13 +183,13 @@ fn a_master_in_the_ring_is_asked(rt: HostRuntime) -> Result<(), Fail> {
     )?;
     let lines = "976 976 - Idle 987 e:976:976:1001026c6f16\n987 987 68040468020138559016 Idle 1897";
     let station = play(alloc, station, lines)?;
-    assert_eq!(rt; station.executed(), 1);
+    equal(&rt, &station.executed(), &1);
     let station = play(
         alloc,
         station,
         "1196 1130 - Idle 1996 b:1130:1130 e:1196:1196:107f0244c516",
     )?;
-    assert_eq!(rt; station.executed(), 2);
+    equal(&rt, &station.executed(), &2);
     Ok(())
 }
 
@@ -204,10 +204,10 @@ fn a_full_queue_hands_back(rt: HostRuntime) -> Result<(), Fail> {
     let refused = station.push(request(9, Service::Sda, true)?);
     assert!(rt; refused == Err(request(9, Service::Sda, true)?));
     push_all(&mut station, &[(9, Service::Sda, false)])?;
-    assert_eq!(rt; station.queue().len_high(), 16);
-    assert_eq!(rt; station.queue().len_low(), 1);
+    equal(&rt, &station.queue().len_high(), &16);
+    equal(&rt, &station.queue().len_low(), &1);
     station.start(at(0)?);
-    assert_eq!(rt; station.queue().len_high(), 0);
+    equal(&rt, &station.queue().len_high(), &0);
     Ok(())
 }
 
@@ -236,8 +236,8 @@ fn a_stopped_station_says_nothing(rt: HostRuntime) -> Result<(), Fail> {
     let asked = "1006 940 - PassiveIdle 1017 b:940:940 e:1006:1006:1007016d7516";
     let mut station = play(alloc, passive(alloc)?, asked)?;
     station.stop();
-    assert_eq!(rt; station.executed(), 1);
+    equal(&rt, &station.executed(), &1);
     let station = play(alloc, station, "1017 - - Offline -")?;
-    assert_eq!(rt; station.phase().name(), "Offline");
+    equal(&rt, &station.phase().name(), &"Offline");
     Ok(())
 }

@@ -1,4 +1,5 @@
-use super::*;
+use super::equal;
+use pb_timers::{BusParams, ClockFull, Moment, ParamFault, bits};
 use std::test::Fail;
 
 /// Slot time, idle times 1 and 2, reply delay, lag, rotation, GAP factor, highest address, retries, cable delay.
@@ -40,36 +41,34 @@ fn each_rule_has_its_fault(rt: HostRuntime) {
         (9, 20, ParamFault::TakeLate),
         (9, 4_294_967_295, ParamFault::TakeLate),
     ] {
-        assert_eq!(rt;
-            params(with(place, number)).err(),
-            Some(fault),
-            "{place}: {number}"
-        );
+        equal(&rt, &params(with(place, number)).err(), &Some(fault));
     }
     let late_reply = [100, 37, 60, 61, 39, 10_000, 10, 5, 1, 0];
-    assert_eq!(rt; params(late_reply).err(), Some(ParamFault::ReplyLate));
+    equal(&rt, &params(late_reply).err(), &Some(ParamFault::ReplyLate));
     let far_reply = [100, 33, 37, 60, 0, 10_000, 10, 5, 1, 20];
-    assert_eq!(rt; params(far_reply).err(), Some(ParamFault::ReplyLate));
+    equal(&rt, &params(far_reply).err(), &Some(ParamFault::ReplyLate));
     let short_slot = [99, 37, 60, 11, 40, 10_000, 10, 5, 1, 0];
-    assert_eq!(rt; params(short_slot).err(), Some(ParamFault::Slot));
+    equal(&rt, &params(short_slot).err(), &Some(ParamFault::Slot));
 }
 
 #[test]
 fn parameters_are_read_back(rt: HostRuntime) -> Result<(), Fail> {
     let bus = params(with(4, 39))?;
-    assert_eq!(rt;
-        [bus.tsl(), bus.tid1(), bus.tid2(), bus.tsdr(), bus.lag()],
-        [100, 37, 60, 11, 39]
+    equal(
+        &rt,
+        &[bus.tsl(), bus.tid1(), bus.tid2(), bus.tsdr(), bus.lag()],
+        &[100, 37, 60, 11, 39],
     );
-    assert_eq!(rt;
-        [bus.ttr(), bus.gap(), bus.hsa(), bus.retries()],
-        [10_000, 10, 5, 1]
+    equal(
+        &rt,
+        &[bus.ttr(), bus.gap(), bus.hsa(), bus.retries()],
+        &[10_000, 10, 5, 1],
     );
-    assert_eq!(rt; bus.ttd(), 0);
-    assert_eq!(rt; params(with(9, 19))?.ttd(), 19);
-    assert_eq!(rt; bus.tto(1), 800);
-    assert_eq!(rt; bus.tto(2), 1000);
-    assert_eq!(rt; params(with(0, 16_383))?.tto(126), 4_226_814);
+    equal(&rt, &bus.ttd(), &0);
+    equal(&rt, &params(with(9, 19))?.ttd(), &19);
+    equal(&rt, &bus.tto(1), &800);
+    equal(&rt, &bus.tto(2), &1000);
+    equal(&rt, &params(with(0, 16_383))?.tto(126), &4_226_814);
     Ok(())
 }
 
@@ -87,32 +86,36 @@ fn faults_have_numbers_and_names(rt: HostRuntime) -> Result<(), Fail> {
         (ParamFault::TakeLate, 9, "TakeLate"),
         (ParamFault::ReplyLate, 10, "ReplyLate"),
     ] {
-        assert_eq!(rt; fault.number(), number);
-        assert_eq!(rt; fault.to_string(rt.alloc())?.as_str(), name);
+        equal(&rt, &fault.number(), &number);
+        equal(&rt, &fault.to_string(rt.alloc())?.as_str(), &name);
     }
-    assert_eq!(rt; ClockFull.to_string(rt.alloc())?.as_str(), "ClockFull");
+    equal(
+        &rt,
+        &ClockFull.to_string(rt.alloc())?.as_str(),
+        &"ClockFull",
+    );
     Ok(())
 }
 
 #[test]
 fn a_character_has_eleven_bits(rt: HostRuntime) {
-    assert_eq!(rt; bits(0), 0);
-    assert_eq!(rt; bits(3), 33);
-    assert_eq!(rt; bits(255), 2805);
+    equal(&rt, &bits(0), &0);
+    equal(&rt, &bits(3), &33);
+    equal(&rt, &bits(255), &2805);
 }
 
 #[test]
 fn a_moment_ends_at_its_limit(rt: HostRuntime) -> Result<(), Fail> {
     let limit = 1 << 62;
-    assert_eq!(rt; Moment::new(limit + 1), None);
+    equal(&rt, &Moment::new(limit + 1), &None);
     let last = Moment::new(limit).ok_or(ClockFull)?;
-    assert_eq!(rt; last.get(), limit);
-    assert_eq!(rt; last.add(0), Ok(last));
-    assert_eq!(rt; last.add(1), Err(ClockFull));
-    assert_eq!(rt; last.add(u64::MAX), Err(ClockFull));
+    equal(&rt, &last.get(), &limit);
+    equal(&rt, &last.add(0), &Ok(last));
+    equal(&rt, &last.add(1), &Err(ClockFull));
+    equal(&rt, &last.add(u64::MAX), &Err(ClockFull));
     let first = Moment::new(0).ok_or(ClockFull)?;
-    assert_eq!(rt; first.add(833)?.get(), 833);
-    assert_eq!(rt; first.add(limit), Ok(last));
+    equal(&rt, &first.add(833)?.get(), &833);
+    equal(&rt, &first.add(limit), &Ok(last));
     assert!(rt; first < last);
     Ok(())
 }

@@ -1,5 +1,9 @@
-use super::*;
+use super::equal;
 use arrayvec::ArrayVec;
+use pb_telegram::{
+    Fc, Fixed8Telegram, Head, Receiver, RxChar, ShortTelegram, Telegram, TelegramFault,
+    TokenTelegram, VarTelegram, fcs, parse, write,
+};
 use std::alloc::{AllocError, Global};
 use std::process::Abort;
 use std::test::Fail;
@@ -75,8 +79,12 @@ fn telegrams_are_read_and_written(rt: HostRuntime) -> Result<(), Fail> {
         (Telegram::Ack, [0xe5].as_slice()),
     ];
     for (telegram, octets) in &spellings {
-        assert_eq!(rt; write(telegram).as_slice(), *octets);
-        assert_eq!(rt; parse(&good(rt.alloc(), octets)?).as_ref(), Ok(telegram));
+        equal(&rt, &write(telegram).as_slice(), &*octets);
+        equal(
+            &rt,
+            &parse(&good(rt.alloc(), octets)?).as_ref(),
+            &Ok(telegram),
+        );
     }
     Ok(())
 }
@@ -171,11 +179,7 @@ fn the_first_fault_is_found(rt: HostRuntime) -> Result<(), Fail> {
         (&[0xe5, 0xe5], TelegramFault::Trailing),
     ];
     for (octets, fault) in &faults {
-        assert_eq!(rt;
-            parse(&good(rt.alloc(), octets)?),
-            Err(*fault),
-            "{octets:?}"
-        );
+        equal(&rt, &parse(&good(rt.alloc(), octets)?), &Err(*fault));
     }
     Ok(())
 }
@@ -189,21 +193,24 @@ fn a_unit_has_at_most_246_octets(rt: HostRuntime) -> Result<(), Fail> {
     let Ok(longest) = &answer else {
         return Err(Fail::from("no telegram"));
     };
-    assert_eq!(rt; write(longest).as_slice(), octets.as_slice());
-    assert_eq!(rt;
-        parse(&good(rt.alloc(), &octets[..254])?),
-        Err(TelegramFault::Truncated)
+    equal(&rt, &write(longest).as_slice(), &octets.as_slice());
+    equal(
+        &rt,
+        &parse(&good(rt.alloc(), &octets[..254])?),
+        &Err(TelegramFault::Truncated),
     );
     octets.push(0x16)?;
-    assert_eq!(rt;
-        parse(&good(rt.alloc(), &octets)?),
-        Err(TelegramFault::Trailing)
+    equal(
+        &rt,
+        &parse(&good(rt.alloc(), &octets)?),
+        &Err(TelegramFault::Trailing),
     );
     octets[1] = 0xfa;
     octets[2] = 0xfa;
-    assert_eq!(rt;
-        parse(&good(rt.alloc(), &octets)?),
-        Err(TelegramFault::BadLength)
+    equal(
+        &rt,
+        &parse(&good(rt.alloc(), &octets)?),
+        &Err(TelegramFault::BadLength),
     );
     Ok(())
 }
@@ -216,27 +223,27 @@ fn damage_is_found_at_its_place(rt: HostRuntime) {
         RxChar::Good(2),
         RxChar::Bad,
     ];
-    assert_eq!(rt; parse(&chars), Err(TelegramFault::Faulty(1)));
-    assert_eq!(rt; parse(&chars[1..]), Err(TelegramFault::Faulty(0)));
+    equal(&rt, &parse(&chars), &Err(TelegramFault::Faulty(1)));
+    equal(&rt, &parse(&chars[1..]), &Err(TelegramFault::Faulty(0)));
 }
 
 #[test]
 fn the_check_octet_is_the_sum(rt: HostRuntime) {
-    assert_eq!(rt; fcs(3, 2, 0x49, &[]), 0x4e);
-    assert_eq!(rt; fcs(0x7f, 2, 0x44, &[0xff]), 0xc4);
+    equal(&rt, &fcs(3, 2, 0x49, &[]), &0x4e);
+    equal(&rt, &fcs(0x7f, 2, 0x44, &[0xff]), &0xc4);
 }
 
 #[test]
 fn a_control_octet_is_read(rt: HostRuntime) {
     let request = Fc(0x6d);
     assert!(rt; request.is_request() && request.fcb() && !request.fcv());
-    assert_eq!(rt; request.code(), 13);
+    equal(&rt, &request.code(), &13);
     let later_request = Fc(0x5d);
     assert!(rt; later_request.fcv() && !later_request.fcb());
     let reply = Fc(0x20);
     assert!(rt; !reply.is_request());
-    assert_eq!(rt; reply.station_type(), 2);
-    assert_eq!(rt; Fc(0x3a).station_type(), 3);
+    equal(&rt, &reply.station_type(), &2);
+    equal(&rt, &Fc(0x3a).station_type(), &3);
 }
 
 #[test]
@@ -258,7 +265,7 @@ fn faults_have_numbers_and_names(rt: HostRuntime) -> Result<(), Fail> {
     for (fault, shown) in faults {
         let number = fault.number();
         let text = format!(in rt.alloc(); "{number} {fault}")?;
-        assert_eq!(rt; text.as_str(), shown);
+        equal(&rt, &text.as_str(), &shown);
         assert!(rt; shown.contains(fault.name()));
     }
     Ok(())
@@ -290,13 +297,13 @@ fn a_telegram_gives_its_fields(rt: HostRuntime) -> Result<(), Fail> {
         ),
     ] {
         let telegram = parse(&good(rt.alloc(), octets)?)?;
-        assert_eq!(rt; telegram.head(), Some(Head { da, sa, fc }));
-        assert_eq!(rt; telegram.unit(), unit);
+        equal(&rt, &telegram.head(), &Some(Head { da, sa, fc }));
+        equal(&rt, &telegram.unit(), &unit);
     }
     let token = parse(&good(rt.alloc(), &[0xdc, 2, 1])?)?;
-    assert_eq!(rt; token.head(), None);
+    equal(&rt, &token.head(), &None);
     assert!(rt; token.unit().is_empty());
-    assert_eq!(rt; Telegram::Ack.head(), None);
+    equal(&rt, &Telegram::Ack.head(), &None);
     Ok(())
 }
 
@@ -319,21 +326,21 @@ fn fed(chars: &[RxChar]) -> Result<Telegram, TelegramFault> {
 #[test]
 fn a_receiver_is_fed_a_character_at_a_time(rt: HostRuntime) {
     let bad = RxChar::Bad;
-    assert_eq!(rt; Receiver::new().end(), Err(TelegramFault::Empty));
-    assert_eq!(rt; Receiver::new().fed(), 0);
+    equal(&rt, &Receiver::new().end(), &Err(TelegramFault::Empty));
+    equal(&rt, &Receiver::new().fed(), &0);
     let acknowledged = [RxChar::Good(0xe5), bad, RxChar::Good(0x16)];
-    assert_eq!(rt; fed(&acknowledged), Err(TelegramFault::Faulty(1)));
+    equal(&rt, &fed(&acknowledged), &Err(TelegramFault::Faulty(1)));
     let var = [RxChar::Good(0x68), RxChar::Good(4), bad];
-    assert_eq!(rt; fed(&var), Err(TelegramFault::Faulty(2)));
+    equal(&rt, &fed(&var), &Err(TelegramFault::Faulty(2)));
     let short = [RxChar::Good(0x10), RxChar::Good(3), bad];
-    assert_eq!(rt; fed(&short), Err(TelegramFault::Faulty(2)));
+    equal(&rt, &fed(&short), &Err(TelegramFault::Faulty(2)));
     let mut receiver = receiver_of(&short);
-    assert_eq!(rt; receiver.fed(), 3);
-    assert_eq!(rt; receiver.answer(), Err(TelegramFault::Faulty(2)));
+    equal(&rt, &receiver.fed(), &3);
+    equal(&rt, &receiver.answer(), &Err(TelegramFault::Faulty(2)));
     receiver.restart();
-    assert_eq!(rt; receiver.answer(), Err(TelegramFault::Empty));
+    equal(&rt, &receiver.answer(), &Err(TelegramFault::Empty));
     receiver.feed(RxChar::Good(0xe5));
-    assert_eq!(rt; receiver.answer(), Ok(Telegram::Ack));
+    equal(&rt, &receiver.answer(), &Ok(Telegram::Ack));
     assert!(rt; receiver.is_acknowledgement());
     receiver.feed(RxChar::Good(0xe5));
     assert!(rt; !receiver.is_acknowledgement());
@@ -372,11 +379,12 @@ fn fronts_are_received(rt: &impl Abort, alloc: Global, fronts: &Fronts) -> Resul
     let chars = good(alloc, fronts.octets)?;
     for count in 0..=chars.len() {
         let front = &chars[..count];
-        assert_eq!(rt;
-            fed(front).as_ref().map_err(|fault| *fault),
-            fronts.found(count)
+        equal(
+            rt,
+            &fed(front).as_ref().map_err(|fault| *fault),
+            &fronts.found(count),
         );
-        assert_eq!(rt; fed(front), parse(front));
+        equal(rt, &fed(front), &parse(front));
     }
     Ok(())
 }
@@ -394,9 +402,9 @@ fn damaged_fronts_are_received(
         for count in 0..=chars.len() {
             let answer = fed(&chars[..count]);
             if count > place {
-                assert_eq!(rt; answer, Err(TelegramFault::Faulty(place)));
+                equal(rt, &answer, &Err(TelegramFault::Faulty(place)));
             }
-            assert_eq!(rt; answer, parse(&chars[..count]));
+            equal(rt, &answer, &parse(&chars[..count]));
         }
         chars[place] = octet;
     }
@@ -477,9 +485,9 @@ fn fronts_of_telegrams_are_received_as_they_are_parsed(rt: HostRuntime) -> Resul
         fronts_are_received(&rt, rt.alloc(), row)?;
         damaged_fronts_are_received(&rt, rt.alloc(), row)?;
     }
-    assert_eq!(rt; fed(&[RxChar::Good(0xe5)]), Ok(Telegram::Ack));
+    equal(&rt, &fed(&[RxChar::Good(0xe5)]), &Ok(Telegram::Ack));
     let twice = [RxChar::Good(0xe5), RxChar::Good(0xe5)];
-    assert_eq!(rt; fed(&twice), Err(TelegramFault::Trailing));
+    equal(&rt, &fed(&twice), &Err(TelegramFault::Trailing));
     Ok(())
 }
 
@@ -490,8 +498,8 @@ fn fronts_of_the_longest_telegram_are_received(rt: HostRuntime) -> Result<(), Fa
     octets.extend_from_slice(&[0x47, 0x16])?;
     let longest = fed(&good(rt.alloc(), &octets)?)?;
     let (da, sa, fc) = (2, 1, 0x44);
-    assert_eq!(rt; longest.head(), Some(Head { da, sa, fc }));
-    assert_eq!(rt; longest.unit(), [0; 246].as_slice());
+    equal(&rt, &longest.head(), &Some(Head { da, sa, fc }));
+    equal(&rt, &longest.unit(), &[0; 246].as_slice());
     let fronts = Fronts {
         octets: &octets,
         whole: Ok(longest),

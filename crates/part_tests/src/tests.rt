@@ -1,17 +1,25 @@
+mod changed_octets;
 mod cycles;
 mod first_half;
+mod heard;
+mod lists;
 mod messages;
 mod queues;
 mod requests;
+mod rotations;
 mod second_half;
 mod sequences;
 mod services;
+mod states;
+mod telegrams;
+mod times;
 
 ghost use Rattle.std.specs.Prelude.{◌≡◌, true};
 
 use arrayvec::ArrayVec;
 use pb_cycles::{Request, Service};
 use pb_telegram::{RxChar, Telegram, parse, write};
+use pb_timers::{ClockFull, Moment};
 use std::fmt::Debug;
 use std::process::Abort;
 use std::str;
@@ -23,6 +31,11 @@ fn equal<T: PartialEq + Debug>(rt: &impl Abort, left: &T, right: &T)
     ensures { T.eq left.now right.now ≡ true }
 {
     assert_eq!(rt; *left, *right);
+}
+
+/// A moment in bit times.
+fn at(bits: u64) -> Result<Moment, ClockFull> {
+    Moment::new(bits).ok_or(ClockFull)
 }
 
 /// The octets of hex digits; `-` is none.

@@ -1,6 +1,7 @@
 ghost use Rattle.std.specs.Prelude.{◌<◌, IfSome};
 
-use super::*;
+use super::equal;
+use pb_ring::Las;
 use std::alloc::Global;
 use std::fmt::Write;
 use std::test::Fail;
@@ -297,9 +298,9 @@ fn lists_become_what_the_simulator_says(rt: HostRuntime) -> Result<(), Fail> {
             continue;
         };
         let became = played(rt.alloc(), events)?;
-        assert_eq!(rt; became.as_deref(), Some(wanted), "{line}");
+        equal(&rt, &became.as_deref(), &Some(wanted));
         lines = u32::saturating_add(lines, 1);
     }
-    assert_eq!(rt; lines, 200);
+    equal(&rt, &lines, &200);
     Ok(())
 }

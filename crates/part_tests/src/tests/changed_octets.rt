@@ -1,4 +1,5 @@
-use crate::decode;
+use super::equal;
+use pb_decode::decode;
 use std::test::Fail;
 
 /// Beginnings of telegrams, each cut after every octet, and telegrams with one octet changed (one
@@ -285,8 +286,8 @@ fn prefixes_and_changed_octets(rt: HostRuntime) -> Result<(), Fail> {
         let input = format!(in rt.alloc(); "{line}\n")?;
         let wanted = format!(in rt.alloc(); "{text}\n")?;
         let decoded = decode(rt.alloc(), input.as_bytes())?;
-        assert_eq!(rt; decoded.text.as_slice(), wanted.as_bytes(), "{line}");
-        assert_eq!(rt; decoded.is_refused, text.starts_with("fault"), "{line}");
+        equal(&rt, &decoded.text.as_slice(), &wanted.as_bytes());
+        equal(&rt, &decoded.is_refused, &text.starts_with("fault"));
     }
     Ok(())
 }

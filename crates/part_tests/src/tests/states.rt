@@ -1,22 +1,22 @@
-use super::*;
+use super::{at, equal};
 use pb_telegram::{ShortTelegram, Telegram, TokenTelegram};
-use pb_timers::{ClockFull, Moment};
+use pb_tokenfsm::{Checking, Holding, Listening, Phase, Use};
 use std::test::Fail;
-
-fn at(bits: u64) -> Result<Moment, ClockFull> {
-    Moment::new(bits).ok_or(ClockFull)
-}
 
 /// A station with address 1 that hears nobody claims the token and keeps it.
 #[test]
 fn a_lone_station_claims_and_keeps_the_token(rt: HostRuntime) -> Result<(), Fail> {
     let claim = Listening::new().on_timeout(at(800)?);
-    assert_eq!(rt; claim.ready().get(), 800);
+    equal(&rt, &claim.ready().get(), &800);
     let token = Telegram::Token(TokenTelegram { da: 1, sa: 1 });
-    assert_eq!(rt; claim.initiate(&token).as_slice(), [0xdc, 1, 1].as_slice());
+    equal(
+        &rt,
+        &claim.initiate(&token).as_slice(),
+        &[0xdc, 1, 1].as_slice(),
+    );
     let phase = claim.on_sent(at(870)?);
     assert!(rt; phase.may_initiate());
-    assert_eq!(rt; phase.name(), "Claim");
+    equal(&rt, &phase.name(), &"Claim");
     let Phase::Claim(claim) = phase else {
         return Err(Fail::from("another phase"));
     };
@@ -24,9 +24,9 @@ fn a_lone_station_claims_and_keeps_the_token(rt: HostRuntime) -> Result<(), Fail
     let Phase::Use(holder) = phase else {
         return Err(Fail::from("another phase"));
     };
-    assert_eq!(rt; holder.ready().get(), 940);
+    equal(&rt, &holder.ready().get(), &940);
     let phase = holder.done().on_sent(1, 1, at(1010)?);
-    assert_eq!(rt; phase.name(), "Use");
+    equal(&rt, &phase.name(), &"Use");
     Ok(())
 }
 
@@ -38,9 +38,9 @@ fn a_listener_joins_or_gives_way(rt: HostRuntime) {
     let listening = listening.on_namesake();
     assert!(rt; listening.doubled());
     let phase = Phase::Offline(listening.on_double());
-    assert_eq!(rt; phase.name(), "Offline");
+    equal(&rt, &phase.name(), &"Offline");
     let phase = Phase::Idle(Listening::new().on_ready());
-    assert_eq!(rt; phase.name(), "Idle");
+    equal(&rt, &phase.name(), &"Idle");
     assert!(rt; !phase.may_initiate());
 }
 
@@ -54,11 +54,11 @@ fn a_token_is_taken_from_the_previous_station(rt: HostRuntime) -> Result<(), Fai
     let phase = Listening::new()
         .on_ready()
         .hear_token(&to_two, 1, 3, at(100)?);
-    assert_eq!(rt; phase.name(), "Idle");
+    equal(&rt, &phase.name(), &"Idle");
     let phase = Listening::new()
         .on_ready()
         .hear_token(&from_three, 1, 3, at(100)?);
-    assert_eq!(rt; phase.name(), "Use");
+    equal(&rt, &phase.name(), &"Use");
     let phase = Listening::new()
         .on_ready()
         .hear_token(&from_two, 1, 3, at(100)?);
@@ -66,11 +66,11 @@ fn a_token_is_taken_from_the_previous_station(rt: HostRuntime) -> Result<(), Fai
         return Err(Fail::from("another phase"));
     };
     let phase = idle.hear_token(&from_two, 1, 3, at(200)?);
-    assert_eq!(rt; phase.name(), "Use");
+    equal(&rt, &phase.name(), &"Use");
     let phase = Phase::Listening(Listening::new().on_ready().on_skipped());
-    assert_eq!(rt; phase.name(), "Listening");
+    equal(&rt, &phase.name(), &"Listening");
     let claim = Listening::new().on_ready().on_timeout(at(800)?);
-    assert_eq!(rt; claim.ready().get(), 800);
+    equal(&rt, &claim.ready().get(), &800);
     Ok(())
 }
 
@@ -79,7 +79,7 @@ fn a_token_is_taken_from_the_previous_station(rt: HostRuntime) -> Result<(), Fai
 fn a_holder_gives_way(rt: HostRuntime) -> Result<(), Fail> {
     let phase = Phase::Idle(Listening::new().on_timeout(at(800)?).on_foreign());
     assert!(rt; !phase.may_initiate());
-    assert_eq!(rt; phase.name(), "Idle");
+    equal(&rt, &phase.name(), &"Idle");
     Ok(())
 }
 
@@ -106,15 +106,19 @@ fn a_status_is_asked_once(rt: HostRuntime) -> Result<(), Fail> {
         fc: 0x49,
     });
     let asked = [0x10, 2, 1, 0x49, 0x4c, 0x16];
-    assert_eq!(rt; holder.initiate(&request).as_slice(), asked.as_slice());
+    equal(
+        &rt,
+        &holder.initiate(&request).as_slice(),
+        &asked.as_slice(),
+    );
     let waiting = holder.ask_status(2);
-    assert_eq!(rt; waiting.of(), 2);
+    equal(&rt, &waiting.of(), &2);
     assert!(rt; waiting.slot());
     let waiting = waiting.on_activity();
     assert!(rt; !waiting.slot());
     let holder = waiting.on_outcome(at(1120)?);
     assert!(rt; holder.asked());
-    assert_eq!(rt; holder.ready().get(), 1120);
+    equal(&rt, &holder.ready().get(), &1120);
     Ok(())
 }
 
@@ -127,14 +131,18 @@ fn a_request_is_sent_again_until_it_has_an_outcome(rt: HostRuntime) -> Result<()
     assert!(rt; waiting.retry().is_none());
     let silent = waiting.on_silence(at(1066)?);
     assert!(rt; !silent.slot());
-    assert_eq!(rt; silent.retry(), Some(at(1066)?));
+    equal(&rt, &silent.retry(), &Some(at(1066)?));
     let request = Telegram::Short(ShortTelegram {
         da: 7,
         sa: 1,
         fc: 0x6d,
     });
     let octets = [0x10, 7, 1, 0x6d, 0x75, 0x16];
-    assert_eq!(rt; silent.initiate(&request).as_slice(), octets.as_slice());
+    equal(
+        &rt,
+        &silent.initiate(&request).as_slice(),
+        &octets.as_slice(),
+    );
     let waiting = silent.again();
     assert!(rt; waiting.slot());
     assert!(rt; waiting.retry().is_none());
@@ -142,12 +150,12 @@ fn a_request_is_sent_again_until_it_has_an_outcome(rt: HostRuntime) -> Result<()
         .on_activity(at(1066)?, at(1143)?)
         .on_damaged(at(1301)?);
     assert!(rt; !damaged.slot());
-    assert_eq!(rt; damaged.retry(), Some(at(1301)?));
+    equal(&rt, &damaged.retry(), &Some(at(1301)?));
     let heard = damaged.on_activity(at(1066)?, at(1290)?);
     assert!(rt; heard.retry().is_none());
     let holder = heard.on_outcome(at(1410)?);
     assert!(rt; !holder.asked());
-    assert_eq!(rt; holder.ready().get(), 1410);
+    equal(&rt, &holder.ready().get(), &1410);
     Ok(())
 }
 
@@ -160,7 +168,7 @@ fn a_slot_outlasts_older_activity(rt: HostRuntime) -> Result<(), Fail> {
     assert!(rt; !waiting.slot());
     assert!(rt; waiting.retry().is_none());
     let phase = Phase::AwaitData(waiting);
-    assert_eq!(rt; phase.name(), "AwaitData");
+    equal(&rt, &phase.name(), &"AwaitData");
     assert!(rt; phase.may_initiate());
     assert!(rt; phase.copy().may_initiate());
     Ok(())
@@ -171,7 +179,7 @@ fn a_slot_outlasts_older_activity(rt: HostRuntime) -> Result<(), Fail> {
 fn a_station_goes_on_after_an_sdn(rt: HostRuntime) -> Result<(), Fail> {
     let holder = holder()?.send(at(1026)?);
     assert!(rt; !holder.asked());
-    assert_eq!(rt; holder.ready().get(), 1026);
+    equal(&rt, &holder.ready().get(), &1026);
     let holder = holder.ask_status(2).on_outcome(at(1190)?).send(at(1316)?);
     assert!(rt; holder.asked());
     let holder = holder.ask().on_outcome(at(1500)?);
@@ -192,15 +200,15 @@ fn checking() -> Result<Checking, Fail> {
 fn a_token_is_passed_again_three_times(rt: HostRuntime) -> Result<(), Fail> {
     let mut silent = checking()?;
     for tries in 1..4 {
-        assert_eq!(rt; silent.tries(), tries);
+        equal(&rt, &silent.tries(), &tries);
         let again = silent.on_silence(at(1073)?);
-        assert_eq!(rt; again.ready().get(), 1073);
+        equal(&rt, &again.ready().get(), &1073);
         let Phase::Checking(checking) = again.on_sent(2, 1, at(1143)?) else {
             return Err(Fail::from("another phase"));
         };
         silent = checking;
     }
-    assert_eq!(rt; silent.tries(), 1);
+    equal(&rt, &silent.tries(), &1);
     Ok(())
 }
 
@@ -211,16 +219,16 @@ fn activity_ends_the_check(rt: HostRuntime) -> Result<(), Fail> {
     let from_three = TokenTelegram { da: 1, sa: 3 };
     let from_two = TokenTelegram { da: 1, sa: 2 };
     let phase = Phase::Idle(checking()?.on_activity());
-    assert_eq!(rt; phase.name(), "Idle");
+    equal(&rt, &phase.name(), &"Idle");
     assert!(rt; !phase.may_initiate());
     let phase = checking()?
         .on_activity()
         .hear_token(&from_three, 1, 3, at(1100)?);
-    assert_eq!(rt; phase.name(), "Use");
+    equal(&rt, &phase.name(), &"Use");
     let phase = checking()?
         .on_activity()
         .hear_token(&from_two, 1, 3, at(1100)?);
-    assert_eq!(rt; phase.name(), "Idle");
+    equal(&rt, &phase.name(), &"Idle");
     Ok(())
 }
 
@@ -228,11 +236,11 @@ fn activity_ends_the_check(rt: HostRuntime) -> Result<(), Fail> {
 #[test]
 fn a_phase_has_an_equal_one(rt: HostRuntime) -> Result<(), Fail> {
     let phase = Phase::Claim(Listening::new().on_timeout(at(800)?));
-    let equal = phase.copy();
-    assert_eq!(rt; equal.name(), phase.name());
-    let (Phase::Claim(claim), Phase::Claim(other)) = (phase, equal) else {
+    let copy = phase.copy();
+    equal(&rt, &copy.name(), &phase.name());
+    let (Phase::Claim(claim), Phase::Claim(other)) = (phase, copy) else {
         return Err(Fail::from("another phase"));
     };
-    assert_eq!(rt; claim.ready(), other.ready());
+    equal(&rt, &claim.ready(), &other.ready());
     Ok(())
 }
