@@ -33,7 +33,9 @@ impl Bus {
     ghost use Rattle.pb_bus.specs.Worlds.{due_at, IsStationAt};
     ghost use Rattle.pb_bus.specs.Glances.{CanBeDecided, Fits, IsGlance};
 
-    /// Does an event. What a station says in it stands in `sent`.
+    /// Does an event. What a station says in it stands in `sent`. It is called, and not put in place, so that a caller
+    /// doesn't clear at each event the room that a seldom one takes.
+    #[inline(never)]
     pub fn apply(&mut self, alloc: Global, event: &Event) -> Result<(), WorldFault>
         requires { IsKept self.old }
         ensures follows { Does self.old (event_of event.now) result self.new }
@@ -79,6 +81,7 @@ impl Bus {
     }
 
     /// Takes the turn of a decision that fits. What the station says stands in `sent`.
+    #[inline(always)]
     pub fn take(&mut self, alloc: Global, decision: Decision) -> Result<(), WorldFault>
         requires kept { IsKept self.old }
         requires fits { Fits (world_of self.old) decision }
@@ -94,8 +97,7 @@ impl Bus {
         make_room_for(&mut self.trace, &decision)?;
         let replaced = take_decided(&mut self.taps, decision, self.now, &mut self.sent);
         self.trace.say(alloc, speaker, &self.sent);
-        self.spares.keep(replaced.was);
-        self.spares.keep(replaced.before);
+        self.spares.keep(replaced.was, replaced.before);
         Ok(())
     }
 

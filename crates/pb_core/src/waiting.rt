@@ -128,8 +128,18 @@ impl Waiting {
     }
 }
 
-/// Whether two lists are the same requests in the same order.
+/// Whether two lists are the same requests in the same order. Mostly none wait.
+#[inline(always)]
 fn are_same(one: &[Request], other: &[Request]) -> bool
+    ensures { IsTrue result ↔ (one.now ≡ other.now) }
+{
+    if one.is_empty() {
+        return other.is_empty();
+    }
+    are_equal(one, other)
+}
+
+fn are_equal(one: &[Request], other: &[Request]) -> bool
     ensures { IsTrue result ↔ (one.now ≡ other.now) }
 {
     one == other

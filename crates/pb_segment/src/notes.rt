@@ -111,6 +111,7 @@ pub(crate) fn refused(world: &World, event: &Event, speaks: bool, fault: CommitF
 }
 
 /// Makes room for one more event of a history that may have so many, and for its receipt.
+#[inline(always)]
 fn make_room(
     alloc: Global,
     history: &mut Blocks,

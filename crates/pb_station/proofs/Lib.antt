@@ -2,3 +2,4 @@ pub mod MarkByMark
 pub mod Noted
 pub mod Places
 pub mod Receipts
+pub mod Silence

@@ -1,4 +1,5 @@
 pub mod Decisions
+pub mod Halves
 pub mod MarkViews
 pub mod Notes
 pub mod Stations

@@ -1,5 +1,6 @@
 ghost use Rattle.std.specs.Prelude.{◌≡◌, ◌≤◌, map, IfOk};
 ghost use Rattle.pb_station.specs.Decisions.{IsDecision};
+ghost use Rattle.pb_station.specs.Halves.{at_clock};
 ghost use Rattle.pb_turn.specs.Stations as turn;
 ghost use Rattle.pb_core.specs.Clocks.{last_turn};
 ghost use Rattle.pb_station.specs.MarkViews.{mark_of, AreOver};
@@ -59,6 +60,7 @@ impl Model for Decision {
 /// caller's conditions.
 ///
 /// Fault: `NoMemory` where memory was refused, for the station before and after.
+#[tactic(auto, using(crate::proofs::Silence::silent_turn))]
 pub fn decide(alloc: Global, glance: Glance) -> Result<Decision, NoMemory>
     requires clock { glance.now ≤ last_turn }
     requires over { AreOver glance.now glance.marks.items }
@@ -73,16 +75,44 @@ pub fn decide(alloc: Global, glance: Glance) -> Result<Decision, NoMemory>
         now,
     } = glance;
     let mut after = station.copy_in_room(alloc)?;
-    let mut out = SendBuffer::new();
-    after.take_turn_on(&marks, now, &mut out);
+    if after.read(&marks, now) {
+        return Ok(spoken(tap, station, marks, now, after));
+    }
     Ok(Decision {
         tap,
         before: station,
         marks,
         now,
         after,
-        speak: out.copy(),
+        speak: None,
     })
+}
+
+/// The turn of a station that has read its marks, and whose speaking moment has come. It stands apart, so that a turn in
+/// which nothing is said doesn't pay for the room of octets.
+#[inline(never)]
+fn spoken(
+    tap: usize,
+    before: Station,
+    marks: Vec<Mark>,
+    now: Moment,
+    mut after: Station,
+) -> Decision
+    requires clock { now ≤ last_turn }
+    requires read { after ≡ at_clock before (map mark_of marks.items) now }
+    ensures { (result.tap ≡ tap) × (result.before ≡ before) × (result.marks ≡ marks.items)
+        × (result.now ≡ now) }
+{
+    let mut out = SendBuffer::new();
+    after.speak(now, &mut out);
+    Decision {
+        tap,
+        before,
+        marks,
+        now,
+        after,
+        speak: out.copy(),
+    }
 }
 
 /// When a station has to take its turn, with some unread marks: the least of the moment at which the first of

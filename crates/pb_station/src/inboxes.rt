@@ -130,6 +130,9 @@ impl Inbox {
     pub fn copy_marks(&self, alloc: Global) -> Result<Vec<Mark>, AllocError>
         ensures { IfOk result (λ v. map mark_of v.items ≡ self.now) }
     {
+        if self.notes.is_empty() {
+            return Ok(Vec::new(alloc));
+        }
         copy_all(alloc, &self.notes, &self.chars, &self.octets)
     }
 

@@ -37,11 +37,12 @@ impl Spares {
         Ok(copy.with_room(self.rooms.pop()))
     }
 
-    /// The room of a station that is no longer wanted is kept, if there are not yet 16 and memory for it is not
-    /// refused.
-    pub fn keep(&mut self, station: Station) {
-        if self.rooms.len() < LIMIT && self.rooms.reserve(1).is_ok() {
-            self.rooms.push_reserved(station.into_parts());
+    /// The rooms of two stations that are no longer wanted are kept, if there is place for both among 16, and memory for
+    /// them is not refused.
+    pub fn keep(&mut self, one: Station, other: Station) {
+        if self.rooms.len() + 2 <= LIMIT && self.rooms.reserve(2).is_ok() {
+            self.rooms.push_reserved(one.into_parts());
+            self.rooms.push_reserved(other.into_parts());
         }
     }
 }

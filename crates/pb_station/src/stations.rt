@@ -7,7 +7,7 @@ ghost use Rattle.pb_tokenfsm.specs.Phases.{phase_of};
 
 use crate::inboxes::Inbox;
 use crate::marks::Mark;
-use crate::turns::{due_of, due_on, take_turn, take_turn_on, would_speak};
+use crate::turns::{due_of, due_on, read_on, speak_on, take_turn, would_speak};
 use arrayvec::ArrayVec;
 use pb_core::{Address, Core, Cycles, Kept, Past, SendBuffer, Waiting, copy_outcome};
 use pb_cycles::{Outcome, Queue, Request};
@@ -139,6 +139,7 @@ impl Station {
     ghost use Rattle.pb_tokenfsm.specs.Phases.{phase_of};
     ghost use Rattle.pb_core.specs.Clocks.{last_turn};
     ghost use Rattle.pb_station.specs.Decisions.{turned};
+    ghost use Rattle.pb_station.specs.Halves.{at_clock, has_come, spoken};
     ghost use Rattle.pb_station.specs.MarkViews.{mark_of, AllOver, AreOver};
 
     /// A station that doesn't run, at a tap, counted from 0: a master or a passive station, with an address,
@@ -377,14 +378,25 @@ impl Station {
         take_turn(core, params, inbox, now, out);
     }
 
-    /// The same with marks that are in no inbox.
-    pub(crate) fn take_turn_on(&mut self, marks: &[Mark], now: Moment, out: &mut SendBuffer)
+    /// The first half of a turn, with marks that are in no inbox: the station reads them, and its timers. It answers
+    /// whether its speaking moment has come.
+    pub(crate) fn read(&mut self, marks: &[Mark], now: Moment) -> bool
         requires clock { now ≤ last_turn }
         requires over { AreOver now marks.now }
-        ensures { (self.new, out.new) ≡ turned self.old (map mark_of marks.now) now }
+        ensures read { self.new ≡ at_clock self.old (map mark_of marks.now) now }
+        ensures come { result ≡ has_come (turn.speaks_at self.new.station) now }
     {
         let Parts { params, core, .. } = &mut *self.parts;
-        take_turn_on(core, params, marks, now, out);
+        read_on(core, params, marks, now)
+    }
+
+    /// The second half: the station at the clock speaks, if its moment has come.
+    pub(crate) fn speak(&mut self, now: Moment, out: &mut SendBuffer)
+        requires clock { now ≤ last_turn }
+        ensures { (self.new, out.new) ≡ spoken self.old now }
+    {
+        let Parts { params, core, .. } = &mut *self.parts;
+        speak_on(core, params, now, out);
     }
 
     /// Whether the station would say anything in that turn. It changes nothing.

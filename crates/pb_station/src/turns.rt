@@ -2,10 +2,11 @@
 
 ghost use Rattle.std.specs.Prelude.{◌≡◌, ◌≤◌, map, is_some};
 ghost use Rattle.pb_turn.specs.Stations.{earlier, first_seen, due_of, timer_of, speaks_at};
-ghost use Rattle.pb_turn.specs.Turns.{settled, turn_of};
+ghost use Rattle.pb_turn.specs.Turns.{settled, speech, turn_of};
 ghost use Rattle.pb_tokenfsm.specs.Phases.{phase_of};
 ghost use Rattle.pb_core.specs.Clocks.{last_turn};
 ghost use Rattle.pb_core.specs.Cores.{station_of, Becomes, HasReceived};
+ghost use Rattle.pb_station.specs.Halves.{has_come};
 ghost use Rattle.pb_station.specs.MarkViews.{mark_of, AllOver, AreOver};
 
 use crate::inboxes::{Inbox, Unread};
@@ -41,19 +42,29 @@ pub(crate) fn take_turn(
     speak(phase, kept, waiting, params, now, out);
 }
 
-/// The same with marks that are in no inbox.
-pub(crate) fn take_turn_on(
-    core: &mut Core,
-    params: &BusParams,
-    marks: &[Mark],
-    now: Moment,
-    out: &mut SendBuffer,
-)
+/// The first half of a turn, with marks that are in no inbox: the station reads them, and its timers between them and up
+/// to the clock. It answers whether its speaking moment has come.
+pub(crate) fn read_on(core: &mut Core, params: &BusParams, marks: &[Mark], now: Moment) -> bool
     requires clock { now ≤ last_turn }
     requires over { AreOver now marks.now }
     requires received { HasReceived (station_of core.old) }
-    ensures turn { (station_of core.new, out.new)
-        ≡ turn_of params.now (station_of core.old) (map mark_of marks.now) now }
+    ensures read { station_of core.new
+        ≡ settled params.now (station_of core.old) (map mark_of marks.now) now }
+    ensures come { result ≡ has_come (speaks_at (station_of core.new)) now }
+    ensures received { HasReceived (station_of core.new) }
+{
+    let Core { phase, kept, .. } = core;
+    let before = phase.take();
+    *phase = settle_on(before, kept, params, marks, now);
+    has_come(speaks_at(phase, kept), now)
+}
+
+/// The second half: the station at the clock speaks, if its moment has come.
+pub(crate) fn speak_on(core: &mut Core, params: &BusParams, now: Moment, out: &mut SendBuffer)
+    requires clock { now ≤ last_turn }
+    requires received { HasReceived (station_of core.old) }
+    ensures speech { let before = station_of core.old in
+        (station_of core.new, out.new) ≡ speech params.now before (speaks_at before) now }
     ensures received { HasReceived (station_of core.new) }
 {
     let Core {
@@ -61,8 +72,6 @@ pub(crate) fn take_turn_on(
         kept,
         waiting,
     } = core;
-    let before = phase.take();
-    *phase = settle_on(before, kept, params, marks, now);
     speak(phase, kept, waiting, params, now, out);
 }
 
@@ -131,6 +140,16 @@ fn settle_on(
 {
     let read = after_marks(phase, kept, params, marks, now);
     after_timer(read, kept, params, after(now, 1))
+}
+
+/// Whether a moment has come.
+fn has_come(moment: Option<Moment>, now: Moment) -> bool
+    ensures { result ≡ has_come moment now }
+{
+    match moment {
+        Some(moment) => moment <= now,
+        None => false,
+    }
 }
 
 /// The earlier of two moments, of which either may be missing.

@@ -1,4 +1,4 @@
-ghost use Rattle.std.specs.Prelude.{◌≡◌, OnOk, IfErr, map, take};
+ghost use Rattle.std.specs.Prelude.{◌≡◌, ◌≤◌, OnOk, IfErr, Some, length, map, take};
 ghost use Rattle.pb_taps.specs.Events.{event_of, reply_of};
 ghost use Rattle.pb_bus.specs.Worlds.{StopsAt};
 ghost use Rattle.pb_model.specs.Step.{RunsTo};
@@ -8,6 +8,7 @@ use pb_bus::{Bus, new_bus};
 use pb_medium::Entry;
 use pb_station::{Decision, Glance, NoMemory, Station};
 use pb_taps::{Event, NewFault, Reply, TapSpec, WorldFault};
+use pb_telegram::copy_octets;
 use pb_timers::{BusParams, Moment};
 use std::alloc::Global;
 use std::marker::Model;
@@ -201,6 +202,7 @@ impl World {
     /// would answer, and leaves what that would leave. A refused turn changes nothing.
     ///
     /// Faults: those of `Turn`.
+    #[inline(always)]
     pub fn take(&mut self, alloc: Global, decision: Decision) -> Result<Reply, WorldFault>
         requires { Fits self.old decision }
         ensures follows { Follows self.old (Turn decision.tap) result self.new }
@@ -220,12 +222,28 @@ impl World {
 }
 
 /// The reply of the last event.
+#[inline(always)]
 fn reply(bus: &Bus) -> Reply
     ensures { reply_of result ≡ record { now = bus.entry.now.now; spoke = bus.entry.now.sent } }
 {
+    match bus.sent.octets() {
+        Some(octets) => spoken_reply(bus.now, octets),
+        None => Reply {
+            now: bus.now,
+            spoke: None,
+        },
+    }
+}
+
+/// The reply of an event that says something. It stands apart, so that others don't pay for the room of octets.
+#[inline(never)]
+fn spoken_reply(now: Moment, octets: &[u8]) -> Reply
+    requires { length octets.now ≤ 255 }
+    ensures { reply_of result ≡ record { now = now; spoke = Some octets.now } }
+{
     Reply {
-        now: bus.now,
-        spoke: bus.sent.copy(),
+        now,
+        spoke: Some(copy_octets(octets)),
     }
 }
 

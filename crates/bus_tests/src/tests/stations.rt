@@ -1,4 +1,4 @@
-ghost use Rattle.std.specs.Prelude.{◌≡◌, true, IfOk};
+ghost use Rattle.std.specs.Prelude.{◌≡◌, ◌≤◌, true, IfOk};
 ghost use Rattle.pb_turn.specs.Marks.{moment_of};
 ghost use Rattle.pb_station.specs.MarkViews.{mark_of, AreOver};
 
@@ -177,18 +177,23 @@ fn a_new_master_listens_and_claims(rt: HostRuntime) -> Result<(), Fail> {
     Ok(())
 }
 
+/// A passive station that has started.
+fn passive(alloc: Global, address: u8) -> Result<Station, Fail>
+    requires { address ≤ 126 }
+{
+    let mut reply = ArrayVec::new();
+    reply.push(address);
+    let mut station = Station::new(alloc, 3, usual()?, address, false, reply)?;
+    station.start(at(40)?);
+    Ok(station)
+}
+
 /// A station is copied in the room of another, whatever that was, and so is the one after a turn.
 #[test]
 fn stations_are_copied_in_the_room_of_others(rt: HostRuntime) -> Result<(), Fail> {
     let alloc = rt.alloc();
     let mut spares = Spares::new(alloc);
-    for address in [7, 9] {
-        let mut reply = ArrayVec::new();
-        reply.push(address);
-        let mut other = Station::new(alloc, 3, usual()?, address, false, reply)?;
-        other.start(at(40)?);
-        spares.keep(other);
-    }
+    spares.keep(passive(alloc, 7)?, passive(alloc, 9)?);
     let mut station = master(alloc)?;
     station.start(at(0)?);
     let copy = spares.copy_of(alloc, &station)?;

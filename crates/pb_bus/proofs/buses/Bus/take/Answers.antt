@@ -63,21 +63,21 @@ say-requires-clause-room c speaks =
     c.in_ok-make_room_for.ensures.ok (ap is_some (says ∙ sym said) ∙ speaks)
 
 -- the tap that ran, what its turn did to the taps, and what became of the trace
-runs : (c : goal.After-keep-2) → Runs c.args.self.now.taps.items c.args.decision.tap
+runs : (c : goal.After-keep) → Runs c.args.self.now.taps.items c.args.decision.tap
 runs c =
     let (t, at, up) = c.in_ok-check_running.ensures.ok in
     (t, ap (λ xs. slice_get xs c.args.decision.tap) (sym c.deref.ensures.value) ∙ ap (λ x. slice_get c.deref.result.now x.tap) (sym c.decision.view_is) ∙ at, up)
 
-takes : (c : goal.After-keep-2) → TakesTurn c.args.self.now.taps.items c.args.decision.tap c.args.self.now.now c.take_decided-replaced.new.taps c.take_decided-replaced.new.out
+takes : (c : goal.After-keep) → TakesTurn c.args.self.now.taps.items c.args.decision.tap c.args.self.now.now c.take_decided-replaced.new.taps c.take_decided-replaced.new.out
 takes c = subst (λ ts. TakesTurn ts c.args.decision.tap c.args.self.now.now c.take_decided-replaced.new.taps c.take_decided-replaced.new.out) c.deref_mut.ensures.value c.take_decided-replaced.ensures.turn
 
-back : (c : goal.After-keep-2) → (with_items c.args.self.now.taps c.take_decided-replaced.new.taps).items ≡ c.take_decided-replaced.new.taps
+back : (c : goal.After-keep) → (with_items c.args.self.now.taps c.take_decided-replaced.new.taps).items ≡ c.take_decided-replaced.new.taps
 back c =
     let bus = c.args.self.now in
     written-back bus.taps.len bus.taps.items c.take_decided-replaced.new.taps (ap length (sym c.deref_mut.ensures.value) ∙ c.deref_mut.ensures.len)
     (ap length (takes c).2 ∙ length-set bus.taps.items c.args.decision.tap (turned_tap (takes c).0 bus.now))
 
-grows : (c : goal.After-keep-2) → Grows c.args.self.now c.args.decision.tap c.take_decided-replaced.new.out c.make_room_for.new.trace c.say.new.self
+grows : (c : goal.After-keep) → Grows c.args.self.now c.args.decision.tap c.take_decided-replaced.new.out c.make_room_for.new.trace c.say.new.self
 grows c =
     let bus = c.args.self.now in
     let d = c.args.decision in
@@ -96,4 +96,4 @@ returns-clause-follows c =
 
 pub returns-clause-kept : goal.returns-clause-kept
 returns-clause-kept c =
-    turn-kept c.args.self.now c.args.decision.tap c.take_decided-replaced.new.taps _ c.take_decided-replaced.new.out c.make_room_for.new.trace c.say.new.self c.take_decided-replaced.new.out c.keep-2.new.self c.requires.kept (runs c) (takes c) (back c) (grows c)
+    turn-kept c.args.self.now c.args.decision.tap c.take_decided-replaced.new.taps _ c.take_decided-replaced.new.out c.make_room_for.new.trace c.say.new.self c.take_decided-replaced.new.out c.keep.new.self c.requires.kept (runs c) (takes c) (back c) (grows c)
