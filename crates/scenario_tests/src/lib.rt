@@ -1,4 +1,4 @@
-//! Tests of the calls of pb_scenario, and no code.
+//! Tests of the calls of pb_scenario, pb_plan and pb_review, and no code.
 #![tactic(auto)]
 
 #[cfg(test)]
