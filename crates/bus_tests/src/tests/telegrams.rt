@@ -54,8 +54,8 @@ fn telegrams_are_read(rt: HostRuntime) -> Result<(), Fail> {
         ),
     ];
     for (telegram, octets) in &spellings {
-        equal(&rt, &whole_telegram(&good(rt.alloc(), octets)?), &*telegram);
-        equal(&rt, &spelled_telegram(octets), &*telegram);
+        equal(&rt, &whole_telegram(&good(rt.alloc(), octets)?), telegram);
+        equal(&rt, &spelled_telegram(octets), telegram);
     }
     Ok(())
 }

@@ -79,7 +79,7 @@ fn telegrams_are_read_and_written(rt: HostRuntime) -> Result<(), Fail> {
         (Telegram::Ack, [0xe5].as_slice()),
     ];
     for (telegram, octets) in &spellings {
-        equal(&rt, &write(telegram).as_slice(), &*octets);
+        equal(&rt, &write(telegram).as_slice(), octets);
         equal(
             &rt,
             &parse(&good(rt.alloc(), octets)?).as_ref(),
