@@ -1,58 +1,120 @@
 """Edits of a crate, as must-fail/, more-edits/ and misuse/ have them: a line 'file: PATH', then pairs of lines
-'old: TEXT' and 'new: TEXT', where each old text stands once in what the pairs before it made.
+'old: TEXT' and 'new: TEXT', where each old text stands once in what the pairs before it made. A line '# body: NAME' names the
+function whose body alone the edit changes, a line '# breaks: NAME' one that it must leave unproved by changing something else.
 
     tools/edits.py apply EDIT CRATE     writes the edited files into the crate's folder
-    tools/edits.py stale CRATE..        names each edit of more-edits/ whose text no longer stands in its crate
+    tools/edits.py stale CRATE..        names each edit of must-fail/ and more-edits/ that can't be applied, or whose line
+                                        '# body:' isn't true
 """
 
+import dataclasses
+import os
 import pathlib
+import re
 import sys
 
 
-def edited(edit, crate):
-    """The text of each file that the edit changes, by its path."""
-    texts, path, old = {}, None, None
-    for line in edit.read_text().splitlines():
-        key, _, text = line.partition(":")
+@dataclasses.dataclass
+class Edit:
+    path: pathlib.Path
+    pairs: list[tuple[str, str, str]]
+    body: str = ""
+    breaks: str = ""
+
+    @property
+    def target(self):
+        """The function that must lose its proof; none where any of the crate's may."""
+        return self.body or self.breaks
+
+
+@dataclasses.dataclass
+class Span:
+    """What of a file an edit changes, from the first octet to the last, and what it puts there."""
+
+    start: int
+    end: int
+    text: str
+    edit: Edit
+
+
+def read(path):
+    edit, file, old = Edit(path, []), None, None
+    for line in path.read_text().splitlines():
+        key, _, text = line.removeprefix("# ").partition(":")
         text = text.removeprefix(" ")
         if key == "file":
-            path = crate / text
-            if path not in texts:
-                texts[path] = path.read_text()
+            file = text
         elif key == "old":
             old = text
         elif key == "new":
-            found = texts[path].count(old)
-            if found != 1:
-                raise ValueError(f"{edit}: the text stands {found} times: {old}")
-            texts[path] = texts[path].replace(old, text)
-    return texts
+            edit.pairs.append((file, old, text))
+        elif key in ("body", "breaks"):
+            setattr(edit, key, text)
+    return edit
 
 
-def apply(edit, crate):
-    for path, text in edited(edit, crate).items():
-        path.write_text(text)
+def spans(edit, crate):
+    """What the edit changes, by file."""
+    were = {file: (crate / file).read_text() for file, _, _ in edit.pairs}
+    texts = dict(were)
+    for file, old, new in edit.pairs:
+        found = texts[file].count(old)
+        if found != 1:
+            raise ValueError(f"{edit.path}: the text stands {found} times: {old}")
+        texts[file] = texts[file].replace(old, new)
+    return {file: span(were[file], text, edit) for file, text in texts.items()}
 
 
-def stale(crates):
-    """What is wrong with the edits of these crates that can no longer be applied."""
-    for crate in crates:
-        for edit in sorted(crate.glob("more-edits/*.edit")):
-            try:
-                edited(edit, crate)
-            except (ValueError, OSError) as wrong:
-                yield str(wrong)
+def span(was, now, edit):
+    same = len(os.path.commonprefix([was, now]))
+    tail = len(os.path.commonprefix([was[same:][::-1], now[same:][::-1]]))
+    return Span(same, len(was) - tail, now[same : len(now) - tail], edit)
+
+
+def apply(edits, crate):
+    """Writes what edits of different functions make of the crate's files together."""
+    changed = {}
+    for edit in edits:
+        for file, it in spans(edit, crate).items():
+            changed.setdefault(file, []).append(it)
+    for file, parts in changed.items():
+        text = (crate / file).read_text()
+        for it in sorted(parts, key=lambda it: it.start, reverse=True):
+            text = text[: it.start] + it.text + text[it.end :]
+        (crate / file).write_text(text)
+
+
+def is_in_body(part, name, text):
+    """Whether what is changed lies in the body of a function of this name, which as rt fmt sets it ends at a brace as far in as it begins."""
+    for head in re.finditer(rf"^( *)(?:pub(?:\(\w+\))? )?(?:const )?(?:unsafe )?fn {re.escape(name)}\b", text, re.M):
+        opens = re.compile(rf"^{head[1]}\{{$| \{{$", re.M).search(text, head.end())
+        closes = re.compile(rf"^{head[1]}\}}$", re.M).search(text, head.end())
+        if opens and closes and opens.end() <= part.start and part.end < closes.end():
+            return True
+    return False
+
+
+def faults(path, crate):
+    """What is wrong with an edit."""
+    try:
+        edit = read(path)
+        changed = spans(edit, crate)
+        name = edit.body.split("::")[-1]
+        if name and not all(is_in_body(it, name, (crate / file).read_text()) for file, it in changed.items()):
+            yield f"{path}: it changes more than the body of {edit.body}"
+    except (ValueError, OSError) as wrong:
+        yield str(wrong)
 
 
 def main(verb, *paths):
     paths = [pathlib.Path(path) for path in paths]
     if verb == "apply":
         try:
-            apply(*paths)
+            apply([read(paths[0])], paths[1])
         except (ValueError, OSError) as wrong:
             sys.exit(str(wrong))
     else:
-        found = [*stale(paths)]
+        found = [it for crate in paths for path in sorted(crate.glob("m*-*/*.edit")) for it in faults(path, crate)]
         print(*found, sep="\n", end="\n" if found else "")
         sys.exit(bool(found))
 

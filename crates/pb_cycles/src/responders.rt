@@ -5,7 +5,7 @@ ghost use Rattle.pb_cycles.specs.Responding.{reply_frame, data_reply, service_re
 
 use arrayvec::ArrayVec;
 use pb_messages::{Asked, Frame, Message, Reply, Service};
-use pb_telegram::{Fc, Telegram, copy_octets};
+use pb_telegram::{Fc, Telegram, copy_octets, put_octets};
 use std::marker::Model;
 
 /// What a responder keeps of the last SDA or SRD.
@@ -142,8 +142,7 @@ impl Responder {
     pub fn copy_from(&mut self, other: &Responder)
         ensures { self.new ≡ other.now }
     {
-        self.reply.clear();
-        self.reply.try_extend_from_slice(&other.reply).unwrap();
+        put_octets(&mut self.reply, &other.reply);
         self.executed = other.executed;
         if self.kept.is_some() || other.kept.is_some() {
             copy_kept(&mut self.kept, &other.kept);

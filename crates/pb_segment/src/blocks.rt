@@ -62,6 +62,19 @@ impl Blocks {
         ensures same { happened_in self.new ≡ happened_in self.old }
         ensures room { OnOk result (HasRoom self.new) }
     {
+        if self.last.len() < self.last.capacity().min(ROOM) {
+            return Ok(());
+        }
+        self.add_room(alloc)
+    }
+
+    /// Makes room where there is none for one more. It stands apart, since nearly always there is.
+    #[inline(never)]
+    fn add_room(&mut self, alloc: Global) -> Result<(), AllocError>
+        requires { length (happened_in self.old) < 1000000 }
+        ensures same { happened_in self.new ≡ happened_in self.old }
+        ensures room { OnOk result (HasRoom self.new) }
+    {
         if self.last.len() < ROOM {
             return self.last.reserve_exact(ROOM - self.last.len());
         }

@@ -1,3 +1,5 @@
+mod idle;
+
 ghost use Rattle.std.specs.Prelude.{◌≡◌, ◌+◌, ◌<◌, ◌≤◌, true, length};
 ghost use Rattle.pb_segment.specs.Origins.{IsNew};
 
@@ -278,7 +280,7 @@ fn race<L: Ledger + Send + Sync, R: AllocGlobal + Abort + Threads + Wait + Sync>
         let mut running = Vec::new(rt.alloc());
         for seat in seats {
             let thread = scope
-                .spawn(move || takes_turns(rt, segment, seat))
+                .spawn(move || takes_turns(rt, segment, seat, ACCEPTED))
                 .expect(rt, "a thread");
             running.push(thread).expect(rt, "room");
         }
@@ -291,15 +293,16 @@ fn race<L: Ledger + Send + Sync, R: AllocGlobal + Abort + Threads + Wait + Sync>
     })
 }
 
-/// Takes turns until enough were accepted.
+/// Takes turns until so many were accepted.
 fn takes_turns<L: Ledger, R: AllocGlobal + Abort + Wait>(
     rt: &R,
     segment: &SharedSegment<L>,
     mut seat: TapSeat<L>,
+    turns: usize,
 ) -> TapSeat<L> {
     let mut accepted: usize = 0;
     for _ in 0..TRIES {
-        if accepted >= ACCEPTED {
+        if accepted >= turns {
             break;
         }
         let glance = segment.glance(rt, rt.alloc(), &seat).expect(rt, "a glance");

@@ -61,6 +61,7 @@ impl Model for Decision {
 ///
 /// Fault: `NoMemory` where memory was refused, for the station before and after.
 #[tactic(auto, using(crate::proofs::Silence::silent_turn))]
+#[inline(always)]
 pub fn decide(alloc: Global, glance: Glance) -> Result<Decision, NoMemory>
     requires clock { glance.now ≤ last_turn }
     requires over { AreOver glance.now glance.marks.items }

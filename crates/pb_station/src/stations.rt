@@ -13,7 +13,7 @@ use pb_core::{Address, Core, Cycles, Kept, Past, SendBuffer, Waiting, copy_outco
 use pb_cycles::{Outcome, Queue, Request};
 use pb_ring::{Gap, Las};
 use pb_rotation::Rotation;
-use pb_telegram::copy_octets;
+use pb_telegram::{copy_octets, put_octets};
 use pb_timers::{BusParams, Moment};
 use pb_tokenfsm::{Listening, Offline, PassiveIdle, Phase};
 use std::alloc::{AllocError, AllocFailed, Global};
@@ -75,10 +75,7 @@ impl Parts {
         self.tap = other.tap;
         self.params = other.params;
         self.master = other.master;
-        self.reply_data.clear();
-        self.reply_data
-            .try_extend_from_slice(&other.reply_data)
-            .unwrap();
+        put_octets(&mut self.reply_data, &other.reply_data);
         self.core.copy_from(&other.core);
     }
 }

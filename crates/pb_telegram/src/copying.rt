@@ -11,3 +11,15 @@ pub fn copy_octets<const ROOM: usize>(octets: &[u8]) -> ArrayVec<u8, ROOM>
     copy.try_extend_from_slice(octets).unwrap();
     copy
 }
+
+/// Some octets take the place of others, at most as many as the room has places, the caller's condition. Where there are none,
+/// none is moved.
+pub fn put_octets<const ROOM: usize>(room: &mut ArrayVec<u8, ROOM>, octets: &[u8])
+    requires { length octets.now ≤ ROOM }
+    ensures { room.new.items ≡ octets.now }
+{
+    room.clear();
+    if !octets.is_empty() {
+        room.try_extend_from_slice(octets).unwrap();
+    }
+}

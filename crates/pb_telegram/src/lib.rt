@@ -19,7 +19,7 @@ mod writing;
 
 pub use chars::RxChar;
 pub use control::{Fc, fcs};
-pub use copying::copy_octets;
+pub use copying::{copy_octets, put_octets};
 pub use faults::TelegramFault;
 pub use heads::Head;
 pub use laws::{

@@ -1,7 +1,7 @@
 use Rattle.std.proofs.Common.{rules, arith, ◌≡◌, ◌<◌, ◌+◌, length}
 use Rattle.pb_segment.proofs.Placed.{length_in}
 use Rattle.pb_segment.specs.Blocks.{happened_in}
-use Rattle.pb_segment.proofs.blocks.Blocks.reserve.Goals as goal
+use Rattle.pb_segment.proofs.blocks.Blocks.add_room.Goals as goal
 
 pub invariant_of-self-2-clause-few : goal.invariant_of-self-2-clause-few
 invariant_of-self-2-clause-few c =
