@@ -1,10 +1,12 @@
-//! The job of `event_player` in plain Rust, written for speed, with std alone and no proofs: what the bench
-//! measures a world against. It has the same words, and one more:
+//! The jobs of `event_player`, and of `ringplay run` and `ringplay audit`, in plain Rust, written for speed, with std alone
+//! and no proofs: what the bench measures a world and the program against.
 //!
 //!     world_plain < LIST                  all that comes of an event list
 //!     world_plain trace TIMES < LIST      plays it so many times, each to its first refused event; the last trace
 //!     world_plain audit TIMES < LIST      audits it so many times; what the last found
 //!     world_plain make KIND BITS          an event list: see `kind_of`
+//!     world_plain run < FILE              the trace of a scenario file as `scenarios.py` writes it
+//!     world_plain audit < FILE            what an audit of its run finds
 //!
 //! A telegram's octets are written once, behind all that were sent before (`Air`). What a tap hears is read once for
 //! all taps. Sets of addresses and of taps are masks.
@@ -35,8 +37,10 @@ fn main() -> ExitCode {
         ["trace", times] => read_list().and_then(|list| traces(&list, number(times)?)),
         ["audit", times] => read_list().and_then(|list| audits(&list, number(times)?)),
         ["make", kind, bits] => number(bits).and_then(|bits| make(kind, bits)),
+        ["run"] => read_scenario().and_then(|scenario| run(scenario, None)),
+        ["audit"] => read_scenario().and_then(|scenario| run(scenario, Some(Watch::new()))),
         _ => Err(Fault::List(
-            "usage: world_plain [trace TIMES | audit TIMES] < LIST, or make KIND BITS".into(),
+            "usage: world_plain [trace TIMES | audit TIMES] < LIST, make KIND BITS, or run | audit < FILE".into(),
         )),
     };
     match text {
@@ -780,7 +784,7 @@ impl Station {
     /// When it has to take its turn.
     fn due(&self, params: &Params, marks: &[Mark]) -> Option<u64> {
         let seen = marks.first().map(|mark| mark.seen);
-        [seen, self.timer(params), self.speaks_at()].into_iter().flatten().min()
+        sooner(seen, sooner(self.timer(params), self.speaks_at()))
     }
 
     fn timer(&self, params: &Params) -> Option<u64> {
@@ -1235,6 +1239,12 @@ impl World {
         self.recent().iter().map(|entry| entry.end).filter(|end| *end > self.now).min()
     }
 
+    /// The next moment at which something changes on the medium: an end, or the first bit time of a telegram.
+    fn next_change(&self) -> Option<u64> {
+        let is_new = self.recent().iter().any(|entry| entry.begin == self.now);
+        self.next_end().into_iter().chain(is_new.then_some(self.now + 1)).min()
+    }
+
     fn due(&self, tap: usize) -> Option<u64> {
         let tap = &self.taps[tap];
         if !tap.is_running {
@@ -1449,6 +1459,14 @@ impl World {
     }
 }
 
+/// The first of two moments.
+fn sooner(one: Option<u64>, other: Option<u64>) -> Option<u64> {
+    match (one, other) {
+        (Some(one), Some(other)) => Some(one.min(other)),
+        _ => one.or(other),
+    }
+}
+
 // ---- the audit
 
 /// The first premise that broke, with the clock, and the place of the first illegal record.
@@ -1468,7 +1486,7 @@ struct Watch {
 
 fn audit(list: &EventList) -> Result<Result<Finding, Refusal>, Fault> {
     let mut world = World::new(list.params()?, &list.taps)?;
-    let mut watch = Watch { quiet: 0, waited: None, broken: None };
+    let mut watch = Watch::new();
     for event in &list.events {
         if let Err(refusal) = watch.follow(&mut world, event) {
             return Ok(Err(refusal));
@@ -1479,6 +1497,10 @@ fn audit(list: &EventList) -> Result<Result<Finding, Refusal>, Fault> {
 }
 
 impl Watch {
+    fn new() -> Watch {
+        Watch { quiet: 0, waited: None, broken: None }
+    }
+
     /// Does an event.
     fn follow(&mut self, world: &mut World, event: &Event) -> Result<(), Refusal> {
         if self.broken.is_some() {
@@ -1694,19 +1716,22 @@ fn audits(list: &EventList, times: u64) -> Result<String, Fault> {
 }
 
 fn push_finding(text: &mut String, list: &EventList) -> Result<(), Fault> {
-    let Ok(Finding { premise, illegal }) = audit(list)? else {
-        text.push_str("no audit\n");
-        return Ok(());
-    };
-    let _ = match premise {
+    match audit(list)? {
+        Ok(found) => push_found(text, &found),
+        Err(_) => text.push_str("no audit\n"),
+    }
+    Ok(())
+}
+
+fn push_found(text: &mut String, found: &Finding) {
+    let _ = match found.premise {
         Some((number, clock)) => writeln!(text, "premise P{number} broken at {clock}"),
         None => writeln!(text, "premises kept"),
     };
-    let _ = match illegal {
+    let _ = match found.illegal {
         Some(place) => writeln!(text, "record {place} illegal"),
         None => writeln!(text, "trace legal"),
     };
-    Ok(())
 }
 
 fn push_trace(text: &mut String, world: &World) {
@@ -1739,7 +1764,16 @@ struct Hex<'a>(&'a [u8]);
 
 impl Display for Hex<'_> {
     fn fmt(&self, f: &mut fmt::Formatter<'_>) -> fmt::Result {
-        self.0.iter().try_for_each(|octet| write!(f, "{octet:02x}"))
+        const DIGITS: &[u8; 16] = b"0123456789abcdef";
+        let digits = |octet: &u8| [DIGITS[usize::from(octet >> 4)], DIGITS[usize::from(octet & 15)]];
+        for part in self.0.chunks(64) {
+            let mut text = [0; 128];
+            for (place, octet) in text.chunks_exact_mut(2).zip(part) {
+                place.copy_from_slice(&digits(octet));
+            }
+            f.write_str(std::str::from_utf8(&text[..2 * part.len()]).map_err(|_| fmt::Error)?)?;
+        }
+        Ok(())
     }
 }
 
@@ -2003,6 +2037,145 @@ fn request_of(value: &Json) -> Option<Request> {
     is_sound.then_some(Request { da, service, high: value.get("high")?.bool()?, unit })
 }
 
+// ---- a scenario
+
+/// A scenario file as `scenarios.py` writes it: a line for each key of the top, with tables in braces.
+struct Scenario {
+    until: u64,
+    bus: [(&'static str, u64); 10],
+    taps: Vec<TapSpec>,
+    /// In order of their moments.
+    steps: VecDeque<(u64, Event)>,
+}
+
+/// Plays a scenario, each tap's turn as soon as it is due; its trace, or where it is watched what an audit finds.
+fn run(mut scenario: Scenario, mut watch: Option<Watch>) -> Result<String, Fault> {
+    let mut world = World::new(Params::new(&scenario.bus)?, &scenario.taps)?;
+    let mut text = String::new();
+    loop {
+        let now = world.now;
+        while let Some((_, event)) = scenario.steps.pop_front_if(|(at, _)| *at <= now) {
+            happens(&mut world, &mut watch, &event)?;
+        }
+        let mut next = scenario.until;
+        for tap in 0..world.taps.len() {
+            let mut due = world.due(tap);
+            if due.is_some_and(|due| due <= now) {
+                happens(&mut world, &mut watch, &Event::Turn(tap))?;
+                due = world.due(tap);
+            }
+            next = due.filter(|due| *due > now).map_or(next, |due| due.min(next));
+        }
+        if now >= scenario.until {
+            break;
+        }
+        let step = scenario.steps.front().map(|(at, _)| *at);
+        next = world.next_change().into_iter().chain(step).fold(next, u64::min);
+        happens(&mut world, &mut watch, &Event::Pass(next - now))?;
+    }
+    match watch {
+        Some(watch) => push_found(&mut text, &Finding { premise: watch.broken, illegal: first_illegal(&world) }),
+        None => push_trace(&mut text, &world),
+    }
+    Ok(text)
+}
+
+fn happens(world: &mut World, watch: &mut Option<Watch>, event: &Event) -> Result<(), Fault> {
+    let done = match watch {
+        Some(watch) => watch.follow(world, event),
+        None => world.apply(event).map(drop),
+    };
+    done.map_err(|refusal| Fault::Bus(format!("refused: {refusal}")))
+}
+
+fn read_scenario() -> Result<Scenario, Fault> {
+    let mut text = String::new();
+    if io::stdin().lock().read_to_string(&mut text).is_err() {
+        return Err(Fault::List("read fault".into()));
+    }
+    scenario_of(&text).ok_or(Fault::List("no scenario".into()))
+}
+
+fn scenario_of(text: &str) -> Option<Scenario> {
+    let mut scenario = Scenario { until: 0, bus: USUAL, taps: Vec::new(), steps: VecDeque::new() };
+    for line in text.lines() {
+        let (key, value) = line.split_once(" = ")?;
+        match key {
+            "until" => scenario.until = value.parse().ok()?,
+            "bus" => {
+                for (key, value) in pairs(tables(value).next()?) {
+                    scenario.bus.iter_mut().find(|(name, _)| *name == key)?.1 = value.parse().ok()?;
+                }
+            }
+            "tap" => scenario.taps = tables(value).map(tap_in).collect::<Option<_>>()?,
+            "step" => scenario.steps = tables(value).map(step_in).collect::<Option<_>>()?,
+            _ => {}
+        }
+    }
+    Some(scenario)
+}
+
+/// What stands between the braces.
+fn tables(value: &str) -> impl Iterator<Item = &str> {
+    value.split('{').skip(1).filter_map(|table| Some(table.split_once('}')?.0.trim()))
+}
+
+/// The keys and values of a table, without the quotes of texts.
+fn pairs(table: &str) -> impl Iterator<Item = (&str, &str)> {
+    table.split(", ").filter_map(|pair| pair.split_once(" = ")).map(|(key, value)| (key, value.trim_matches('"')))
+}
+
+fn tap_in(table: &str) -> Option<TapSpec> {
+    let mut tap = TapSpec { master: false, address: 0, reply: Vec::new() };
+    for (key, value) in pairs(table) {
+        match key {
+            "kind" => tap.master = value == "master",
+            "address" => tap.address = value.parse().ok()?,
+            "reply" => tap.reply = octets_in(value)?,
+            _ => {}
+        }
+    }
+    Some(tap)
+}
+
+fn step_in(table: &str) -> Option<(u64, Event)> {
+    let (mut at, mut kind, mut tap) = (0, "", 0);
+    let mut request = Request { da: 0, service: Service::Sda, high: false, unit: Vec::new() };
+    for (key, value) in pairs(table) {
+        match key {
+            "at" => at = value.parse().ok()?,
+            "do" => kind = value,
+            "tap" => tap = value.strip_prefix('t')?.parse().ok()?,
+            "to" => request.da = value.parse().ok()?,
+            "high" => request.high = value == "true",
+            "unit" => request.unit = octets_in(value)?,
+            "service" => {
+                request.service = match value {
+                    "sda" => Service::Sda,
+                    "sdn" => Service::Sdn,
+                    _ => Service::Srd,
+                }
+            }
+            _ => return None,
+        }
+    }
+    match kind {
+        "start" => Some((at, Event::Start(tap))),
+        "queue" => Some((at, Event::Queue { tap, request })),
+        _ => None,
+    }
+}
+
+/// The octets that hex digits spell.
+fn octets_in(text: &str) -> Option<Vec<u8>> {
+    let digit = |byte: u8| match byte {
+        b'0'..=b'9' => Some(byte - b'0'),
+        b'a'..=b'f' => Some(byte - b'a' + 10),
+        _ => None,
+    };
+    text.as_bytes().chunks_exact(2).map(|pair| Some(digit(pair[0])? << 4 | digit(pair[1])?)).collect()
+}
+
 // ---- making a list
 
 /// By when a ring of two masters has formed.
@@ -2103,14 +2276,6 @@ impl Maker {
         }
         taps.filter_map(|tap| self.world.after_turn(tap).0.due(&self.world.params, &[])).min()
     }
-
-    /// The next moment at which something changes on the medium: an end, or the first bit time of a telegram.
-    fn next_change(&self, is_lazy: bool) -> Option<u64> {
-        let now = self.world.now;
-        let is_new = self.world.recent().iter().any(|entry| entry.begin == now);
-        let first = (is_new && !is_lazy).then_some(now + 1);
-        self.world.next_end().into_iter().chain(first).min()
-    }
 }
 
 /// An event list of a kind, for so many bit times: each tap takes its turn as soon as it is due, and time passes to
@@ -2141,7 +2306,7 @@ fn make(name: &str, bits: u64) -> Result<String, Fault> {
         let due = maker.turns(kind.is_lazy);
         let steps = [kind.requests.map(|(every, _)| every), kind.noise.map(|(every, _)| every)];
         let step = steps.into_iter().flatten().map(|every| now - now % every + every);
-        let change = maker.next_change(kind.is_lazy);
+        let change = if kind.is_lazy { maker.world.next_end() } else { maker.world.next_change() };
         let next = step.chain(due).chain(change).filter(|next| *next > now).min().unwrap_or(bits);
         maker.does(Event::Pass(next.min(bits) - now));
     }

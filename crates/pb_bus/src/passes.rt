@@ -1,17 +1,22 @@
-ghost use Rattle.std.specs.Prelude.{◌≡◌, ◌+◌, ◌≤◌, ◌<◌, IfSome, true, false, None, Some, length, map};
+ghost use Rattle.std.specs.Prelude.{◌≡◌, ◌+◌, ◌≤◌, ◌<◌, ◌++◌, ◌∷◌, [], IfSome, true, false, None, Some, length, map};
 ghost use Rattle.pb_timers.specs.Timers.{last_moment};
 ghost use Rattle.pb_model.specs.Laws.{begin_of};
 ghost use Rattle.pb_model.specs.Medium.{new_marks, sensed};
 ghost use Rattle.pb_model.specs.Step as step;
 ghost use Rattle.pb_model.specs.World.{mark_limit};
-ghost use Rattle.pb_medium.specs.Entries.{entry_of};
+ghost use Rattle.pb_turn.specs.Marks.{End};
+ghost use Rattle.pb_model.specs.Trace.{characters_at};
+ghost use Rattle.pb_medium.specs.Entries.{entry_of, record_of};
 ghost use Rattle.pb_medium.specs.Senses.{begin_between, end_between};
 ghost use Rattle.pb_bus.specs.Passes.{end_of, unread_after, with_begin, with_end, with_news};
 ghost use Rattle.pb_taps.specs.Taps.{seat_of, tap_of};
 
-use pb_medium::{Entry, begin_between, burst_characters, burst_octets, end_between};
+use pb_medium::{
+    Entry, Record, begin_between, burst_octets, end_between, filling_telegram, telegram_characters,
+};
 use pb_station::MARK_LIMIT;
 use pb_taps::Tap;
+use pb_telegram::RxChar;
 use pb_timers::Moment;
 
 /// How many marks a pass tells a tap at most.
@@ -178,8 +183,7 @@ fn tell_end(
     }
 }
 
-/// A pass tells the tap at a position that a burst ended at a moment, whatever it brings. It is a call of its own since the
-/// room of the longest telegram is cleared for it.
+/// A pass tells the tap at a position that a burst ended at a moment, whatever it brings.
 #[inline(never)]
 fn tell_any_end(
     entries: &[Entry],
@@ -192,6 +196,20 @@ fn tell_any_end(
     requires { length tap.old.marks < mark_limit }
     ensures { tap.new ≡ with_end delay position tap.old (map entry_of entries.now) to (Some at) }
 {
-    let chars = burst_characters(entries, delay, position, tap, at.get());
+    match filling_telegram(entries, delay, position, tap, at.get()) {
+        Some(telegram) => tell_characters(telegram, position, tap, at, to),
+        None => tap.marks.push_end(at, to, &[RxChar::Bad]),
+    }
+}
+
+/// A pass tells the tap at a position that a burst ended at a moment, which brings the characters of a telegram. It is a call of its own
+/// since the room of the longest telegram is cleared for it.
+#[inline(never)]
+fn tell_characters(telegram: &Record, position: usize, tap: &mut Tap, at: Moment, to: Moment)
+    requires { length tap.old.marks < mark_limit }
+    ensures { tap.new ≡ record tap.old
+        { marks = tap.old.marks ++ End at to (characters_at position (record_of telegram.now)) ∷ [] } }
+{
+    let chars = telegram_characters(telegram, position);
     tap.marks.push_end(at, to, &chars);
 }

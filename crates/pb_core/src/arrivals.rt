@@ -34,7 +34,7 @@ pub fn whole_telegram(chars: &[RxChar]) -> Option<Telegram>
 {
     match chars {
         [RxChar::Good(_), ..] => read_as_octets(chars),
-        _ => received(chars),
+        _ => None,
     }
 }
 

@@ -1,8 +1,10 @@
 -- What a tap senses of one telegram.
-use Rattle.std.specs.Prelude.{ℕ, Bool, not, ◌==◌, ◌||◌, ◌&&◌, List, length, slice_get, count_by, find, Option}
+use Rattle.std.specs.Prelude.{◌≡◌, ℕ, Bool, not, ◌==◌, ◌||◌, ◌&&◌, List, [], ◌∷◌, length, slice_get, count_by, find, Option, Some, None}
 use Rattle.std.specs.List.{list_any, list_all}
 use Rattle.std.specs.Option.{option_map}
 use Rattle.pb_telegram.specs.Faults.{is_bad}
+use Rattle.pb_telegram.specs.declared.chars.RxChar.{RxChar}
+use Rattle.pb_telegram.specs.declared.chars.RxChar.TheVariants.{Bad}
 use Rattle.pb_turn.specs.Spans.{Span}
 use Rattle.pb_model.specs.Trace.{Record, Entry, characters_at}
 use Rattle.pb_model.specs.Medium.{reaches, is_unheard, sensed, overlaps, sends_during, begins_in, ends_in}
@@ -20,6 +22,11 @@ is_alone delay tap since trace r =
 -- every character of a telegram went out, and comes good to a tap
 abbrev pub is_undamaged : ℕ → Record → Bool
 is_undamaged tap r = length (characters_at tap r) == length r.octets && list_all (λ char. not (is_bad char)) (characters_at tap r)
+
+-- what a burst brings is told by the telegram that fills it: its characters, else one damaged character
+abbrev pub TellsBurst : ℕ → Option Record → List RxChar → Type 0
+TellsBurst tap (Some r) chars = chars ≡ characters_at tap r
+TellsBurst tap None chars = chars ≡ Bad ∷ []
 
 -- when a burst begins from one moment on and before another, if one does
 abbrev pub begin_between : List Span → ℕ → ℕ → Option ℕ

@@ -21,7 +21,8 @@ pub use changing::{next_begin, something_lasts};
 pub use entries::{Entry, Heard, Hit, Record};
 pub use receptions::Reception;
 pub use senses::{
-    begin_between, burst_characters, burst_octets, end_between, is_in_air_by, is_reached, next_end,
+    begin_between, burst_octets, end_between, filling_telegram, is_in_air_by, is_reached, next_end,
+    telegram_characters,
 };
 pub use spans::Span;
 pub use speaking::Speaker;

@@ -10,7 +10,7 @@ ghost use Rattle.pb_model.specs.World as world;
 ghost use Rattle.pb_model.specs.Step as step;
 ghost use Rattle.pb_model.specs.Trace as trace;
 ghost use Rattle.pb_medium.specs.Entries.{entry_of, record_of};
-ghost use Rattle.pb_medium.specs.Senses.{begin_between, end_between, is_alone, is_undamaged, is_undisturbed};
+ghost use Rattle.pb_medium.specs.Senses.{TellsBurst, begin_between, end_between, is_alone, is_undamaged, is_undisturbed};
 ghost use Rattle.pb_taps.specs.Taps.{tap_of};
 
 use crate::entries::{Entry, Record};
@@ -99,22 +99,42 @@ pub fn burst_octets<'a>(
     }
 }
 
-/// The characters of the burst of a tap that ends at a moment.
-pub fn burst_characters(
-    entries: &[Entry],
+/// The telegram that fills the burst of a tap which ends at a moment, alone: the burst brings its characters. Where there is none, it
+/// brings one damaged character.
+pub fn filling_telegram<'a>(
+    entries: &'a [Entry],
     delay: u32,
     position: usize,
     tap: &Tap,
     moment: u64,
-) -> ArrayVec<RxChar, 255>
-    ensures { result.items
-        ≡ model.burst_characters delay position (tap_of tap.now) (map entry_of entries.now) moment }
+) -> Option<&'a Record>
+    ensures { TellsBurst position (option_map (λ r. record_of r.now) result)
+        (model.burst_characters delay position (tap_of tap.now) (map entry_of entries.now) moment) }
 {
     let filling = entries.iter().find(|entry| fills_burst_to(
         entries, delay, position, tap, moment, entry,
     ));
+    telegram_in(filling)
+}
+
+/// The telegram that an entry is, if there is one and it is no noise.
+#[inline(always)]
+fn telegram_in(entry: Option<&Entry>) -> Option<&Record>
+    ensures { (tap : ℕ) → TellsBurst tap (option_map (λ r. record_of r.now) result)
+        (model.entry_characters tap (option_map (λ e. entry_of e.now) entry.entry)) }
+{
+    match entry? {
+        Entry::Sent(telegram) => Some(telegram),
+        Entry::Noise { .. } => None,
+    }
+}
+
+/// The characters of a telegram that went out, as the tap at a position gets them.
+pub fn telegram_characters(telegram: &Record, position: usize) -> ArrayVec<RxChar, 255>
+    ensures { result.items ≡ trace.characters_at position (record_of telegram.now) }
+{
     let mut chars = ArrayVec::new();
-    entry_characters(filling, position, &mut chars);
+    characters_at(telegram, position, &mut chars);
     chars
 }
 
@@ -363,18 +383,6 @@ fn fills_burst_to(
     }
 }
 
-/// The characters of a telegram, else one damaged character.
-fn entry_characters(entry: Option<&Entry>, position: usize, chars: &mut ArrayVec<RxChar, 255>)
-    ensures { chars.new.items
-        ≡ model.entry_characters position (option_map (λ e. entry_of e.now) entry.entry) }
-{
-    if let Some(Entry::Sent(telegram)) = entry {
-        return characters_at(telegram, position, chars);
-    }
-    chars.clear();
-    chars.push(RxChar::Bad);
-}
-
 /// Whether every character of a telegram went out, and comes good to the tap at a position.
 fn is_undamaged_at(telegram: &Record, position: usize) -> bool
     ensures { result ≡ is_undamaged position (record_of telegram.now) }
@@ -382,8 +390,7 @@ fn is_undamaged_at(telegram: &Record, position: usize) -> bool
     if telegram.hits.is_empty() {
         return sent_octets(telegram) == telegram.octets.len();
     }
-    let mut chars = ArrayVec::new();
-    characters_at(telegram, position, &mut chars);
+    let chars = telegram_characters(telegram, position);
     chars.len() == telegram.octets.len() && are_good(&chars)
 }
 
@@ -427,7 +434,7 @@ fn sends_in(entries: &[Entry], position: usize, span: Span) -> bool
         .any(|entry| sends_during(entry, position, span))
 }
 
-/// The characters of a telegram that went out, as the tap at a position gets them.
+/// The same, in some room.
 fn characters_at(telegram: &Record, position: usize, chars: &mut ArrayVec<RxChar, 255>)
     ensures { chars.new.items ≡ trace.characters_at position (record_of telegram.now) }
 {

@@ -1,4 +1,5 @@
-ghost use Rattle.std.specs.Prelude.{◌≤◌, length};
+ghost use Rattle.std.specs.Prelude.{◌≡◌, ◌≤◌, ◌<◌, length, vec_capacity};
+ghost use Rattle.std.specs.List.{insert};
 
 use crate::entries::Entry;
 use crate::placing::place_among;
@@ -84,11 +85,37 @@ impl Trace {
     }
 
     /// Puts an entry among the recent ones.
+    #[inline(always)]
     pub(crate) fn put(&mut self, entry: Entry)
         requires { HasRoom self.old }
         ensures { RecentBecomes (with_entry (entry_of entry)) self.old self.new }
     {
         let place = self.over + place_among(self.recent(), &entry);
-        self.entries.insert(place, entry).unwrap();
+        insert(&mut self.entries, place, entry);
     }
+}
+
+/// An entry takes a place among others, with room for it. Nearly always it is the last place, and then the entry is written where it
+/// stays.
+#[inline(always)]
+fn insert(entries: &mut Vec<Entry>, place: usize, entry: Entry)
+    requires place { place ≤ length entries.old.items }
+    requires room { length entries.old.items < vec_capacity entries.old }
+    ensures { entries.new.items ≡ insert entries.old.items place entry }
+{
+    if place == entries.len() {
+        entries.push_reserved(entry);
+    } else {
+        insert_before(entries, place, entry);
+    }
+}
+
+/// The same before one that is there.
+#[inline(never)]
+fn insert_before(entries: &mut Vec<Entry>, place: usize, entry: Entry)
+    requires place { place ≤ length entries.old.items }
+    requires room { length entries.old.items < vec_capacity entries.old }
+    ensures { entries.new.items ≡ insert entries.old.items place entry }
+{
+    entries.insert(place, entry).unwrap();
 }

@@ -5,7 +5,7 @@ ghost use Rattle.std.specs.Option.{option_map};
 ghost use Rattle.pb_ring.specs.Las.{is_complete};
 ghost use Rattle.pb_messages.specs.Messages.{message_of};
 ghost use Rattle.pb_cycles.specs.Initiating.{outcome_of};
-ghost use Rattle.pb_turn.specs.Arrivals.{Framed};
+ghost use Rattle.pb_turn.specs.Arrivals.{Framed, Token};
 ghost use Rattle.pb_turn.specs.Phases as turn;
 ghost use Rattle.pb_turn.specs.Hearing.{doubled_by, listening_hears, is_taken_from, own_token, foreign_token, token_in_idle, idle_hears, passive_hears, holder_hears, no_reply, data_told, awaiting_data_hears, status_told, awaiting_status_hears, with_token, lost, tells_ready, phase_ended, ended};
 ghost use Rattle.pb_tokenfsm.specs.Phases.{phase_of, is_doubled, refused_by, asked_station, was_asked, has_data_slot};
@@ -44,6 +44,58 @@ pub fn ended(
     kept.busy = false;
     kept.past = kept.past.heard(at);
     phase_ended(phase, kept, params, at, arrival)
+}
+
+/// The station after activity has ended at a moment and brought a token, as most activity does.
+pub fn ended_with_token(
+    phase: Phase,
+    kept: &mut Kept,
+    params: &BusParams,
+    at: Moment,
+    token: TokenTelegram,
+) -> Phase
+    requires { at ≤ last_turn }
+    ensures { Becomes (λ s. ended params.now s at (Token token.da token.sa))
+        kept.old (phase_of phase) kept.new (phase_of result) }
+{
+    kept.busy = false;
+    kept.past = kept.past.heard(at);
+    token_ended(phase, kept, params, at, token)
+}
+
+/// The station after a token. Most stations are idle then, and no room for a longer telegram is cleared for them.
+fn token_ended(
+    phase: Phase,
+    kept: &mut Kept,
+    params: &BusParams,
+    at: Moment,
+    token: TokenTelegram,
+) -> Phase
+    requires { at ≤ last_turn }
+    ensures { Becomes (λ s. phase_ended params.now s (phase_of phase) at (Token token.da token.sa))
+        kept.old (phase_of phase) kept.new (phase_of result) }
+{
+    match phase {
+        Phase::Idle(idle) => token_in_idle(idle, kept, params, at, &token),
+        Phase::PassiveIdle(_) => phase,
+        other => token_elsewhere(other, kept, params, at, token),
+    }
+}
+
+/// The same in any phase.
+#[inline(never)]
+fn token_elsewhere(
+    phase: Phase,
+    kept: &mut Kept,
+    params: &BusParams,
+    at: Moment,
+    token: TokenTelegram,
+) -> Phase
+    requires { at ≤ last_turn }
+    ensures { Becomes (λ s. phase_ended params.now s (phase_of phase) at (Token token.da token.sa))
+        kept.old (phase_of phase) kept.new (phase_of result) }
+{
+    phase_ended(phase, kept, params, at, &Some(Telegram::Token(token)))
 }
 
 /// The station after an arrival.

@@ -2,7 +2,7 @@
 
 ghost use Rattle.std.specs.Prelude.{◌≡◌, ◌≤◌, ℕ, map};
 ghost use Rattle.pb_timers.specs.Timers.{Params};
-ghost use Rattle.pb_turn.specs.Arrivals.{Token, arrival_of};
+ghost use Rattle.pb_turn.specs.Arrivals.{NoTelegram, Token, arrival_of};
 ghost use Rattle.pb_turn.specs.Hearing.{after_mark, ended};
 ghost use Rattle.pb_turn.specs.Marks.{moment_of, Begin, End};
 ghost use Rattle.pb_turn.specs.Phases.{is_offline};
@@ -17,8 +17,8 @@ ghost use Rattle.pb_telegram.specs.declared.chars.RxChar.TheVariants.{Good};
 use crate::marks::Mark;
 use crate::notes::Note;
 use pb_core::{Kept, spelled_telegram, spelled_token, token_in, whole_telegram};
-use pb_phases::{after_timer, begun, ended};
-use pb_telegram::{RxChar, Telegram, TokenTelegram};
+use pb_phases::{after_timer, begun, ended, ended_with_token};
+use pb_telegram::RxChar;
 use pb_timers::{BusParams, Moment};
 use pb_tokenfsm::Phase;
 
@@ -132,8 +132,11 @@ fn after_end(
     if is_offline(&phase) {
         return phase;
     }
+    if let [RxChar::Bad, ..] = chars {
+        return after_noise(phase, kept, params, at);
+    }
     match token_in(chars) {
-        Some(token) => after_token(phase, kept, params, at, token),
+        Some(token) => ended_with_token(phase, kept, params, at, token),
         None => after_others(phase, kept, params, at, chars),
     }
 }
@@ -155,25 +158,19 @@ fn after_good_end(
         return phase;
     }
     match spelled_token(octets) {
-        Some(token) => after_token(phase, kept, params, at, token),
+        Some(token) => ended_with_token(phase, kept, params, at, token),
         None => after_other_octets(phase, kept, params, at, octets),
     }
 }
 
-/// The station after activity has ended at a moment and brought a token, as most activity does.
+/// The station after activity has ended at a moment and brought no telegram, as noise does.
 #[inline(never)]
-fn after_token(
-    phase: Phase,
-    kept: &mut Kept,
-    params: &BusParams,
-    at: Moment,
-    token: TokenTelegram,
-) -> Phase
+fn after_noise(phase: Phase, kept: &mut Kept, params: &BusParams, at: Moment) -> Phase
     requires { at ≤ last_turn }
-    ensures { Becomes (λ s. ended params.now s at (Token token.da token.sa))
+    ensures { Becomes (λ s. ended params.now s at NoTelegram)
         kept.old (phase_of phase) kept.new (phase_of result) }
 {
-    ended(phase, kept, params, at, &Some(Telegram::Token(token)))
+    ended(phase, kept, params, at, &None)
 }
 
 /// The station after activity has ended at a moment and brought any characters. It is a call of its own since the room of the
