@@ -1,9 +1,9 @@
-ghost use Rattle.std.specs.Prelude.{◌≡◌, ◌+◌, ◌≤◌, ◌++◌, ℕ, List, IsTrue, ◌↔◌, IfOk, length, map};
+ghost use Rattle.std.specs.Prelude.{◌≡◌, ◌+◌, ◌≤◌, ◌<◌, ◌++◌, ◌∷◌, [], ℕ, List, IsTrue, ◌↔◌, IfOk, length, map};
 ghost use Rattle.std.specs.Vec.{vec_capacity};
 ghost use Rattle.pb_telegram.specs.declared.chars.RxChar.{RxChar};
 ghost use Rattle.pb_turn.specs.Stations.{first_seen};
 ghost use Rattle.pb_station.specs.MarkViews.{mark_of};
-ghost use Rattle.pb_station.specs.Notes.{AreOf, marks_in};
+ghost use Rattle.pb_station.specs.Notes.{AreOf, mark_with, marks_in};
 
 use crate::marks::Mark;
 use crate::notes::Note;
@@ -199,11 +199,32 @@ fn copy_all(
     for note in notes {
         let (brought, behind) = note.split_chars(left);
         let (good, good_behind) = note.split_octets(good_left);
-        copies.push_reserved(note.mark(brought, good));
+        push_copy(&mut copies, note, brought, good);
         left = behind;
         good_left = good_behind;
     }
     Ok(copies)
+}
+
+/// A mark with its characters, or its octets, stands behind others, with room for it. The beginning of activity, which brings none, is
+/// not moved with the room for them.
+#[inline(always)]
+fn push_copy(copies: &mut Vec<Mark>, note: &Note, chars: &[RxChar], octets: &[u8])
+    requires chars { length chars.now ≤ 255 }
+    requires octets { length octets.now ≤ 255 }
+    requires room { length copies.old.items < vec_capacity copies.old }
+    ensures items { map mark_of copies.new.items
+        ≡ map mark_of copies.old.items ++ mark_with note.now chars.now octets.now ∷ [] }
+    ensures count { length copies.new.items ≡ length copies.old.items + 1 }
+    ensures room { vec_capacity copies.new ≡ vec_capacity copies.old }
+{
+    match note {
+        Note::Begin { at, seen } => copies.push_reserved(Mark::Begin {
+            at: *at,
+            seen: *seen,
+        }),
+        ended => copies.push_reserved(ended.mark(chars, octets)),
+    }
 }
 
 /// Whether marks are those that are noted.

@@ -1,10 +1,9 @@
-use Rattle.std.proofs.Common.{rules, refl, sym, ap, ◌∙◌, ◌<◌, ◌++◌, ◌∷◌, [], ◌+◌, List, length, map, arith, append_assoc, length-append, length-take-le}
+use Rattle.std.proofs.Common.{rules, refl, sym, ap, ◌∙◌, ◌++◌, ◌∷◌, [], ◌+◌, List, length, map, arith, append_assoc, length-take-le}
 use Rattle.std.specs.Prelude.{drop}
-use Rattle.std.specs.Vec.{vec_capacity}
-use Rattle.std.proofs.lemmas.List.{map-append, append-nil}
+use Rattle.std.proofs.lemmas.List.{append-nil}
 use Rattle.pb_turn.specs.Marks.{Mark}
 use Rattle.pb_station.specs.MarkViews.{mark_of}
-use Rattle.pb_station.specs.Notes.{chars_of, octets_of, marks_in}
+use Rattle.pb_station.specs.Notes.{chars_of, octets_of, mark_with, marks_in}
 use Rattle.pb_station.proofs.Noted.{next-at, marks-at, of-at, none-left}
 use Rattle.pb_station.proofs.inboxes.copy_all.Goals as goal
 
@@ -34,8 +33,8 @@ split_octets-requires c =
     let first = of-at _ _ n left (drop (chars_of n) left) good_left (drop (octets_of n) good_left) here refl refl c.loop-note.invariant.of in
     first.2
 
-pub mark-requires-clause-chars : goal.mark-requires-clause-chars
-mark-requires-clause-chars c =
+pub push_copy-requires-clause-chars : goal.push_copy-requires-clause-chars
+push_copy-requires-clause-chars c =
     let n = c.note-item.result in
     let left = c.loop-note.left.now in
     let good_left = c.loop-note.good_left.now in
@@ -43,8 +42,8 @@ mark-requires-clause-chars c =
     let first = of-at _ _ n left (drop (chars_of n) left) good_left (drop (octets_of n) good_left) here refl refl c.loop-note.invariant.of in
     omega (arith, first.1, ap length c.split_chars.ensures.brought, length-take-le (chars_of n) left first.0)
 
-pub mark-requires-clause-octets : goal.mark-requires-clause-octets
-mark-requires-clause-octets c =
+pub push_copy-requires-clause-octets : goal.push_copy-requires-clause-octets
+push_copy-requires-clause-octets c =
     let n = c.note-item.result in
     let left = c.loop-note.left.now in
     let good_left = c.loop-note.good_left.now in
@@ -52,11 +51,8 @@ mark-requires-clause-octets c =
     let first = of-at _ _ n left (drop (chars_of n) left) good_left (drop (octets_of n) good_left) here refl refl c.loop-note.invariant.of in
     omega (arith, first.3, ap length c.split_octets.ensures.brought, length-take-le (octets_of n) good_left first.2)
 
-pub push_reserved-requires : goal.push_reserved-requires
-push_reserved-requires c =
-    let few : length c.loop-note.copies.items < vec_capacity c.loop-note.copies =
-    omega (arith, c.loop-note.invariant.copied, c.loop-note-test.true, c.loop-note.invariant.room) in
-    search rules
+pub push_copy-requires-clause-room : goal.push_copy-requires-clause-room
+push_copy-requires-clause-room c = omega (arith, c.loop-note.invariant.copied, c.loop-note-test.true, c.loop-note.invariant.room)
 
 pub loop-note-preserved : goal.loop-note-preserved
 loop-note-preserved c =
@@ -73,20 +69,13 @@ loop-note-preserved c =
     let marks = map mark_of c.loop-note.copies.items in
     let rest = marks_in (drop (c.loop-note.note-index + 1) c.args.notes.now) behind after in
     record {
-      same = ap (λ (ms : List _). map mark_of ms ++ rest) c.push_reserved.ensures.items
-          ∙ ap (λ (ms : List Mark). ms ++ rest) (map-append mark_of c.loop-note.copies.items (c.mark.result ∷ []))
-          ∙ append_assoc marks (mark_of c.mark.result ∷ []) rest
-          ∙ ap (λ (m : Mark). marks ++ m ∷ rest) c.mark.ensures
+      same = ap (λ (ms : List Mark). ms ++ rest) c.push_copy.ensures.items
+          ∙ append_assoc marks (mark_with n brought good ∷ []) rest
           ∙ ap (λ (ms : List Mark). marks ++ ms) (sym split)
           ∙ c.loop-note.invariant.same;
       of = (of-at _ _ n left behind good_left after here c.split_chars.ensures.behind c.split_octets.ensures.behind c.loop-note.invariant.of).4;
-      copied = omega (
-        arith,
-        c.loop-note.invariant.copied,
-        ap length c.push_reserved.ensures.items,
-        length-append c.loop-note.copies.items (c.mark.result ∷ []),
-      );
-      room = omega (arith, c.push_reserved.ensures.capacity, c.loop-note.invariant.room);
+      copied = omega (arith, c.loop-note.invariant.copied, c.push_copy.ensures.count);
+      room = omega (arith, c.push_copy.ensures.room, c.loop-note.invariant.room);
     }
 
 pub returns : goal.returns
