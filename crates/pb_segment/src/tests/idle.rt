@@ -1,4 +1,4 @@
-//! Turns that find nothing to do, in a world and through a segment. bench/turns measures what one takes, by the difference of
+//! Turns that find nothing to do, in a world and through a segment. bench/world measures what one takes, by the difference of
 //! a thousand and two thousand.
 
 ghost use Rattle.std.specs.Prelude.{◌≡◌, ◌+◌, length};
