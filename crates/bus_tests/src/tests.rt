@@ -6,7 +6,7 @@ ghost use Rattle.std.specs.Prelude.{◌≡◌, true};
 
 use arrayvec::ArrayVec;
 use pb_cycles::{Outcome, Request, Service};
-use pb_station::decide;
+use pb_station::{SendBuffer, decide, decide_in};
 use pb_timers::BusParams;
 use pb_world::{
     AuditFault, Entry, Event, Heard, Kind, NewFault, Reply, TapSpec, World, WorldFault, audit, run,
@@ -214,8 +214,9 @@ fn glances_take_the_room_of_replaced_stations(rt: HostRuntime) {
     let mut other = silent_for_800(&rt);
     world.apply(alloc, Event::Start(1)).expect(&rt, "a start");
     other.apply(alloc, Event::Start(1)).expect(&rt, "a start");
+    let mut says = SendBuffer::new();
     for tap in [0, 1, 0, 1] {
-        let taken = take_decided(&rt, &mut world, tap);
+        let taken = take_decided(&rt, &mut world, tap, &mut says);
         let turn = other.apply(alloc, Event::Turn(tap)).expect(&rt, "a turn");
         equal(&rt, &taken, &Some(turn));
         equal(&rt, &phase_name(&world, tap), &phase_name(&other, tap));
@@ -223,19 +224,24 @@ fn glances_take_the_room_of_replaced_stations(rt: HostRuntime) {
     equal(&rt, &world.into_trace().len(), &1);
 }
 
-/// The turn of a tap, decided on a glance in the room of replaced stations; none where there is no such tap, or the
-/// decision doesn't fit.
-fn take_decided(rt: &(impl AllocGlobal + Abort), world: &mut World, tap: usize) -> Option<Reply> {
+/// The turn of a tap, decided on a glance in the room of replaced stations and with a buffer that is used for each; none where
+/// there is no such tap, or the decision doesn't fit.
+fn take_decided(
+    rt: &(impl AllocGlobal + Abort),
+    world: &mut World,
+    tap: usize,
+    says: &mut SendBuffer,
+) -> Option<Reply> {
     if tap >= world.taps() {
         return None;
     }
     let alloc = rt.alloc();
     let glance = world.glance_in_room(alloc, tap).expect(rt, "a glance");
-    let decision = decide(alloc, glance).expect(rt, "a decision");
-    if !world.fits(&decision) {
+    let decided = decide_in(alloc, glance, says).expect(rt, "a decision");
+    if !world.fits_decided(&decided) {
         return None;
     }
-    Some(world.take(alloc, decision).expect(rt, "a turn"))
+    Some(world.take_decided(alloc, decided).expect(rt, "a turn"))
 }
 
 /// Why an event would be refused is known before, and nothing changes by that.

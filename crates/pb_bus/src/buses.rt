@@ -4,9 +4,10 @@ use crate::starting::start;
 use crate::stopping::stop;
 use pb_cycles::Request;
 use pb_medium::{Hit, Speaker, Trace};
-use pb_station::{Decision, Glance, NoMemory, SendBuffer, Spares, Station};
+use pb_station::{Decided, Decision, Glance, NoMemory, SendBuffer, Spares, Station};
 use pb_taps::{
-    Event, Tap, WorldFault, check_running, fits, glance, queue, take_decided, take_turn,
+    Event, Tap, WorldFault, check_running, fits, fits_decided, glance, queue, take_decided,
+    take_turn,
 };
 use pb_timers::{BusParams, Moment};
 use std::alloc::Global;
@@ -82,20 +83,20 @@ impl Bus {
 
     /// Takes the turn of a decision that fits. What the station says stands in `sent`.
     #[inline(always)]
-    pub fn take(&mut self, alloc: Global, decision: Decision) -> Result<(), WorldFault>
+    pub fn take(&mut self, alloc: Global, decided: Decided<'_>) -> Result<(), WorldFault>
         requires kept { IsKept self.old }
-        requires fits { Fits (world_of self.old) decision }
-        ensures follows { Does self.old (events.Turn decision.tap) result self.new }
+        requires fits { Fits (world_of self.old) decided }
+        ensures follows { Does self.old (events.Turn decided.entry.tap) result self.new }
         ensures kept { IsKept self.new }
     {
         let speaker = Speaker {
-            tap: decision.tap,
+            tap: decided.tap,
             taps: self.taps.len(),
             clock: self.now,
         };
-        check_running(&self.taps, decision.tap)?;
-        make_room_for(&mut self.trace, &decision)?;
-        let replaced = take_decided(&mut self.taps, decision, self.now, &mut self.sent);
+        check_running(&self.taps, decided.tap)?;
+        make_room_for(&mut self.trace, &decided)?;
+        let replaced = take_decided(&mut self.taps, decided, self.now, &mut self.sent);
         self.trace.say(alloc, speaker, &self.sent);
         self.spares.keep(replaced.was, replaced.before);
         Ok(())
@@ -232,6 +233,14 @@ impl Bus {
         ensures { IsTrue result ↔ Fits (world_of self.entry.now) decision.entry.now }
     {
         fits(&self.taps, decision, self.now)
+    }
+
+    /// The same of one whose octets stand in a buffer.
+    pub fn fits_decided(&self, decided: &Decided<'_>) -> bool
+        requires { IsKept self.now }
+        ensures { IsTrue result ↔ Fits (world_of self.entry.now) decided.entry.now }
+    {
+        fits_decided(&self.taps, decided, self.now)
     }
 
     /// The station at a tap.

@@ -8,7 +8,7 @@ ghost use Rattle.pb_taps.specs.Turning.{says};
 ghost use Rattle.pb_taps.specs.declared.taps.Tap as declared;
 
 use pb_medium::Trace;
-use pb_station::Decision;
+use pb_station::Decided;
 use pb_taps::{Tap, WorldFault, would_speak};
 use pb_timers::Moment;
 
@@ -35,13 +35,13 @@ pub(crate) fn make_room(
     Ok(())
 }
 
-/// Makes room for what a decision says, if anything. Faults, the first that applies: `TraceFull`; `NoMemory`.
-pub(crate) fn make_room_for(trace: &mut Trace, decision: &Decision) -> Result<(), WorldFault>
+/// Makes room for what was decided to be said, if anything. Faults, the first that applies: `TraceFull`; `NoMemory`.
+pub(crate) fn make_room_for(trace: &mut Trace, decided: &Decided<'_>) -> Result<(), WorldFault>
     ensures same { StaysAs trace.old trace.new }
-    ensures ok { OnOk result (is_some decision.entry.now.speak ≡ true → HasRoom trace.new) }
-    ensures fault { IfErr result (RefusesSaid decision.entry.now.speak (length (entries_of trace.old))) }
+    ensures ok { OnOk result (is_some decided.entry.now.speak ≡ true → HasRoom trace.new) }
+    ensures fault { IfErr result (RefusesSaid decided.entry.now.speak (length (entries_of trace.old))) }
 {
-    if decision.speak.is_some() {
+    if decided.speak.is_some() {
         trace.make_room()?;
     }
     Ok(())

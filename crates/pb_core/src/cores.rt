@@ -1,4 +1,4 @@
-ghost use Rattle.std.specs.Prelude.{◌≡◌, ◌≤◌};
+ghost use Rattle.std.specs.Prelude.{◌≡◌, ◌≤◌, Some};
 ghost use Rattle.pb_core.specs.Clocks.{last_end};
 
 use crate::addresses::Address;
@@ -8,7 +8,7 @@ use crate::replies::Reply;
 use crate::waiting::Waiting;
 use pb_ring::{Gap, Las};
 use pb_rotation::Rotation;
-use pb_telegram::copy_octets;
+use pb_telegram::{copy_octets, put_octets};
 use pb_timers::Moment;
 use pb_tokenfsm::Phase;
 
@@ -44,6 +44,15 @@ impl Reply {
             octets: copy_octets(self.octets.as_slice()),
             joins: self.joins,
         }
+    }
+
+    /// Becomes equal to another, in the room that it has.
+    fn copy_from(&mut self, other: &Reply)
+        ensures { self.new ≡ other.now }
+    {
+        self.ready = other.ready;
+        put_octets(&mut self.octets, &other.octets);
+        self.joins = other.joins;
     }
 }
 
@@ -113,7 +122,17 @@ fn copy_reply(reply: &mut Option<Reply>, other: &Option<Reply>)
     ensures { reply.new ≡ other.now }
 {
     match other {
-        Some(waits) => *reply = Some(waits.copy()),
+        Some(waits) => put_reply(reply, waits),
         None => *reply = None,
+    }
+}
+
+/// The same reply waits.
+fn put_reply(reply: &mut Option<Reply>, waits: &Reply)
+    ensures { reply.new ≡ Some waits.now }
+{
+    match reply {
+        Some(reply) => reply.copy_from(waits),
+        None => *reply = Some(waits.copy()),
     }
 }

@@ -36,7 +36,23 @@ pub fn copy_outcome(last: &Option<(u8, Outcome)>) -> Option<(u8, Outcome)>
 fn become_outcome(last: &mut Option<(u8, Outcome)>, other: &Option<(u8, Outcome)>)
     ensures { last.new ≡ other.now }
 {
-    *last = copy_outcome(other);
+    match other {
+        Some((of, outcome)) => put_outcome(last, *of, outcome),
+        None => *last = None,
+    }
+}
+
+/// An outcome is the last, with its station.
+fn put_outcome(last: &mut Option<(u8, Outcome)>, of: u8, outcome: &Outcome)
+    ensures { last.new ≡ Some (of, outcome.now) }
+{
+    match last {
+        Some((station, last)) => {
+            *station = of;
+            last.copy_from(outcome);
+        }
+        None => *last = Some((of, outcome.copy())),
+    }
 }
 
 /// The open request is given up, as nobody answered it.

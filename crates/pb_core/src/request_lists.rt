@@ -1,3 +1,5 @@
+ghost use Rattle.std.specs.Prelude.{◌≡◌, length};
+
 use pb_cycles::Request;
 use std::alloc::{AllocError, Global};
 use std::marker::Model;
@@ -37,11 +39,24 @@ impl RequestList {
     }
 
     /// The requests of another wait, and none of those that waited.
+    #[inline(always)]
     pub fn copy_from(&mut self, other: &RequestList)
         ensures { self.new ≡ other.now }
     {
-        self.clear();
-        for request in &other.requests {
+        if !self.requests.is_empty() || !other.requests.is_empty() {
+            self.copy_requests(other);
+        }
+    }
+
+    /// The same. It is a call of its own since mostly none wait, in neither.
+    #[inline(never)]
+    fn copy_requests(&mut self, other: &RequestList)
+        ensures { self.new ≡ other.now }
+    {
+        let both = other.requests.len().min(self.requests.len());
+        self.requests.truncate(both);
+        copy_over(&mut self.requests, &other.requests[..both]);
+        for request in &other.requests[both..] {
             self.requests.push_reserved(request.copy());
         }
     }
@@ -91,5 +106,15 @@ impl RequestList {
         ensures { self.new ≡ [] }
     {
         self.requests.clear();
+    }
+}
+
+/// Requests become equal to as many others, in the room that they have.
+fn copy_over(requests: &mut [Request], others: &[Request])
+    requires { length requests.old ≡ length others.now }
+    ensures { requests.new ≡ others.now }
+{
+    for (place, request) in requests.iter_mut().enumerate() {
+        request.copy_from(&others[place]);
     }
 }

@@ -47,6 +47,14 @@ impl SendBuffer {
         self.sent = true;
     }
 
+    /// The octets that are sent, where they stand.
+    #[inline(always)]
+    pub fn sent(&self) -> Option<&ArrayVec<u8, 255>>
+        ensures { MatchOption result (self.now ≡ None) (λ octets. self.now ≡ Some octets.now.items) }
+    {
+        self.sent.then_some(&self.octets)
+    }
+
     /// The octets that are sent.
     pub fn octets(&self) -> Option<&[u8]>
         ensures { MatchOption result (self.now ≡ None) (λ octets. (self.now ≡ Some octets.now)

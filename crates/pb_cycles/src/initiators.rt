@@ -31,6 +31,14 @@ impl OpenRequest {
             left: self.left,
         }
     }
+
+    /// Becomes equal to another, in the room that it has.
+    fn copy_from(&mut self, other: &OpenRequest)
+        ensures { self.new ≡ other.now }
+    {
+        self.sent.copy_from(&other.sent);
+        self.left = other.left;
+    }
 }
 
 /// Becomes what another is. It is a call of its own since a request is seldom open, and its room is then not moved.
@@ -39,8 +47,18 @@ fn copy_pending(pending: &mut Option<OpenRequest>, other: &Option<OpenRequest>)
     ensures { pending.new ≡ other.now }
 {
     match other {
-        Some(request) => *pending = Some(request.copy()),
+        Some(request) => become_open(pending, request),
         None => *pending = None,
+    }
+}
+
+/// The same request is open.
+fn become_open(pending: &mut Option<OpenRequest>, request: &OpenRequest)
+    ensures { pending.new ≡ Some request.now }
+{
+    match pending {
+        Some(pending) => pending.copy_from(request),
+        None => *pending = Some(request.copy()),
     }
 }
 

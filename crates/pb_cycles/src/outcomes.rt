@@ -1,10 +1,11 @@
 ghost use Rattle.std.specs.Prelude.{◌≡◌, ◌≤◌, length, option_map};
 ghost use Rattle.pb_messages.specs.Messages.{message_of};
 ghost use Rattle.pb_cycles.specs.Outcomes.{code_outcome, is_reply_between, reply_outcome, status_reply};
+ghost use Rattle.pb_cycles.specs.declared.outcomes.Outcome.TheVariants.{Data};
 
 use arrayvec::ArrayVec;
 use pb_messages::{Frame, Message};
-use pb_telegram::{Fc, Telegram, copy_octets};
+use pb_telegram::{Fc, Telegram, copy_octets, put_octets};
 
 /// What came of a request (IEC 61158-4-3, confirmation of a data link service).
 #[derive(Debug, PartialEq, Eq, Drop)]
@@ -29,6 +30,30 @@ impl Outcome {
             Outcome::Data(unit) => Outcome::Data(copy_octets(unit)),
             Outcome::NoResource => Outcome::NoResource,
             Outcome::NoAnswer => Outcome::NoAnswer,
+        }
+    }
+
+    /// Becomes equal to another, in the room that it has.
+    pub fn copy_from(&mut self, other: &Outcome)
+        ensures { self.new ≡ other.now }
+    {
+        match other {
+            Outcome::Data(unit) => self.become_data(unit),
+            Outcome::Acked => *self = Outcome::Acked,
+            Outcome::NoResource => *self = Outcome::NoResource,
+            Outcome::NoAnswer => *self = Outcome::NoAnswer,
+        }
+    }
+
+    /// Becomes data that came back.
+    fn become_data(&mut self, unit: &ArrayVec<u8, 246>)
+        ensures { self.new ≡ Data unit.now }
+    {
+        match self {
+            Outcome::Data(room) => put_octets(room, unit),
+            Outcome::Acked | Outcome::NoResource | Outcome::NoAnswer => {
+                *self = Outcome::Data(copy_octets(unit))
+            }
         }
     }
 }

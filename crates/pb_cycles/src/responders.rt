@@ -30,6 +30,15 @@ impl Kept {
             reply: self.reply.copy(),
         }
     }
+
+    /// Becomes equal to another, in the room that it has.
+    fn copy_from(&mut self, other: &Kept)
+        ensures { self.new ≡ other.now }
+    {
+        self.requester = other.requester;
+        self.bit = other.bit;
+        self.reply.copy_from(&other.reply);
+    }
 }
 
 /// Becomes what another is. It is a call of its own since often nothing is kept, and its room is then not moved.
@@ -38,8 +47,18 @@ fn copy_kept(kept: &mut Option<Kept>, other: &Option<Kept>)
     ensures { kept.new ≡ other.now }
 {
     match other {
-        Some(last) => *kept = Some(last.copy()),
+        Some(last) => keep(kept, last),
         None => *kept = None,
+    }
+}
+
+/// The same is kept.
+fn keep(kept: &mut Option<Kept>, last: &Kept)
+    ensures { kept.new ≡ Some last.now }
+{
+    match kept {
+        Some(kept) => kept.copy_from(last),
+        None => *kept = Some(last.copy()),
     }
 }
 

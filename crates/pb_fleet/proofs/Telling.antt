@@ -16,7 +16,7 @@ use Rattle.pb_runs.proofs.OnTheBus.{history-is-run}
 use Rattle.pb_segment.specs.Histories.{Happened, Replays}
 use Rattle.pb_segment.specs.Origins.{Origin, IsMadeOf, IsNew, origin_of}
 use Rattle.pb_segment.specs.Outlooks.{IsOutlookOf, AreOutlooksOf}
-use Rattle.pb_segment.specs.Reports.{ReportView, IsReport, AreOutlooksIn}
+use Rattle.pb_segment.specs.Reports.{ReportView, IsReport}
 use Rattle.pb_segment.specs.declared.outlooks.Outlook.{Outlook}
 use Rattle.pb_segment.proofs.NewWorlds.{new_is, made_specs, made_new}
 use Rattle.pb_fleet.specs.Played.{LeavesToken, begins, events_in, looks_of}
@@ -55,18 +55,15 @@ look_at first h os k look all at =
 
 -- ---- reports
 
-same_first : (o : Origin) (a b : World) → IsMadeOf o a → IsMadeOf o b → a ≡ b
-same_first o a b one other = let same : Ok a ≡ Ok b = sym one ∙ other in cc
-
 made_of : (s : Scenario) (o : Origin) (w : World) → o ≡ begins s → IsMadeOf o w → new_world s.params s.taps ≡ Ok w
 made_of s o w same made = subst (λ (x : Origin). IsMadeOf x w) same made
 
-pub is_the_run : (s : Scenario) (r : ReportView) (looks : List Outlook) → r.origin ≡ begins s → IsReport r → AreOutlooksIn r looks
-    → IsRunOf s (looks_of looks) (events_in r.history) → trace_of s ≡ Some (Ok r.trace)
-is_the_run s r looks origin is are run =
-    let all = subst (λ (w : World). AreOutlooksOf w r.history looks) (same_first r.origin are.first is.first are.made is.made) are.are in
-    let known : AreLooks is.first (events_in r.history) (looks_of looks) = λ k look at. look_at is.first r.history looks k look all at in
-    let end = history-is-run s (looks_of looks) is.first is.last (events_in r.history) (made_of s r.origin is.first origin is.made)
+pub is_the_run : (s : Scenario) (r : ReportView) → r.origin ≡ begins s → IsReport r → IsRunOf s (looks_of r.outlooks) (events_in r.history)
+    → trace_of s ≡ Some (Ok r.trace)
+is_the_run s r origin is run =
+    let looks = looks_of r.outlooks in
+    let known : AreLooks is.first (events_in r.history) looks = λ k look at. look_at is.first r.history r.outlooks k look is.outlooks at in
+    let end = history-is-run s looks is.first is.last (events_in r.history) (made_of s r.origin is.first origin is.made)
     (leads r.history is.first is.last is.replays) known run in
     end ∙ ap (λ (t : List Entry). Some (Ok t)) (sym is.trace)
 

@@ -1,4 +1,4 @@
-ghost use Rattle.std.specs.Prelude.{◌≡◌, ◌<◌, ◌≤◌, [], IfOk, IfSome, length};
+ghost use Rattle.std.specs.Prelude.{◌≡◌, ◌<◌, ◌≤◌, IfOk, IfSome, length};
 
 use crate::faults::PlayFault;
 use crate::gates::Gate;
@@ -10,23 +10,17 @@ use std::alloc::Global;
 use std::sync::Wait;
 use std::sync::ledger::Ledger;
 
-/// The conductor's seat, and what was seen from it.
+/// The conductor's seat, and what was seen from it last.
 #[derive(Drop)]
 pub(crate) struct Conductor<L: Ledger> {
     pub(crate) seat: ConductorSeat<L>,
-    pub(crate) seen: Vec<Outlook>,
-    ghost same: { seat.outlooks ≡ seen.items },
+    seen: Option<Outlook>,
 }
 
 impl<L: Ledger> Conductor<L> {
     /// Nothing was seen from the seat yet.
-    pub(crate) fn new(alloc: Global, seat: ConductorSeat<L>) -> Conductor<L>
-        requires { seat.outlooks ≡ [] }
-    {
-        Conductor {
-            seat,
-            seen: Vec::new(alloc),
-        }
+    pub(crate) fn new(seat: ConductorSeat<L>) -> Conductor<L> {
+        Conductor { seat, seen: None }
     }
 
     /// Drives a scenario from instant to instant, and has the turns taken, with a worker of its own. It stops where a
@@ -116,10 +110,9 @@ impl<L: Ledger> Conductor<L> {
         segment: &SharedSegment<L>,
         now: u64,
     ) -> Result<(), PlayFault> {
-        self.seen.reserve(1)?;
         match segment.outlook(rt, alloc, &mut self.seat) {
             Ok(outlook) => {
-                self.seen.push_reserved(outlook);
+                self.seen = Some(outlook);
                 Ok(())
             }
             Err(GlanceFault::Disagree) => Err(PlayFault::Drive {
@@ -134,7 +127,7 @@ impl<L: Ledger> Conductor<L> {
     fn shown(&self, walk: &Walk<'_>) -> Result<&Outlook, PlayFault>
         ensures { IfOk result (λ o. length o.now.due ≡ walk.now.taps) }
     {
-        match self.seen.last() {
+        match &self.seen {
             Some(outlook) if outlook.due.moments().len() == walk.taps() => Ok(outlook),
             _ => Err(PlayFault::Drive {
                 now: walk.now(),

@@ -89,7 +89,7 @@ fn fleet<L: Ledger + Send + Sync, R: Threads + Wait + Sync, G: Gate>(
     let (segment, seat, seats) = SharedSegment::<L>::new(alloc, blank, world)?;
     let crew = workers.min(seats.len()).max(1);
     let pool = Pool::new(alloc, seats, crew - 1)?;
-    let mut conductor = Conductor::new(alloc, seat);
+    let mut conductor = Conductor::new(seat);
     play(
         rt,
         alloc,
@@ -101,9 +101,8 @@ fn fleet<L: Ledger + Send + Sync, R: Threads + Wait + Sync, G: Gate>(
         gate,
     )?;
     let seats = pool.into_seats(alloc)?;
-    let Conductor { seat, seen } = conductor;
-    match segment.close(seat, seats) {
-        Ok(report) => review(alloc, scenario, report, &seen),
+    match segment.close(conductor.seat, seats) {
+        Ok(report) => review(alloc, scenario, report),
         Err(refused) => Err(PlayFault::Closing(refused.fault)),
     }
 }

@@ -7,9 +7,13 @@ use std::sync::atomic::{AtomicBool, AtomicU64, AtomicUsize, Ordering};
 use std::sync::ledger::Ledger;
 use std::sync::{Mutex, Wait};
 use std::thread::Parker;
+use std::time::Duration;
 
-/// How often one looks whether it may go on before it sleeps: a few microseconds, less than a wake-up takes.
+/// How often the conductor looks whether it may go on before it sleeps: a few microseconds, less than a wake-up takes.
 const LOOKS: u32 = 1000;
+
+/// How long the helper that watches sleeps before it looks again, in microseconds.
+const WATCH: u64 = 100;
 
 /// The most offers of a run: a history has no more events.
 pub(crate) const MOST_OFFERS: u64 = 1_000_000;
@@ -46,6 +50,8 @@ pub(crate) struct Pool<L: Ledger> {
     beds: Vec<Bed>,
     /// How many of them wait for any offer.
     idle: AtomicUsize,
+    /// Whether one of those watches the gate.
+    watched: AtomicBool,
     /// How many of them wait for the offer whose number they have drawn.
     holding: AtomicUsize,
 }
@@ -54,7 +60,7 @@ pub(crate) struct Pool<L: Ledger> {
 #[derive(Drop)]
 struct Bed {
     helper: Parker,
-    /// Whether it waits for any offer, and nobody has woken it yet.
+    /// Whether it waits for any offer.
     is_idle: AtomicBool,
     /// The number of the one offer that it waits for, or `NONE`.
     number: AtomicU64,
@@ -110,6 +116,7 @@ impl<L: Ledger> Pool<L> {
             conductor: Parker::new(),
             beds,
             idle: AtomicUsize::new(0),
+            watched: AtomicBool::new(false),
             holding: AtomicUsize::new(0),
         })
     }
@@ -158,16 +165,9 @@ impl<L: Ledger> Pool<L> {
         self.drawn.load(Ordering::SeqCst) < self.published.load(Ordering::SeqCst)
     }
 
-    /// One of the crew asks the gate, which may hold it. Where all who are awake do, and there are more offers, it
-    /// wakes a helper.
+    /// One of the crew asks the gate, which may hold it.
     pub(crate) fn enters_gate(&self) {
-        let held = self
-            .at_gate
-            .fetch_add(1, Ordering::SeqCst)
-            .saturating_add(1);
-        if held >= self.awake() && self.has_more() {
-            self.wake_one();
-        }
+        self.at_gate.fetch_add(1, Ordering::SeqCst);
     }
 
     /// The gate has answered.
@@ -211,32 +211,32 @@ impl<L: Ledger> Pool<L> {
         self.open.load(Ordering::SeqCst) == 0
     }
 
-    /// A helper waits until there is an offer whose number nobody has drawn. False once no offers come any more.
+    /// A helper waits until one more is wanted. False once no offers come any more. One of those who wait watches, and looks
+    /// from time to time whether the gate holds all who are awake; it wakes another to watch when it goes. The others sleep,
+    /// so that nobody who takes turns has to wake anyone.
     pub(crate) fn wait_for_any<R: Wait>(&self, rt: &R, helper: usize) -> bool {
         let Some(bed) = self.beds.get(helper) else {
             return false;
         };
-        for _ in 0..LOOKS {
-            if self.has_more() || self.has_ended() {
+        self.lies_down(bed);
+        let mut watches = false;
+        for _ in rt.forever() {
+            if self.has_ended() || watches && self.is_one_wanted() {
                 break;
             }
-            spin_loop();
-        }
-        for _ in rt.forever() {
-            if self.has_ended() {
-                return false;
-            }
-            if self.has_more() {
-                return true;
-            }
-            self.idle.fetch_add(1, Ordering::SeqCst);
-            bed.is_idle.store(true, Ordering::SeqCst);
-            if !self.has_more() && !self.has_ended() {
+            watches = watches || !self.watched.swap(true, Ordering::SeqCst);
+            if watches {
+                bed.helper.park_timeout(rt, Duration::from_micros(WATCH));
+            } else {
                 bed.helper.park(rt);
             }
-            self.takes_back(bed);
         }
-        unreachable!()
+        self.gets_up(bed);
+        if watches {
+            self.watched.store(false, Ordering::SeqCst);
+            self.wake_one();
+        }
+        !self.has_ended()
     }
 
     /// A helper waits until the offer with the number that it has drawn was published. False once no offers come any
@@ -290,26 +290,31 @@ impl<L: Ledger> Pool<L> {
         self.ended.load(Ordering::SeqCst)
     }
 
+    /// Whether there are more offers, and all who are awake ask the gate, which may hold them.
+    fn is_one_wanted(&self) -> bool {
+        self.has_more() && self.at_gate.load(Ordering::SeqCst) >= self.awake()
+    }
+
+    /// A helper waits for any offer.
+    fn lies_down(&self, bed: &Bed) {
+        self.idle.fetch_add(1, Ordering::SeqCst);
+        bed.is_idle.store(true, Ordering::SeqCst);
+    }
+
+    /// It doesn't any more.
+    fn gets_up(&self, bed: &Bed) {
+        bed.is_idle.store(false, Ordering::SeqCst);
+        self.idle.fetch_sub(1, Ordering::SeqCst);
+    }
+
     /// Wakes a helper that waits for any offer, if there is one.
     fn wake_one(&self) {
-        if self.idle.load(Ordering::SeqCst) == 0 {
-            return;
-        }
         for bed in &self.beds {
-            if bed.is_idle.load(Ordering::SeqCst) && self.takes_back(bed) {
+            if bed.is_idle.load(Ordering::SeqCst) {
                 bed.helper.unpark();
                 return;
             }
         }
-    }
-
-    /// A helper doesn't wait for any offer any more. False where somebody has said so before.
-    fn takes_back(&self, bed: &Bed) -> bool {
-        let was_idle = bed.is_idle.swap(false, Ordering::SeqCst);
-        if was_idle {
-            self.idle.fetch_sub(1, Ordering::SeqCst);
-        }
-        was_idle
     }
 
     /// Wakes the helpers that wait for an offer of their own among those that were published.

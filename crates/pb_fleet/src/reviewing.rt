@@ -1,6 +1,5 @@
 ghost use Rattle.std.specs.Prelude.{◌≡◌, Some, Ok, IfOk};
 ghost use Rattle.pb_runs.specs.Scenarios.{trace_of};
-ghost use Rattle.pb_segment.specs.Reports.{AreOutlooksIn};
 ghost use Rattle.pb_fleet.specs.Played.{LeavesToken, begins};
 
 use crate::faults::PlayFault;
@@ -47,22 +46,20 @@ impl<'a> pb_review::Report for Played<'a> {
     }
 }
 
-/// A report, where what it tells is the run of a scenario, as outlooks on it show. No event is applied.
+/// A report, where what it tells is the run of a scenario, as its outlooks show. No event is applied.
 pub(crate) fn review(
     alloc: Global,
     scenario: &Scenario,
     report: Report,
-    outlooks: &Vec<Outlook>,
 ) -> Result<Report, PlayFault>
-    requires origin { report.origin ≡ begins scenario.now.scenario }
-    requires outlooks { AreOutlooksIn report outlooks.now.items }
+    requires { report.origin ≡ begins scenario.now.scenario }
     ensures run { IfOk result (λ r. trace_of scenario.now.scenario ≡ Some (Ok r.trace)) }
     ensures token { IfOk result (LeavesToken scenario.now.scenario) }
 {
     let walk = scenario.walk(alloc)?;
     let played = Played {
         history: report.history(),
-        outlooks: outlooks.as_slice(),
+        outlooks: report.outlooks(),
     };
     if is_run(alloc, &played, walk)? {
         Ok(report)

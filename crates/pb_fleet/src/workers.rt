@@ -3,7 +3,7 @@ use crate::faults::{PlayFault, least};
 use crate::gates::Gate;
 use crate::pools::{Offer, Pool};
 use pb_segment::{CommitFault, GlanceFault, SharedSegment, TapSeat};
-use pb_station::decide;
+use pb_station::{SendBuffer, decide_in};
 use std::alloc::Global;
 use std::sync::Wait;
 use std::sync::ledger::Ledger;
@@ -19,6 +19,8 @@ pub(crate) struct Worker<'a, 't, L: Ledger, R, G> {
     drawer: Drawer<'t>,
     /// The number that was drawn before its offer was published.
     held: Option<u64>,
+    /// What a tap says in a turn.
+    says: SendBuffer,
     /// The least fault that was met.
     pub(crate) fault: Option<PlayFault>,
 }
@@ -41,6 +43,7 @@ impl<'a, 't, L: Ledger, R: Wait, G: Gate> Worker<'a, 't, L, R, G> {
             gate,
             drawer,
             held: None,
+            says: SendBuffer::new(),
             fault: None,
         }
     }
@@ -104,7 +107,7 @@ impl<'a, 't, L: Ledger, R: Wait, G: Gate> Worker<'a, 't, L, R, G> {
         self.pool.served(self.fault.is_some());
     }
 
-    fn take_offer(&self, number: u64) -> Result<(), PlayFault> {
+    fn take_offer(&mut self, number: u64) -> Result<(), PlayFault> {
         let Some(Offer { now, tap }) = self.pool.offer(number) else {
             return Ok(());
         };
@@ -116,7 +119,7 @@ impl<'a, 't, L: Ledger, R: Wait, G: Gate> Worker<'a, 't, L, R, G> {
 
     /// A tap takes its turn at a moment: the worker looks at it, asks the gate, and decides, all without the
     /// segment's lock but the look and the end.
-    fn take_turn(&self, seat: &mut TapSeat<L>, now: u64) -> Result<(), PlayFault> {
+    fn take_turn(&mut self, seat: &mut TapSeat<L>, now: u64) -> Result<(), PlayFault> {
         let tap = seat.tap();
         let refused = |fault: CommitFault| PlayFault::Commit { tap, now, fault };
         let glance = match self.segment.glance(self.rt, self.alloc, seat) {
@@ -130,8 +133,11 @@ impl<'a, 't, L: Ledger, R: Wait, G: Gate> Worker<'a, 't, L, R, G> {
         if !is_open {
             return Err(PlayFault::GateClosed(tap));
         }
-        let decision = decide(self.alloc, glance)?;
-        match self.segment.commit(self.rt, self.alloc, seat, decision) {
+        let decided = decide_in(self.alloc, glance, &mut self.says)?;
+        match self
+            .segment
+            .commit_decided(self.rt, self.alloc, seat, decided)
+        {
             Ok(_) => Ok(()),
             Err(fault) => Err(refused(fault)),
         }

@@ -5,7 +5,7 @@ ghost use Rattle.pb_messages.specs.Messages.{frame_octets, message_of};
 ghost use Rattle.pb_messages.specs.declared.messages.Message.TheVariants.{Framed};
 
 use arrayvec::ArrayVec;
-use pb_telegram::{Fixed8Telegram, ShortTelegram, Telegram, VarTelegram, copy_octets};
+use pb_telegram::{Fixed8Telegram, ShortTelegram, Telegram, VarTelegram, copy_octets, put_octets};
 use std::marker::Model;
 
 /// A telegram with a control octet, apart from its form.
@@ -118,6 +118,17 @@ impl Frame {
             fc: self.fc,
             unit: copy_octets(&self.unit),
         }
+    }
+
+    /// Becomes equal to another, in the room that it has.
+    pub fn copy_from(&mut self, other: &Frame)
+        ensures { self.new ≡ other.now }
+    {
+        let Frame { da, sa, fc, unit } = self;
+        *da = other.da;
+        *sa = other.sa;
+        *fc = other.fc;
+        put_octets(unit, &other.unit);
     }
 
     /// The telegram: its form goes by how many octets of data it has.

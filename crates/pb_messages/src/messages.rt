@@ -1,6 +1,7 @@
 ghost use Rattle.std.specs.Prelude.{◌≡◌};
 ghost use Rattle.pb_telegram.specs.Grammar.{spelling};
 ghost use Rattle.pb_messages.specs.Messages.{message_of, reply_octets, heard_as};
+ghost use Rattle.pb_messages.specs.declared.messages.Reply.TheVariants.{Answer};
 
 use crate::frames::Frame;
 use arrayvec::ArrayVec;
@@ -50,6 +51,26 @@ impl Reply {
         match self {
             Reply::Answer(frame) => Reply::Answer(frame.copy()),
             Reply::Acknowledge => Reply::Acknowledge,
+        }
+    }
+
+    /// Becomes equal to another, in the room that it has.
+    pub fn copy_from(&mut self, other: &Reply)
+        ensures { self.new ≡ other.now }
+    {
+        match other {
+            Reply::Answer(frame) => self.become_answer(frame),
+            Reply::Acknowledge => *self = Reply::Acknowledge,
+        }
+    }
+
+    /// Becomes a telegram with a control octet.
+    fn become_answer(&mut self, other: &Frame)
+        ensures { self.new ≡ Answer other.now }
+    {
+        match self {
+            Reply::Answer(frame) => frame.copy_from(other),
+            Reply::Acknowledge => *self = Reply::Answer(other.copy()),
         }
     }
 

@@ -4,7 +4,7 @@ ghost use Rattle.pb_messages.specs.Requests.{request_faults};
 
 use crate::services::Service;
 use arrayvec::ArrayVec;
-use pb_telegram::copy_octets;
+use pb_telegram::{copy_octets, put_octets};
 use std::marker::Model;
 use thiserror::Error;
 
@@ -138,6 +138,22 @@ impl Request {
             high: *high,
             unit: copy_octets(unit),
         }
+    }
+
+    /// Becomes equal to another, in the room that it has.
+    pub fn copy_from(&mut self, other: &Request)
+        ensures { self.new ≡ other.now }
+    {
+        let Request {
+            da,
+            service,
+            high,
+            unit,
+        } = self;
+        *da = other.da;
+        *service = other.service;
+        *high = other.high;
+        put_octets(unit, &other.unit);
     }
 
     /// The data, of a request that is used up.

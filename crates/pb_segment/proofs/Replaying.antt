@@ -19,7 +19,7 @@ use Rattle.pb_segment.specs.Counts.{counted, counted_drives}
 use Rattle.pb_segment.specs.Histories.{Happened, Receipt, Replays, is_turn_of, is_driven, told_if, told_from, told}
 use Rattle.pb_segment.specs.Locked.{LockedView, IsKept, AreCounts, view_of}
 use Rattle.pb_segment.specs.Origins.{Origin, IsMadeOf}
-use Rattle.pb_segment.specs.Reports.{IsReport, AreOutlooksIn, report_of}
+use Rattle.pb_segment.specs.Reports.{IsReport, report_of}
 use Rattle.pb_segment.specs.Outlooks.{IsOutlookOf, AreOutlooksOf, ShowsWorld}
 use Rattle.pb_segment.proofs.NewWorlds.{made_specs}
 
@@ -201,7 +201,7 @@ kept_new o w turns limit made zeros bound =
     }
 
 -- what has happened can be told
-pub kept_report : (l : LockedView) (trace : List Entry) → IsKept l → trace ≡ l.world.trace → IsReport (report_of l.origin trace l.history l.turns)
+pub kept_report : (l : LockedView) (trace : List Entry) → IsKept l → trace ≡ l.world.trace → IsReport (report_of l.origin trace l.history l.turns l.outlooks)
 kept_report l trace k same = record {
   first = k.first;
   last = l.world;
@@ -211,7 +211,5 @@ kept_report l trace k same = record {
   token = replay_leaves_one l.history k.first l.world k.replays;
   taps = sym k.taps ∙ taps_of_origin l.origin l.history k.first l.world k.made k.replays;
   turns = k.counts.turns;
+  outlooks = k.outlooks;
 }
-
-pub kept_outlooks : (l : LockedView) (trace : List Entry) → IsKept l → AreOutlooksIn (report_of l.origin trace l.history l.turns) l.outlooks
-kept_outlooks l trace k = record { first = k.first; made = k.made; are = k.outlooks }

@@ -1,6 +1,7 @@
 pub mod Histories
 pub mod Blocks
 pub mod Origins
+pub mod Dues
 pub mod Outlooks
 pub mod Seats
 pub mod Locked

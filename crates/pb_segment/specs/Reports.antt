@@ -13,11 +13,13 @@ pub record ReportView : Type 0 where
   pub trace : List Entry
   pub history : List Happened
   pub turns : List ℕ
+  pub outlooks : List Outlook
 
-abbrev pub report_of : Origin → List Entry → List Happened → List ℕ → ReportView
-report_of o trace history turns = record { origin = o; trace = trace; history = history; turns = turns }
+abbrev pub report_of : Origin → List Entry → List Happened → List ℕ → List Outlook → ReportView
+report_of o trace history turns looks = record { origin = o; trace = trace; history = history; turns = turns; outlooks = looks }
 
--- the trace is that of the history's replay from the new world, which leaves one token, and the turns are those of each tap in it
+-- the trace is that of the history's replay from the new world, which leaves one token, the turns are those of each tap in it, and
+-- the outlooks show its worlds
 pub record IsReport (r : ReportView) : Type 0 where
   pub first : World
   pub last : World
@@ -27,9 +29,4 @@ pub record IsReport (r : ReportView) : Type 0 where
   pub token : LeavesOneToken first (map (λ h. h.event) r.history) last
   pub taps : length r.turns ≡ length r.origin.specs
   pub turns : (tap : ℕ) → tap < length r.turns → slice_index r.turns tap ≡ length (told (is_turn_of tap) r.history)
-
--- some outlooks show the worlds of a report's history
-pub record AreOutlooksIn (r : ReportView) (looks : List Outlook) : Type 0 where
-  pub first : World
-  pub made : IsMadeOf r.origin first
-  pub are : AreOutlooksOf first r.history looks
+  pub outlooks : AreOutlooksOf first r.history r.outlooks

@@ -12,7 +12,7 @@ use crate::origins::Origin;
 use crate::outlooks::Outlook;
 use crate::receipts::{KeptReceipt, Receipt, is_turn};
 use crate::seats::{ConductorSeat, TapSeat};
-use pb_station::{Decision, Glance};
+use pb_station::{Decided, Glance};
 use pb_world::{Event, World};
 use std::alloc::Global;
 use std::marker::Model;
@@ -85,28 +85,28 @@ impl<L: Ledger> Locked<L> {
         &mut self,
         alloc: Global,
         seat: &mut TapSeat<L>,
-        decision: Decision,
+        decided: Decided<'_>,
     ) -> Result<Receipt, CommitFault>
         ensures ok { IfOk result (Appends self.old self.new (Turn seat.old.tap)) }
-        ensures present { OnOk result (IsPresent self.old seat.old decision) }
+        ensures present { OnOk result (IsPresent self.old seat.old decided.entry) }
         ensures told { IfOk result
             (λ r. seat.new ≡ record seat.old { receipts = seat.old.receipts ++ r ∷ [] }) }
         ensures token { OnOk result (LeavesOneToken self.old.world (Turn seat.old.tap ∷ []) self.new.world) }
-        ensures err { IfErr result (RefusesDecision self.old seat.old decision) }
+        ensures err { IfErr result (RefusesDecision self.old seat.old decided.entry) }
         ensures same { OnErr result ((self.new ≡ self.old) × (seat.new ≡ seat.old)) }
     {
-        if decision.tap != seat.tap {
+        if decided.tap != seat.tap {
             return Err(CommitFault::WrongTap);
         }
         let turns = self.turns[seat.tap];
         if turns != seat.receipts.len() {
             return Err(CommitFault::Disagree);
         }
-        if !self.world.fits(&decision) {
+        if !self.world.fits_decided(&decided) {
             let now = self.world.now().get();
             return Err(CommitFault::Stale { turns, now });
         }
-        self.keep_turn(alloc, decision, &mut seat.receipts, &mut seat.share)
+        self.keep_turn(alloc, decided, &mut seat.receipts, &mut seat.share)
     }
 
     /// Lets an event happen that is no turn.
@@ -170,34 +170,34 @@ impl<L: Ledger> Locked<L> {
     fn keep_turn(
         &mut self,
         alloc: Global,
-        decision: Decision,
+        decided: Decided<'_>,
         receipts: &mut Vec<KeptReceipt>,
         share: &mut Share<L>,
     ) -> Result<Receipt, CommitFault>
-        requires fits { Fits self.old.world decision }
+        requires fits { Fits self.old.world decided }
         requires part { share.old.parts ≡ 1 }
-        ensures ok { IfOk result (Appends self.old self.new (Turn decision.tap)) }
+        ensures ok { IfOk result (Appends self.old self.new (Turn decided.entry.tap)) }
         ensures told { IfOk result (λ r. receipts.new.items ≡ receipts.old.items ++ r ∷ []) }
         ensures counted { OnOk result (share.new.amount ≡ share.old.amount + 1) }
-        ensures token { OnOk result (LeavesOneToken self.old.world (Turn decision.tap ∷ []) self.new.world) }
+        ensures token { OnOk result (LeavesOneToken self.old.world (Turn decided.entry.tap ∷ []) self.new.world) }
         ensures part { share.new.parts ≡ 1 }
-        ensures err { IfErr result (RefusesToKeep self.old (Turn decision.tap)) }
+        ensures err { IfErr result (RefusesToKeep self.old (Turn decided.entry.tap)) }
         ensures same { OnErr result ((self.new ≡ self.old)
             × (receipts.new.items ≡ receipts.old.items) × (share.new.amount ≡ share.old.amount)) }
     {
         let note = match note_turn(
             alloc,
             &self.world,
-            &decision,
+            &decided,
             &mut self.known,
             &mut self.history,
             receipts,
             self.limit,
         ) {
             Ok(note) => note,
-            Err(fault) => return Err(turn_refused(&self.world, &decision, fault)),
+            Err(fault) => return Err(turn_refused(&self.world, &decided, fault)),
         };
-        self.world.take(alloc, decision)?;
+        self.world.take_decided(alloc, decided)?;
         count(&mut self.turns, &mut self.drives, &note.happened);
         Ok(keep(note, &mut self.history, &mut self.book, receipts, share))
     }

@@ -16,7 +16,7 @@ use crate::faults::CommitFault;
 use crate::histories::Happened;
 use crate::known::{Known, spoken};
 use crate::receipts::KeptReceipt;
-use pb_station::Decision;
+use pb_station::Decided;
 use pb_timers::Moment;
 use pb_world::{Event, Reply, World};
 use std::alloc::{AllocError, Global};
@@ -36,17 +36,17 @@ pub(crate) struct Note {
 pub(crate) fn note_turn(
     alloc: Global,
     world: &World,
-    decision: &Decision,
+    decided: &Decided<'_>,
     known: &mut Known,
     history: &mut Blocks,
     receipts: &mut Vec<KeptReceipt>,
     limit: usize,
 ) -> Result<Note, CommitFault>
-    requires fits { Fits world.now decision.now }
+    requires fits { Fits world.now decided.now }
     requires most { limit ≤ 1000000 }
     requires inside { length (happened_in history.old) ≤ limit }
     ensures note { IfOk result
-        (IsNoteOf world.entry.now (Turn decision.entry.now.tap) (length (happened_in history.old))) }
+        (IsNoteOf world.entry.now (Turn decided.entry.now.tap) (length (happened_in history.old))) }
     ensures same { happened_in history.new ≡ happened_in history.old }
     ensures same_receipts { receipts.new.items ≡ receipts.old.items }
     ensures room { OnOk result (HasRoom history.new) }
@@ -55,8 +55,8 @@ pub(crate) fn note_turn(
     ensures err { IfErr result (IsWantOfRoom (length (happened_in history.old)) limit) }
 {
     make_room(alloc, history, receipts, limit)?;
-    let event = known.turn(alloc, decision.tap)?;
-    let reply = reply_to_turn(alloc, world, decision, known)?;
+    let event = known.turn(alloc, decided.tap)?;
+    let reply = reply_to_turn(alloc, world, decided, known)?;
     Ok(note_at(history.len(), event, reply)?)
 }
 
@@ -90,12 +90,12 @@ pub(crate) fn note_event(
 
 /// Why a turn isn't taken for which there is no room: the world's fault comes first.
 #[inline(never)]
-pub(crate) fn turn_refused(world: &World, decision: &Decision, fault: CommitFault) -> CommitFault
-    requires { Fits world.now decision.now }
-    ensures { result ≡ earlier_fault (fault_of (step world.entry.now (Turn decision.entry.now.tap))) fault }
+pub(crate) fn turn_refused(world: &World, decided: &Decided<'_>, fault: CommitFault) -> CommitFault
+    requires { Fits world.now decided.now }
+    ensures { result ≡ earlier_fault (fault_of (step world.entry.now (Turn decided.entry.now.tap))) fault }
 {
-    let event = Event::Turn(decision.tap);
-    refused(world, &event, decision.speak.is_some(), fault)
+    let event = Event::Turn(decided.tap);
+    refused(world, &event, decided.speak.is_some(), fault)
 }
 
 /// Why an event doesn't happen for which there is no room: the world's fault comes first.
@@ -139,14 +139,14 @@ fn make_room(
 fn reply_to_turn(
     alloc: Global,
     world: &World,
-    decision: &Decision,
+    decided: &Decided<'_>,
     known: &mut Known,
 ) -> Result<Arc<Reply, Global>, AllocError>
-    requires { Fits world.now decision.now }
+    requires { Fits world.now decided.now }
     ensures { IfOk result
-        (λ r. IsReplyTo world.entry.now (Turn decision.entry.now.tap) (reply_of (arc_value r))) }
+        (λ r. IsReplyTo world.entry.now (Turn decided.entry.now.tap) (reply_of (arc_value r))) }
 {
-    match &decision.speak {
+    match decided.speak {
         Some(octets) => spoken(alloc, world.now(), octets),
         None => known.silence(alloc, world.now()),
     }

@@ -1,7 +1,9 @@
-ghost use Rattle.std.specs.Prelude.{◌≡◌, ◌↔◌, IsTrue, IfOk, length};
+ghost use Rattle.std.specs.Prelude.{◌≡◌, ◌↔◌, ◌≤◌, IsTrue, IfOk, length};
 ghost use Rattle.pb_runs.specs.Bus.{dues};
+ghost use Rattle.pb_segment.specs.Dues.{moments_in};
 ghost use Rattle.pb_segment.specs.Outlooks.{ShowsWorld};
 
+use arrayvec::ArrayVec;
 use pb_timers::Moment;
 use pb_world::World;
 use std::alloc::{AllocError, Global};
@@ -67,16 +69,16 @@ impl Outlook {
 /// When each tap is due, in the order of the taps: None for one that doesn't run, or waits for nothing.
 #[derive(Debug, Drop)]
 pub struct Dues {
-    moments: Arc<Vec<Option<Moment>>, Global>,
+    moments: Moments,
 }
 
 impl Model for Dues {
-    ghost use Rattle.std.specs.Arc.{arc_value};
     ghost use Rattle.std.specs.Prelude.{List, Option, ℕ};
+    ghost use Rattle.pb_segment.specs.Dues.{moments_in};
 
     ghost Value = { List (Option ℕ) };
 
-    ghost view = { λ d. (arc_value d.moments).items };
+    ghost view = { λ d. moments_in d.moments };
 }
 
 impl Dues {
@@ -86,7 +88,7 @@ impl Dues {
     pub fn moments(&self) -> &[Option<Moment>]
         ensures { result.now ≡ self.now }
     {
-        &self.moments
+        moments_of(&self.moments)
     }
 
     /// The same moments, which are shared.
@@ -94,19 +96,48 @@ impl Dues {
         ensures { IfOk result (λ d. d ≡ self.now) }
     {
         Ok(Dues {
-            moments: Arc::try_clone(&self.moments)?,
+            moments: shared(&self.moments)?,
         })
     }
 
     fn is_same(&self, other: &Dues) -> bool
         ensures { IsTrue result ↔ (self.now ≡ other.now) }
     {
-        are_same(&self.moments, &other.moments)
+        are_same(self.moments(), other.moments())
     }
 }
 
-fn are_same(one: &Vec<Option<Moment>>, other: &Vec<Option<Moment>>) -> bool
-    ensures { IsTrue result ↔ (one.now.items ≡ other.now.items) }
+/// How many moments are few.
+const FEW: usize = 4;
+
+/// The moments of all taps, which are shared. Few of them take one room, and many a room that fits.
+#[derive(Debug, Drop)]
+enum Moments {
+    Few(Arc<ArrayVec<Option<Moment>, FEW>, Global>),
+    Many(Arc<Vec<Option<Moment>>, Global>),
+}
+
+fn moments_of(moments: &Moments) -> &[Option<Moment>]
+    ensures { result.now ≡ moments_in moments.now }
+{
+    match moments {
+        Moments::Few(moments) => moments,
+        Moments::Many(moments) => moments,
+    }
+}
+
+/// The same, for one more. Its fault: they are shared too often.
+fn shared(moments: &Moments) -> Result<Moments, AllocError>
+    ensures { IfOk result (λ same. moments_in same ≡ moments_in moments.now) }
+{
+    Ok(match moments {
+        Moments::Few(few) => Moments::Few(Arc::try_clone(few)?),
+        Moments::Many(many) => Moments::Many(Arc::try_clone(many)?),
+    })
+}
+
+fn are_same(one: &[Option<Moment>], other: &[Option<Moment>]) -> bool
+    ensures { IsTrue result ↔ (one.now ≡ other.now) }
 {
     if one.len() != other.len() {
         return false;
@@ -120,16 +151,43 @@ fn are_same(one: &Vec<Option<Moment>>, other: &Vec<Option<Moment>>) -> bool
 }
 
 /// When each tap of a world is due. Its fault: memory was refused.
-#[tactic(auto, using(crate::proofs::Showing::next_due))]
 fn due_moments(alloc: Global, world: &World, taps: usize) -> Result<Dues, AllocError>
     requires { taps ≡ length world.now.taps }
     ensures { IfOk result (λ d. d ≡ dues world.entry.now) }
+{
+    let moments = if taps <= FEW {
+        Moments::Few(Arc::new(alloc, few_moments(world, taps))?)
+    } else {
+        Moments::Many(Arc::new(alloc, many_moments(alloc, world, taps)?)?)
+    };
+    Ok(Dues { moments })
+}
+
+#[tactic(auto, using(crate::proofs::Showing::next_due))]
+fn few_moments(world: &World, taps: usize) -> ArrayVec<Option<Moment>, FEW>
+    requires all { taps ≡ length world.now.taps }
+    requires few { taps ≤ 4 }
+    ensures { result.items ≡ dues world.entry.now }
+{
+    let mut moments = ArrayVec::new();
+    for tap in 0..taps {
+        moments.push(world.due(tap));
+    }
+    moments
+}
+
+#[tactic(auto, using(crate::proofs::Showing::next_due))]
+fn many_moments(
+    alloc: Global,
+    world: &World,
+    taps: usize,
+) -> Result<Vec<Option<Moment>>, AllocError>
+    requires { taps ≡ length world.now.taps }
+    ensures { IfOk result (λ moments. moments.items ≡ dues world.entry.now) }
 {
     let mut moments = Vec::with_capacity(alloc, taps)?;
     for tap in 0..taps {
         moments.push(world.due(tap))?;
     }
-    Ok(Dues {
-        moments: Arc::new(alloc, moments)?,
-    })
+    Ok(moments)
 }

@@ -2,19 +2,21 @@ use crate::closing::audit;
 use crate::histories::History;
 use crate::locked::Locked;
 use crate::origins::Origin;
+use crate::outlooks::Outlook;
 use crate::seats::{ConductorSeat, TapSeat};
 use pb_world::Entry;
 use std::marker::Model;
 use std::sync::ledger::Ledger;
 
-/// What has happened on a segment that is closed: its history, the trace of the history's replay, and how many
-/// turns each tap took. [`close`](crate::SharedSegment::close) alone makes one.
+/// What has happened on a segment that is closed: its history, the trace of the history's replay, how many
+/// turns each tap took, and what the conductor was shown. [`close`](crate::SharedSegment::close) alone makes one.
 #[derive(Drop)]
 pub struct Report {
     origin: Origin,
     trace: Vec<Entry>,
     history: History,
     turns: Vec<usize>,
+    outlooks: Vec<Outlook>,
 }
 
 impl Model for Report {
@@ -24,9 +26,10 @@ impl Model for Report {
 
     ghost Value = { ReportView };
 
-    ghost view = { λ r. report_of r.origin (map entry_of r.trace.items) r.history r.turns.items };
+    ghost view = { λ r. report_of r.origin (map entry_of r.trace.items) r.history r.turns.items r.outlooks.items };
 
-    ghost invariant = { λ r. IsReport (report_of r.origin (map entry_of r.trace.items) r.history r.turns.items) };
+    ghost invariant = { λ r. IsReport (report_of r.origin (map entry_of r.trace.items) r.history r.turns.items
+        r.outlooks.items) };
 }
 
 impl Report {
@@ -53,11 +56,18 @@ impl Report {
     {
         &self.turns
     }
+
+    /// What the conductor was shown, in order.
+    pub fn outlooks(&self) -> &[Outlook]
+        ensures { result.now ≡ self.now.outlooks }
+    {
+        &self.outlooks
+    }
 }
 
 impl<L: Ledger> Locked<L> {
     ghost use Rattle.std.specs.Prelude.{◌≡◌, ◌+◌, length, map, sum};
-    ghost use Rattle.pb_segment.specs.Reports.{AreOutlooksIn, IsReport};
+    ghost use Rattle.pb_segment.specs.Reports.{IsReport};
     ghost use Rattle.pb_segment.specs.Seats.{accepted};
 
     /// What has happened, for one who has all seats. Together they had all events accepted.
@@ -68,7 +78,7 @@ impl<L: Ledger> Locked<L> {
         ensures history { result.history ≡ self.history }
         ensures turns { result.turns ≡ self.turns }
         ensures trace { result.trace ≡ self.world.trace }
-        ensures outlooks { AreOutlooksIn result self.outlooks }
+        ensures outlooks { result.outlooks ≡ self.outlooks }
         ensures all { length result.history ≡ length conductor.receipts + sum (map accepted seats.items) }
     {
         let Locked {
@@ -78,7 +88,7 @@ impl<L: Ledger> Locked<L> {
             known: _,
             turns,
             drives: _,
-            outlooks: _,
+            outlooks,
             limit: _,
             mut book,
         } = self;
@@ -88,6 +98,7 @@ impl<L: Ledger> Locked<L> {
             trace: world.into_trace(),
             history: History::of(history),
             turns,
+            outlooks,
         }
     }
 }

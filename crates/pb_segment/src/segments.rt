@@ -7,7 +7,7 @@ use crate::outlooks::Outlook;
 use crate::receipts::Receipt;
 use crate::reports::Report;
 use crate::seats::{ConductorSeat, TapSeat};
-use pb_station::{Decision, Glance};
+use pb_station::{Decided, Decision, Glance};
 use pb_world::Event;
 use std::alloc::Global;
 use std::hint::spin_loop;
@@ -47,7 +47,7 @@ impl<L: Ledger> SharedSegment<L> {
     ghost use Rattle.pb_segment.specs.declared.faults.CommitFault.TheVariants.{WrongTap};
     ghost use Rattle.pb_segment.specs.Closing.{IsMissing};
     ghost use Rattle.pb_segment.specs.Histories.{is_driven, is_turn, told};
-    ghost use Rattle.pb_segment.specs.Reports.{AreOutlooksIn, IsReport};
+    ghost use Rattle.pb_segment.specs.Reports.{IsReport};
     ghost use Rattle.pb_segment.specs.Seats.{Agrees, accepted};
 
     /// What the tap of a seat shows after all turns that its seat had accepted: its station, its unread marks
@@ -87,7 +87,41 @@ impl<L: Ledger> SharedSegment<L> {
         ensures same { OnErr result (seat.new ≡ seat.old) }
         ensures wrong { (result ≡ Err WrongTap) ↔ (decision.tap ≢ seat.old.tap) }
     {
-        self.locked(rt).commit(alloc, seat, decision)
+        let Decision {
+            tap,
+            before,
+            marks,
+            now,
+            after,
+            speak,
+        } = decision;
+        let speak = speak.as_ref();
+        let decided = Decided {
+            tap,
+            before,
+            marks,
+            now,
+            after,
+            speak,
+        };
+        self.commit_decided(rt, alloc, seat, decided)
+    }
+
+    /// The same with a decision whose octets stand in a buffer.
+    #[inline(always)]
+    pub fn commit_decided(
+        &self,
+        rt: &impl Wait,
+        alloc: Global,
+        seat: &mut TapSeat<L>,
+        decided: Decided<'_>,
+    ) -> Result<Receipt, CommitFault>
+        ensures told { IfOk result
+            (λ r. seat.new ≡ record seat.old { receipts = seat.old.receipts ++ r ∷ [] }) }
+        ensures same { OnErr result (seat.new ≡ seat.old) }
+        ensures wrong { (result ≡ Err WrongTap) ↔ (decided.entry.tap ≢ seat.old.tap) }
+    {
+        self.locked(rt).commit(alloc, seat, decided)
     }
 
     /// Lets an event happen that is no turn; the conductor's seat is given a receipt. It may wait for the lock. A
@@ -144,7 +178,7 @@ impl<L: Ledger> SharedSegment<L> {
         ensures report { IfOk result IsReport }
         ensures origin { IfOk result (λ r. r.origin ≡ self.origin) }
         ensures conductor { IfOk result (λ r. told is_driven r.history ≡ conductor.receipts) }
-        ensures outlooks { IfOk result (λ r. AreOutlooksIn r conductor.outlooks) }
+        ensures outlooks { IfOk result (λ r. r.outlooks ≡ conductor.outlooks) }
         ensures seats { IfOk result (λ r. All (Agrees r.history) seats.items) }
         ensures taps { IfOk result (λ r. length r.turns ≡ length seats.items) }
         ensures all { IfOk result

@@ -8,7 +8,7 @@ use crate::{
     TapSeat,
 };
 use arrayvec::ArrayVec;
-use pb_station::decide;
+use pb_station::{SendBuffer, decide, decide_in};
 use pb_timers::BusParams;
 use pb_world::{Event, Kind, TapSpec, World, WorldFault};
 use std::fmt::Debug;
@@ -301,13 +301,14 @@ fn takes_turns<L: Ledger, R: AllocGlobal + Abort + Wait>(
     turns: usize,
 ) -> TapSeat<L> {
     let mut accepted: usize = 0;
+    let mut says = SendBuffer::new();
     for _ in 0..TRIES {
         if accepted >= turns {
             break;
         }
         let glance = segment.glance(rt, rt.alloc(), &seat).expect(rt, "a glance");
-        let decision = decide(rt.alloc(), glance).expect(rt, "a decision");
-        match segment.commit(rt, rt.alloc(), &mut seat, decision) {
+        let decided = decide_in(rt.alloc(), glance, &mut says).expect(rt, "a decision");
+        match segment.commit_decided(rt, rt.alloc(), &mut seat, decided) {
             Ok(_) => accepted += 1,
             Err(CommitFault::Stale { .. }) => {}
             Err(fault) => panic!(rt; "{fault}"),

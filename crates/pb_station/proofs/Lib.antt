@@ -3,3 +3,4 @@ pub mod Noted
 pub mod Places
 pub mod Receipts
 pub mod Silence
+pub mod Told

@@ -1,10 +1,11 @@
 -- What a decision is.
-use Rattle.std.specs.Prelude.{◌≡◌, ℕ, List, Option, map}
+use Rattle.std.specs.Prelude.{◌≡◌, ℕ, List, Option, map, option_map}
 pub use Rattle.pb_core.specs.Sending.{octets_of}
 use Rattle.pb_turn.specs.Marks as turn
 use Rattle.pb_turn.specs.Turns.{turn_of}
 use Rattle.pb_station.specs.MarkViews.{mark_of}
 use Rattle.pb_station.specs.Stations.{StationView}
+use Rattle.pb_station.specs.declared.decisions.Decided.TheInside as decided
 use Rattle.pb_station.specs.declared.decisions.Decision.TheInside.{Inside}
 use Rattle.pb_station.specs.declared.marks.Mark.{Mark}
 
@@ -30,6 +31,16 @@ decision_view d = record {
   now = d.now;
   after = d.after;
   speak = octets_of d.speak;
+}
+
+abbrev pub decided_view : decided.Inside → DecisionView
+decided_view d = record {
+  tap = d.tap;
+  before = d.before;
+  marks = d.marks.items;
+  now = d.now;
+  after = d.after;
+  speak = option_map (λ o. o.now.items) d.speak;
 }
 
 -- each decision is a turn

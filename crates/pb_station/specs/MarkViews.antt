@@ -1,5 +1,6 @@
 -- A mark as plain data.
 use Rattle.std.specs.Prelude.{ℕ, ◌≤◌, List, [], ◌∷◌, All}
+use Rattle.pb_telegram.specs.declared.chars.RxChar.{RxChar}
 use Rattle.pb_turn.specs.Marks as turn
 use Rattle.pb_turn.specs.Marks.{moment_of}
 use Rattle.pb_station.specs.declared.marks.Mark.{Mark}
@@ -16,3 +17,12 @@ AreOver now marks = All (λ m. moment_of (mark_of m) ≤ now) marks
 abbrev pub AllOver : ℕ → List turn.Mark → Type 0
 AllOver now [] = Unit {0}
 AllOver now (m ∷ ms) = (moment_of m ≤ now) × AllOver now ms
+
+-- the characters that a mark brings, and the mark with others in their place
+abbrev pub brought : turn.Mark → List RxChar
+brought (turn.Begin at seen) = []
+brought (turn.End at seen chars) = chars
+
+abbrev pub bringing : turn.Mark → List RxChar → turn.Mark
+bringing (turn.Begin at seen) more = turn.Begin at seen
+bringing (turn.End at seen chars) more = turn.End at seen more

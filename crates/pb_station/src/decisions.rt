@@ -1,6 +1,5 @@
-ghost use Rattle.std.specs.Prelude.{◌≡◌, ◌≤◌, map, IfOk};
-ghost use Rattle.pb_station.specs.Decisions.{IsDecision};
-ghost use Rattle.pb_station.specs.Halves.{at_clock};
+ghost use Rattle.std.specs.Prelude.{◌≡◌, ◌≤◌, IfOk, map, option_map};
+ghost use Rattle.pb_station.specs.Decisions.{IsDecision, octets_of};
 ghost use Rattle.pb_turn.specs.Stations as turn;
 ghost use Rattle.pb_core.specs.Clocks.{last_turn};
 ghost use Rattle.pb_station.specs.MarkViews.{mark_of, AreOver};
@@ -9,6 +8,7 @@ use crate::marks::Mark;
 use crate::stations::{NoMemory, Station};
 use arrayvec::ArrayVec;
 use pb_core::SendBuffer;
+use pb_telegram::copy_octets;
 use pb_timers::Moment;
 use std::alloc::Global;
 use std::marker::Model;
@@ -54,15 +54,87 @@ impl Model for Decision {
     ghost invariant = { λ d. IsDecision (decision_view d) };
 }
 
+/// A turn of a station, as a [`Decision`] is one, whose octets stand in the buffer that it was decided with, so that a turn
+/// in which nothing is said has no room for any.
+#[derive(Debug, Drop)]
+pub struct Decided<'a> {
+    /// The tap of the station, counted from 0.
+    pub tap: usize,
+    /// The station before its turn.
+    pub before: Station,
+    /// Its unread marks.
+    pub marks: Vec<Mark>,
+    /// The moment of the turn.
+    pub now: Moment,
+    /// The station after its turn.
+    pub after: Station,
+    /// The octets that it says.
+    pub speak: Option<&'a ArrayVec<u8, 255>>,
+}
+
+impl<'a> Model for Decided<'a> {
+    ghost use Rattle.pb_station.specs.Decisions.{DecisionView, decided_view, IsDecision};
+
+    ghost Value = { DecisionView };
+
+    ghost view = { decided_view };
+
+    ghost invariant = { λ d. IsDecision (decided_view d) };
+}
+
 /// The turn of a station, as a glance shows it: it reads its unread marks and the timers between them in order
 /// of time, a mark first at a tie, and then speaks if its moment has come (EN 50170-2, states of the data link
 /// layer). It changes nothing. `now` is at most 2^61, and no moment of a mark is later than `now`, both the
 /// caller's conditions.
 ///
 /// Fault: `NoMemory` where memory was refused, for the station before and after.
-#[tactic(auto, using(crate::proofs::Silence::silent_turn))]
 #[inline(always)]
 pub fn decide(alloc: Global, glance: Glance) -> Result<Decision, NoMemory>
+    requires clock { glance.now ≤ last_turn }
+    requires over { AreOver glance.now glance.marks.items }
+    ensures turn { IfOk result IsDecision }
+    ensures glance { IfOk result (λ d. (d.tap ≡ glance.tap) × (d.before ≡ glance.station)
+        × (d.marks ≡ glance.marks.items) × (d.now ≡ glance.now)) }
+{
+    let mut out = SendBuffer::new();
+    let Decided {
+        tap,
+        before,
+        marks,
+        now,
+        after,
+        speak,
+    } = decide_in(alloc, glance, &mut out)?;
+    Ok(Decision {
+        tap,
+        before,
+        marks,
+        now,
+        after,
+        speak: copied(speak),
+    })
+}
+
+/// A copy of what is said.
+fn copied(speak: Option<&ArrayVec<u8, 255>>) -> Option<ArrayVec<u8, 255>>
+    ensures { octets_of result ≡ option_map (λ o. o.now.items) speak.entry }
+{
+    match speak {
+        Some(octets) => Some(copy_octets(octets)),
+        None => None,
+    }
+}
+
+/// The turn that [`decide`] gives, whose octets stay in a buffer that may be used for many turns, one after another. What
+/// the buffer had before is forgotten. The caller's conditions are the same.
+///
+/// Fault: `NoMemory` where memory was refused, for the station before and after.
+#[inline(always)]
+pub fn decide_in<'a>(
+    alloc: Global,
+    glance: Glance,
+    out: &'a mut SendBuffer,
+) -> Result<Decided<'a>, NoMemory>
     requires clock { glance.now ≤ last_turn }
     requires over { AreOver glance.now glance.marks.items }
     ensures turn { IfOk result IsDecision }
@@ -76,44 +148,15 @@ pub fn decide(alloc: Global, glance: Glance) -> Result<Decision, NoMemory>
         now,
     } = glance;
     let mut after = station.copy_in_room(alloc)?;
-    if after.read(&marks, now) {
-        return Ok(spoken(tap, station, marks, now, after));
-    }
-    Ok(Decision {
+    after.turn_on(&marks, now, out);
+    Ok(Decided {
         tap,
         before: station,
         marks,
         now,
         after,
-        speak: None,
+        speak: out.sent(),
     })
-}
-
-/// The turn of a station that has read its marks, and whose speaking moment has come. It stands apart, so that a turn in
-/// which nothing is said doesn't pay for the room of octets.
-#[inline(never)]
-fn spoken(
-    tap: usize,
-    before: Station,
-    marks: Vec<Mark>,
-    now: Moment,
-    mut after: Station,
-) -> Decision
-    requires clock { now ≤ last_turn }
-    requires read { after ≡ at_clock before (map mark_of marks.items) now }
-    ensures { (result.tap ≡ tap) × (result.before ≡ before) × (result.marks ≡ marks.items)
-        × (result.now ≡ now) }
-{
-    let mut out = SendBuffer::new();
-    after.speak(now, &mut out);
-    Decision {
-        tap,
-        before,
-        marks,
-        now,
-        after,
-        speak: out.copy(),
-    }
 }
 
 /// When a station has to take its turn, with some unread marks: the least of the moment at which the first of

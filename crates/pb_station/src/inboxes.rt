@@ -223,7 +223,16 @@ fn push_copy(copies: &mut Vec<Mark>, note: &Note, chars: &[RxChar], octets: &[u8
             at: *at,
             seen: *seen,
         }),
-        ended => copies.push_reserved(ended.mark(chars, octets)),
+        Note::End { at, seen, .. } => {
+            let place = copies.len();
+            copies.push_reserved(Mark::ended(*at, *seen));
+            copies[place].bring(chars);
+        }
+        Note::GoodEnd { at, seen, .. } => {
+            let place = copies.len();
+            copies.push_reserved(Mark::ended(*at, *seen));
+            copies[place].bring_good(octets);
+        }
     }
 }
 

@@ -14,7 +14,7 @@ mod spares;
 mod stations;
 mod turns;
 
-pub use decisions::{Decision, Glance, decide, due};
+pub use decisions::{Decided, Decision, Glance, decide, decide_in, due};
 pub use inboxes::{Inbox, MARK_LIMIT};
 pub use marks::Mark;
 pub use pb_core::SendBuffer;

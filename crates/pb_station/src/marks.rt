@@ -1,11 +1,14 @@
-ghost use Rattle.std.specs.Prelude.{◌≡◌, ◌≤◌, length, map};
+ghost use Rattle.std.specs.Prelude.{◌≡◌, ◌≤◌, ◌+◌, ◌++◌, [], length, map};
 ghost use Rattle.pb_telegram.specs.declared.chars.RxChar.TheVariants.{Good};
-ghost use Rattle.pb_turn.specs.Marks.{moment_of, seen_at};
-ghost use Rattle.pb_station.specs.MarkViews.{mark_of};
+ghost use Rattle.pb_turn.specs.Marks.{End, moment_of, seen_at};
+ghost use Rattle.pb_station.specs.MarkViews.{mark_of, bringing, brought};
 
 use arrayvec::ArrayVec;
 use pb_telegram::RxChar;
 use pb_timers::Moment;
+
+/// How many octets are many.
+const MANY: usize = 16;
 
 /// What a station is told of the bus: activity of others begins or ends at a moment. The mark is
 /// delivered at the moment `seen`.
@@ -47,6 +50,42 @@ impl Mark {
         }
     }
 
+    /// The end of activity at a moment, of which no character is told yet.
+    #[inline(always)]
+    pub(crate) fn ended(at: Moment, seen: Moment) -> Mark
+        ensures { mark_of result ≡ End at seen [] }
+    {
+        Mark::End {
+            at,
+            seen,
+            chars: ArrayVec::new(),
+        }
+    }
+
+    /// The end of activity is told to have brought characters.
+    #[inline(always)]
+    pub(crate) fn bring(&mut self, more: &[RxChar])
+        requires none { brought (mark_of self.old) ≡ [] }
+        requires fits { length more.now ≤ 255 }
+        ensures { mark_of self.new ≡ bringing (mark_of self.old) more.now }
+    {
+        if let Mark::End { chars, .. } = self {
+            chars.try_extend_from_slice(more).unwrap();
+        }
+    }
+
+    /// It is told to have brought octets that all came good.
+    #[inline(always)]
+    pub(crate) fn bring_good(&mut self, octets: &[u8])
+        requires none { brought (mark_of self.old) ≡ [] }
+        requires fits { length octets.now ≤ 255 }
+        ensures { mark_of self.new ≡ bringing (mark_of self.old) (map Good octets.now) }
+    {
+        if let Mark::End { chars, .. } = self {
+            push_good(chars, octets);
+        }
+    }
+
     /// The mark's own moment.
     pub(crate) fn moment(&self) -> Moment
         ensures { result ≡ moment_of (mark_of self.now) }
@@ -76,8 +115,24 @@ pub fn copy_chars(chars: &[RxChar]) -> ArrayVec<RxChar, 255>
     copy
 }
 
+/// The characters of octets that came good take their place behind others. Of many, they are made in a room of their own
+/// first, which the compiler makes faster.
+fn push_good(chars: &mut ArrayVec<RxChar, 255>, octets: &[u8])
+    requires { length chars.old.items + length octets.now ≤ 255 }
+    ensures { chars.new.items ≡ chars.old.items ++ map Good octets.now }
+{
+    if octets.len() >= MANY {
+        chars.try_extend_from_slice(&good_chars(octets)).unwrap();
+        return;
+    }
+    for heard in octets {
+        chars.push(RxChar::Good(*heard));
+    }
+}
+
 /// The characters of octets that came good.
-pub(crate) fn good_chars(octets: &[u8]) -> ArrayVec<RxChar, 255>
+#[inline(never)]
+fn good_chars(octets: &[u8]) -> ArrayVec<RxChar, 255>
     requires { length octets.now ≤ 255 }
     ensures { result.items ≡ map Good octets.now }
 {

@@ -6,7 +6,7 @@ ghost use Rattle.pb_turn.specs.Marks.{moment_of, seen_at};
 ghost use Rattle.pb_station.specs.MarkViews.{mark_of};
 ghost use Rattle.pb_station.specs.Notes.{chars_of, octets_of, mark_with};
 
-use crate::marks::{Mark, copy_chars, good_chars};
+use crate::marks::Mark;
 use pb_telegram::RxChar;
 use pb_timers::Moment;
 
@@ -99,31 +99,6 @@ impl Note {
         }
     }
 
-    /// The mark with its characters, and with its octets.
-    #[inline(always)]
-    pub(crate) fn mark(&self, chars: &[RxChar], octets: &[u8]) -> Mark
-        requires chars { length chars.now ≤ 255 }
-        requires octets { length octets.now ≤ 255 }
-        ensures { mark_of result ≡ mark_with self.now chars.now octets.now }
-    {
-        match self {
-            Note::Begin { at, seen } => Mark::Begin {
-                at: *at,
-                seen: *seen,
-            },
-            Note::End { at, seen, .. } => Mark::End {
-                at: *at,
-                seen: *seen,
-                chars: copy_chars(chars),
-            },
-            Note::GoodEnd { at, seen, .. } => Mark::End {
-                at: *at,
-                seen: *seen,
-                chars: good_chars(octets),
-            },
-        }
-    }
-
     /// Whether a mark is this one with some characters, and with some octets.
     pub(crate) fn is_noted(&self, chars: &[RxChar], octets: &[u8], mark: &Mark) -> bool
         ensures { IsTrue result ↔ (mark_of mark.now ≡ mark_with self.now chars.now octets.now) }
@@ -171,17 +146,19 @@ fn are_good(octets: &[u8], chars: &[RxChar]) -> bool
     if octets.len() != chars.len() {
         return false;
     }
+    let mut all = true;
     for (place, octet) in octets.iter().enumerate() {
-        if !is_good(chars[place], *octet) {
-            return false;
-        }
+        all &= is_good(chars[place], *octet);
     }
-    true
+    all
 }
 
 /// Whether a character is that of an octet that came good.
 fn is_good(char: RxChar, octet: u8) -> bool
     ensures { IsTrue result ↔ (char ≡ Good octet) }
 {
-    char == RxChar::Good(octet)
+    match char {
+        RxChar::Good(it) => it == octet,
+        RxChar::Bad => false,
+    }
 }

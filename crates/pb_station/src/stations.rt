@@ -375,6 +375,21 @@ impl Station {
         take_turn(core, params, inbox, now, out);
     }
 
+    /// The same turn, with marks that are in no inbox.
+    #[tactic(auto, using(crate::proofs::Silence::silent_turn))]
+    #[inline(always)]
+    pub(crate) fn turn_on(&mut self, marks: &[Mark], now: Moment, out: &mut SendBuffer)
+        requires clock { now ≤ last_turn }
+        requires over { AreOver now marks.now }
+        ensures { (self.new, out.new) ≡ turned self.old (map mark_of marks.now) now }
+    {
+        if self.read(marks, now) {
+            self.speak(now, out);
+        } else {
+            out.clear();
+        }
+    }
+
     /// The first half of a turn, with marks that are in no inbox: the station reads them, and its timers. It answers
     /// whether its speaking moment has come.
     pub(crate) fn read(&mut self, marks: &[Mark], now: Moment) -> bool

@@ -1,9 +1,10 @@
 ghost use Rattle.std.specs.Prelude.{◌≡◌, ◌<◌, IsTrue, ◌↔◌, IfOk, Some, slice_get, length, map};
-ghost use Rattle.pb_taps.specs.Glancing.{Shows, WasMadeOn, FitsTap};
+ghost use Rattle.pb_station.specs.MarkViews.{mark_of};
+ghost use Rattle.pb_taps.specs.Glancing.{Shows, FitsTap};
 ghost use Rattle.pb_taps.specs.declared.taps.Tap as declared;
 
 use crate::taps::Tap;
-use pb_station::{Decision, Glance, NoMemory, Spares};
+use pb_station::{Decided, Decision, Glance, Mark, NoMemory, Spares, Station};
 use pb_timers::Moment;
 use std::alloc::Global;
 
@@ -28,7 +29,17 @@ pub fn fits(taps: &[Tap], decision: &Decision, now: Moment) -> bool
     ensures { IsTrue result ↔ FitsTap taps.now now decision.entry.now }
 {
     match taps.get(decision.tap) {
-        Some(tap) => was_made_on(tap, decision, now),
+        Some(tap) => decision.now == now && is_as(tap, &decision.before, &decision.marks),
+        None => false,
+    }
+}
+
+/// The same of one whose octets stand in a buffer.
+pub fn fits_decided(taps: &[Tap], decided: &Decided<'_>, now: Moment) -> bool
+    ensures { IsTrue result ↔ FitsTap taps.now now decided.entry.now }
+{
+    match taps.get(decided.tap) {
+        Some(tap) => decided.now == now && is_as(tap, &decided.before, &decided.marks),
         None => false,
     }
 }
@@ -50,8 +61,9 @@ fn show(
     })
 }
 
-fn was_made_on(tap: &Tap, decision: &Decision, now: Moment) -> bool
-    ensures { IsTrue result ↔ WasMadeOn tap.now now decision.entry.now }
+/// Whether a tap has a station and unread marks.
+fn is_as(tap: &Tap, station: &Station, marks: &[Mark]) -> bool
+    ensures { IsTrue result ↔ ((station.now ≡ tap.now.station) × (map mark_of marks.now ≡ tap.now.marks)) }
 {
-    decision.now == now && tap.marks.are(&decision.marks) && tap.station.is_same(&decision.before)
+    tap.marks.are(marks) && tap.station.is_same(station)
 }

@@ -13,7 +13,7 @@ mod turning;
 
 pub use events::{Event, Reply};
 pub use faults::{NewFault, WorldFault};
-pub use glancing::{fits, glance};
+pub use glancing::{fits, fits_decided, glance};
 pub use making::{check_taps, new_taps};
 pub use moments::beginning;
 pub use queueing::{check_queue, queue};

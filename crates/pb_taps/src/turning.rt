@@ -1,7 +1,6 @@
-ghost use Rattle.std.specs.Prelude.{◌≡◌, ◌≤◌, ◌<◌, [], is_some, OnOk, IfErr, Some, slice_get, length, map};
+ghost use Rattle.std.specs.Prelude.{◌≡◌, ◌≤◌, ◌<◌, [], is_some, option_map, OnOk, IfErr, Some, slice_get, length, map};
 ghost use Rattle.pb_model.specs.Laws.{AllInOrder, InOrder};
 ghost use Rattle.pb_model.specs.World.{clock_limit};
-ghost use Rattle.pb_station.specs.Decisions.{octets_of};
 ghost use Rattle.pb_taps.specs.Glancing.{FitsTap};
 ghost use Rattle.pb_taps.specs.Taps.{tap_of};
 ghost use Rattle.pb_taps.specs.Turning.{says, turned_tap, Runs, TakesTurn, RefusesStopped};
@@ -10,7 +9,7 @@ ghost use Rattle.pb_taps.specs.declared.taps.Tap as declared;
 use crate::faults::WorldFault;
 use crate::taps::Tap;
 use arrayvec::ArrayVec;
-use pb_station::{Decision, SendBuffer, Station};
+use pb_station::{Decided, SendBuffer, Station};
 use pb_timers::Moment;
 use std::mem::replace;
 
@@ -62,21 +61,22 @@ pub struct Replaced {
 #[inline(always)]
 pub fn take_decided(
     taps: &mut [Tap],
-    decision: Decision,
+    decided: Decided<'_>,
     now: Moment,
     out: &mut SendBuffer,
 ) -> Replaced
-    requires { FitsTap taps.old now decision }
-    ensures turn { TakesTurn taps.old decision.tap now taps.new out.new }
-    ensures replaced { (result.was ≡ decision.before) × (result.before ≡ decision.before) }
+    requires { FitsTap taps.old now decided }
+    ensures turn { TakesTurn taps.old decided.entry.tap now taps.new out.new }
+    ensures replaced { (result.was ≡ decided.entry.before) × (result.before ≡ decided.entry.before) }
 {
-    send(out, &decision.speak);
-    let Decision {
+    let Decided {
         tap,
         before,
         after,
+        speak,
         ..
-    } = decision;
+    } = decided;
+    send(out, speak);
     let was = become_turned(&mut taps[tap], after);
     Replaced { was, before }
 }
@@ -109,8 +109,8 @@ fn become_turned(tap: &mut Tap, after: Station) -> Station
 }
 
 /// Sends what was said, if anything.
-fn send(out: &mut SendBuffer, said: &Option<ArrayVec<u8, 255>>)
-    ensures { out.new ≡ octets_of said.now }
+fn send(out: &mut SendBuffer, said: Option<&ArrayVec<u8, 255>>)
+    ensures { out.new ≡ option_map (λ o. o.now.items) said.entry }
 {
     match said {
         Some(octets) => out.send(octets),

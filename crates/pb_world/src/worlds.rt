@@ -6,7 +6,7 @@ ghost use Rattle.pb_token.specs.Promises.{LeavesOneToken};
 
 use pb_bus::{Bus, new_bus};
 use pb_medium::Entry;
-use pb_station::{Decision, Glance, NoMemory, Station};
+use pb_station::{Decided, Decision, Glance, NoMemory, Station};
 use pb_taps::{Event, NewFault, Reply, TapSpec, WorldFault};
 use pb_telegram::copy_octets;
 use pb_timers::{BusParams, Moment};
@@ -188,6 +188,13 @@ impl World {
         self.bus.fits(decision)
     }
 
+    /// The same of one whose octets stand in a buffer.
+    pub fn fits_decided(&self, decided: &Decided<'_>) -> bool
+        ensures { IsTrue result ↔ Fits self.entry.now decided.entry.now }
+    {
+        self.bus.fits_decided(decided)
+    }
+
     /// Why [`apply`](World::apply) would refuse an event, memory apart: its fault of the numbers 1 to 10, or None. `speaks`
     /// says of a turn whether the station would speak, the caller's condition; of another event it says nothing. It
     /// changes nothing, and takes no memory.
@@ -208,7 +215,34 @@ impl World {
         ensures follows { Follows self.old (Turn decision.tap) result self.new }
         ensures token { OnOk result (LeavesOneToken self.old (Turn decision.tap ∷ []) self.new) }
     {
-        self.bus.take(alloc, decision)?;
+        let Decision {
+            tap,
+            before,
+            marks,
+            now,
+            after,
+            speak,
+        } = decision;
+        let speak = speak.as_ref();
+        let decided = Decided {
+            tap,
+            before,
+            marks,
+            now,
+            after,
+            speak,
+        };
+        self.take_decided(alloc, decided)
+    }
+
+    /// The same with a decision whose octets stand in a buffer.
+    #[inline(always)]
+    pub fn take_decided(&mut self, alloc: Global, decided: Decided<'_>) -> Result<Reply, WorldFault>
+        requires { Fits self.old decided }
+        ensures follows { Follows self.old (Turn decided.entry.tap) result self.new }
+        ensures token { OnOk result (LeavesOneToken self.old (Turn decided.entry.tap ∷ []) self.new) }
+    {
+        self.bus.take(alloc, decided)?;
         Ok(reply(&self.bus))
     }
 

@@ -60,6 +60,17 @@ fn what_is_kept_can_be_read(rt: HostRuntime) -> Result<(), Fail> {
     equal(&rt, &responder.data(), &[0xaa, 0xbb].as_slice());
     let outcome = Outcome::Data(unit("aabb")?);
     equal(&rt, &outcome.copy(), &outcome);
+    let mut other = Outcome::NoAnswer;
+    for outcome in [
+        Outcome::Acked,
+        Outcome::NoResource,
+        Outcome::Data(unit("aabb")?),
+        Outcome::Data(unit("cc")?),
+        Outcome::NoAnswer,
+    ] {
+        other.copy_from(&outcome);
+        equal(&rt, &other, &outcome);
+    }
     Ok(())
 }
 

@@ -25,6 +25,13 @@ fn a_telegram_says_its_fields(rt: HostRuntime) -> Result<(), Fail> {
         equal(&rt, &write(&frame.telegram()), &octets(hex)?);
         let reply = Reply::Answer(frame.copy());
         equal(&rt, &write(&reply.copy().telegram()), &octets(hex)?);
+        let mut other = Frame::new(1, 2, 3, unit("aa")?);
+        other.copy_from(&frame);
+        equal(&rt, &other, &frame);
+        for mut other in [Reply::Acknowledge, Reply::Answer(other)] {
+            other.copy_from(&reply);
+            equal(&rt, &other, &reply);
+        }
     }
     Ok(())
 }

@@ -24,6 +24,9 @@ fn all_stations_are_only_told(rt: HostRuntime) -> Result<(), Fail> {
     assert!(rt; told.high());
     equal(&rt, &told.unit(), &[1, 2].as_slice());
     equal(&rt, &told.copy().unit(), &[1, 2].as_slice());
+    let mut other = Request::new(5, Service::Sda, false, unit("03")?)?;
+    other.copy_from(&told);
+    equal(&rt, &other, &told);
     equal(&rt, &told.into_unit().as_slice(), &[1, 2].as_slice());
     Ok(())
 }

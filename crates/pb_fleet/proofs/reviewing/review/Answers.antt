@@ -8,12 +8,12 @@ use Rattle.pb_fleet.proofs.reviewing.review.Goals as goal
 pub returns-then-branch-clause-run : goal.returns-then-branch-clause-run
 returns-then-branch-clause-run c =
     let s = c.args.scenario.now.scenario in
-    let looks = c.args.outlooks.now.items in
-    let is : IsReport c.args.report = subst IsReport c.report.view_is c.report.invariant in
+    let r = c.args.report in
+    let is : IsReport r = subst IsReport c.report.view_is c.report.invariant in
     let walked = c.in_ok-is_run.ensures c.if-branch.true in
-    let run : IsRunOf s (looks_of looks) (events_in c.args.report.history) = rw (c.in_ok-walk.ensures.walk, c.history.ensures, c.as_slice.ensures.value) at walked in
-    is_the_run s c.args.report looks c.requires.origin is c.requires.outlooks run
+    let run : IsRunOf s (looks_of r.outlooks) (events_in r.history) = rw (c.in_ok-walk.ensures.walk, c.history.ensures, c.outlooks.ensures) at walked in
+    is_the_run s r c.requires is run
 
 pub returns-then-branch-clause-token : goal.returns-then-branch-clause-token
 returns-then-branch-clause-token c =
-    leaves_token c.args.scenario.now.scenario c.args.report c.requires.origin (subst IsReport c.report.view_is c.report.invariant)
+    leaves_token c.args.scenario.now.scenario c.args.report c.requires (subst IsReport c.report.view_is c.report.invariant)

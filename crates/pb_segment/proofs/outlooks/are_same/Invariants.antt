@@ -2,4 +2,4 @@ use Rattle.std.proofs.Common.{◌≡◌, take}
 use Rattle.pb_segment.proofs.outlooks.are_same.Given as goal
 
 abbrev pub invariant-loop-place : goal.invariant-loop-place
-invariant-loop-place l = take l.place l.one.items ≡ take l.place l.other.items
+invariant-loop-place l = take l.place l.one ≡ take l.place l.other

@@ -1,6 +1,0 @@
-use Rattle.std.proofs.Common.{◌≡◌, ◌≤◌, take}
-use Rattle.std.specs.Vec.{vec_capacity}
-use Rattle.pb_core.proofs.request_lists.RequestList.copy_from.Given as goal
-
-abbrev pub invariant-loop-request : goal.invariant-loop-request
-invariant-loop-request l = (l.self-inside.requests.items ≡ take l.request-index l.request-items) × (16 ≤ vec_capacity l.self-inside.requests)
