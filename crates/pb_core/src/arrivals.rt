@@ -131,6 +131,7 @@ fn short_of(da: u8, sa: u8, fc: u8, check: u8) -> Option<ShortTelegram>
 }
 
 /// The telegram with data of variable length that octets spell.
+#[inline(always)]
 fn var_in(octets: &[u8]) -> Option<VarTelegram>
     ensures { IfSome result (λ t. octets.now ≡ spelling (Var t)) }
 {
@@ -154,6 +155,7 @@ fn var_in(octets: &[u8]) -> Option<VarTelegram>
 }
 
 /// The telegram with these octets and this unit between its delimiters, where they are a telegram's.
+#[inline(always)]
 fn var_of(da: u8, sa: u8, fc: u8, unit: &[u8], check: u8) -> Option<VarTelegram>
     ensures { IfSome result (λ t. sd2 ∷ (length unit.now + 3) ∷ (length unit.now + 3) ∷ sd2 ∷ da ∷ sa ∷ fc
         ∷ (unit.now ++ check ∷ ed ∷ []) ≡ spelling (Var t)) }

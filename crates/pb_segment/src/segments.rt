@@ -87,24 +87,8 @@ impl<L: Ledger> SharedSegment<L> {
         ensures same { OnErr result (seat.new ≡ seat.old) }
         ensures wrong { (result ≡ Err WrongTap) ↔ (decision.tap ≢ seat.old.tap) }
     {
-        let Decision {
-            tap,
-            before,
-            marks,
-            now,
-            after,
-            speak,
-        } = decision;
-        let speak = speak.as_ref();
-        let decided = Decided {
-            tap,
-            before,
-            marks,
-            now,
-            after,
-            speak,
-        };
-        self.commit_decided(rt, alloc, seat, decided)
+        let mut octets = None;
+        self.commit_decided(rt, alloc, seat, decision.lend(&mut octets))
     }
 
     /// The same with a decision whose octets stand in a buffer.

@@ -54,6 +54,33 @@ impl Model for Decision {
     ghost invariant = { λ d. IsDecision (decision_view d) };
 }
 
+impl Decision {
+    ghost use Rattle.std.specs.Prelude.{◌≡◌};
+
+    /// The same turn, whose octets stand where the caller has a place for them.
+    pub fn lend<'a>(self, octets: &'a mut Option<ArrayVec<u8, 255>>) -> Decided<'a>
+        ensures { result ≡ self }
+    {
+        let Decision {
+            tap,
+            before,
+            marks,
+            now,
+            after,
+            speak,
+        } = self;
+        *octets = speak;
+        Decided {
+            tap,
+            before,
+            marks,
+            now,
+            after,
+            speak: octets.as_ref(),
+        }
+    }
+}
+
 /// A turn of a station, as a [`Decision`] is one, whose octets stand in the buffer that it was decided with, so that a turn
 /// in which nothing is said has no room for any.
 #[derive(Debug, Drop)]

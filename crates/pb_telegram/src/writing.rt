@@ -8,6 +8,7 @@ use crate::telegrams::{
 use arrayvec::ArrayVec;
 
 /// The octets of a telegram, at most 255: its one spelling (IEC 61158-4-3, telegram formats).
+#[inline(always)]
 pub fn write(telegram: &Telegram) -> ArrayVec<u8, 255>
     ensures { result.items ≡ spelling telegram.now }
 {

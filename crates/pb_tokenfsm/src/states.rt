@@ -84,6 +84,7 @@ impl<S: Copy> Holding<S> {
     }
 
     /// The octets of a telegram that the station says: a token or a request, the caller's condition.
+    #[inline(always)]
     pub fn initiate(&self, telegram: &Telegram) -> ArrayVec<u8, 255>
         requires { IsInitiator telegram.now }
         ensures { result.items ≡ spelling telegram.now }

@@ -215,24 +215,8 @@ impl World {
         ensures follows { Follows self.old (Turn decision.tap) result self.new }
         ensures token { OnOk result (LeavesOneToken self.old (Turn decision.tap ∷ []) self.new) }
     {
-        let Decision {
-            tap,
-            before,
-            marks,
-            now,
-            after,
-            speak,
-        } = decision;
-        let speak = speak.as_ref();
-        let decided = Decided {
-            tap,
-            before,
-            marks,
-            now,
-            after,
-            speak,
-        };
-        self.take_decided(alloc, decided)
+        let mut octets = None;
+        self.take_decided(alloc, decision.lend(&mut octets))
     }
 
     /// The same with a decision whose octets stand in a buffer.
