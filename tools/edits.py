@@ -3,8 +3,8 @@
 function whose body alone the edit changes, a line '# breaks: NAME' one that it must leave unproved by changing something else.
 
     tools/edits.py apply EDIT CRATE     writes the edited files into the crate's folder
-    tools/edits.py stale CRATE..        names each edit of must-fail/ and more-edits/ that can't be applied, or whose line
-                                        '# body:' isn't true
+    tools/edits.py stale CRATE..        names each edit of must-fail/ and more-edits/ that can't be applied, whose line
+                                        '# body:' isn't true, or that names a function which the prover doesn't know
 """
 
 import dataclasses
@@ -94,6 +94,18 @@ def is_in_body(part, name, text):
     return False
 
 
+def is_known(name, crate):
+    """Whether the prover knows a function by a name: it has the module of its type, wherever the function stands. Behind the type
+    may stand a trait or what the type is of, as in BusDefault or Holding+Use."""
+    *modules, _ = name.split("::")
+    if not modules or (crate / "src" / f"{'/'.join(modules)}.rt").exists():
+        return True
+    *modules, owner = modules
+    texts = [crate / "src" / f"{'/'.join(modules) or root}.rt" for root in ("lib", "main")]
+    types = [it for text in texts if text.exists() for it in re.findall(r"\b(?:struct|enum|trait) (\w+)", text.read_text())]
+    return owner.startswith(tuple(types))
+
+
 def faults(path, crate):
     """What is wrong with an edit."""
     try:
@@ -102,6 +114,8 @@ def faults(path, crate):
         name = edit.body.split("::")[-1]
         if name and not all(is_in_body(it, name, (crate / file).read_text()) for file, it in changed.items()):
             yield f"{path}: it changes more than the body of {edit.body}"
+        if not is_known(edit.target, crate):
+            yield f"{path}: the type of {edit.target} is another module's"
     except (ValueError, OSError) as wrong:
         yield str(wrong)
 
