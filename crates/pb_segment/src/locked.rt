@@ -179,7 +179,8 @@ impl<L: Ledger> Locked<L> {
         ensures ok { IfOk result (Appends self.old self.new (Turn decided.entry.tap)) }
         ensures told { IfOk result (λ r. receipts.new.items ≡ receipts.old.items ++ r ∷ []) }
         ensures counted { OnOk result (share.new.amount ≡ share.old.amount + 1) }
-        ensures token { OnOk result (LeavesOneToken self.old.world (Turn decided.entry.tap ∷ []) self.new.world) }
+        ensures token { OnOk result
+            (LeavesOneToken self.old.world (Turn decided.entry.tap ∷ []) self.new.world) }
         ensures part { share.new.parts ≡ 1 }
         ensures err { IfErr result (RefusesToKeep self.old (Turn decided.entry.tap)) }
         ensures same { OnErr result ((self.new ≡ self.old)

@@ -26,7 +26,8 @@ impl Model for Report {
 
     ghost Value = { ReportView };
 
-    ghost view = { λ r. report_of r.origin (map entry_of r.trace.items) r.history r.turns.items r.outlooks.items };
+    ghost view = { λ r. report_of r.origin (map entry_of r.trace.items) r.history r.turns.items
+        r.outlooks.items };
 
     ghost invariant = { λ r. IsReport (report_of r.origin (map entry_of r.trace.items) r.history r.turns.items
         r.outlooks.items) };
