@@ -235,7 +235,7 @@ impl Bus {
         fits(&self.taps, decision, self.now)
     }
 
-    /// The same of one whose octets stand in a buffer.
+    /// Whether a turn that was decided with a buffer was decided on its tap as that is now.
     pub fn fits_decided(&self, decided: &Decided<'_>) -> bool
         requires { IsKept self.now }
         ensures { IsTrue result ↔ Fits (world_of self.entry.now) decided.entry.now }

@@ -1,5 +1,4 @@
 use arrayvec::ArrayVec;
-use pb_telegram::copy_octets;
 use std::marker::Model;
 
 /// What a station sends in a turn, if anything. Its room for octets is used again in each turn.
@@ -19,7 +18,6 @@ impl Model for SendBuffer {
 
 impl SendBuffer {
     ghost use Rattle.std.specs.Prelude.{◌≡◌, ◌≤◌, Some, None, MatchOption, length};
-    ghost use Rattle.pb_core.specs.Sending.{octets_of};
 
     /// Nothing is sent.
     pub fn new() -> SendBuffer
@@ -64,12 +62,5 @@ impl SendBuffer {
             return Some(&self.octets);
         }
         None
-    }
-
-    /// A copy of the octets that are sent.
-    pub fn copy(&self) -> Option<ArrayVec<u8, 255>>
-        ensures { octets_of result ≡ self.now }
-    {
-        Some(copy_octets(self.octets()?))
     }
 }

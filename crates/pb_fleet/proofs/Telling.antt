@@ -15,7 +15,7 @@ use Rattle.pb_runs.specs.Scenarios.{Scenario, trace_of}
 use Rattle.pb_runs.proofs.OnTheBus.{history-is-run}
 use Rattle.pb_segment.specs.Histories.{Happened, Replays}
 use Rattle.pb_segment.specs.Origins.{Origin, IsMadeOf, IsNew, origin_of}
-use Rattle.pb_segment.specs.Outlooks.{IsOutlookOf, AreOutlooksOf}
+use Rattle.pb_segment.specs.Outlooks.{IsOutlookOf}
 use Rattle.pb_segment.specs.Reports.{ReportView, IsReport}
 use Rattle.pb_segment.specs.declared.outlooks.Outlook.{Outlook}
 use Rattle.pb_segment.proofs.NewWorlds.{new_is, made_specs, made_new}

@@ -117,6 +117,7 @@ enum Moments {
     Many(Arc<Vec<Option<Moment>>, Global>),
 }
 
+/// The moments, wherever they stand.
 fn moments_of(moments: &Moments) -> &[Option<Moment>]
     ensures { result.now ≡ moments_in moments.now }
 {
@@ -163,6 +164,7 @@ fn due_moments(alloc: Global, world: &World, taps: usize) -> Result<Dues, AllocE
     Ok(Dues { moments })
 }
 
+/// When each of few taps is due.
 #[tactic(auto, using(crate::proofs::Showing::next_due))]
 fn few_moments(world: &World, taps: usize) -> ArrayVec<Option<Moment>, FEW>
     requires all { taps ≡ length world.now.taps }
@@ -176,6 +178,7 @@ fn few_moments(world: &World, taps: usize) -> ArrayVec<Option<Moment>, FEW>
     moments
 }
 
+/// When each tap is due. Its fault: memory was refused.
 #[tactic(auto, using(crate::proofs::Showing::next_due))]
 fn many_moments(
     alloc: Global,

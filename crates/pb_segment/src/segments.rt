@@ -91,7 +91,9 @@ impl<L: Ledger> SharedSegment<L> {
         self.commit_decided(rt, alloc, seat, decision.lend(&mut octets))
     }
 
-    /// The same with a decision whose octets stand in a buffer.
+    /// The tap takes the turn that was decided with a buffer, as [`commit`](SharedSegment::commit) has it take its
+    /// decision: with the same receipt, and the same faults in their order. It may wait for the lock. A refused turn
+    /// changes nothing.
     #[inline(always)]
     pub fn commit_decided(
         &self,

@@ -34,7 +34,7 @@ pub fn fits(taps: &[Tap], decision: &Decision, now: Moment) -> bool
     }
 }
 
-/// The same of one whose octets stand in a buffer.
+/// Whether a turn that was decided with a buffer was decided on the tap at its position, as that is now.
 pub fn fits_decided(taps: &[Tap], decided: &Decided<'_>, now: Moment) -> bool
     ensures { IsTrue result ↔ FitsTap taps.now now decided.entry.now }
 {

@@ -188,7 +188,8 @@ impl World {
         self.bus.fits(decision)
     }
 
-    /// The same of one whose octets stand in a buffer.
+    /// Whether a turn that was decided with a buffer was decided on its tap as that is now, as [`fits`](World::fits) says of
+    /// a decision. It changes nothing, and takes no memory.
     pub fn fits_decided(&self, decided: &Decided<'_>) -> bool
         ensures { IsTrue result ↔ Fits self.entry.now decided.entry.now }
     {
@@ -219,7 +220,10 @@ impl World {
         self.take_decided(alloc, decision.lend(&mut octets))
     }
 
-    /// The same with a decision whose octets stand in a buffer.
+    /// Takes the turn that was decided with a buffer and [`fits_decided`](World::fits_decided), the caller's condition: it
+    /// answers and leaves what [`take`](World::take) does of its decision. A refused turn changes nothing.
+    ///
+    /// Faults: those of `Turn`.
     #[inline(always)]
     pub fn take_decided(&mut self, alloc: Global, decided: Decided<'_>) -> Result<Reply, WorldFault>
         requires { Fits self.old decided }
