@@ -1,4 +1,5 @@
 pub mod Histories
+pub mod Kept
 pub mod Blocks
 pub mod Origins
 pub mod Dues

@@ -8,7 +8,7 @@ use crate::faults::CloseFault;
 use crate::locked::Locked;
 use crate::origins::Origin;
 use crate::outlooks::Outlook;
-use crate::receipts::{KeptReceipt, Owner, is_of, is_same_reply};
+use crate::receipts::{KeptReceipt, Owner, is_of};
 use crate::seats::{ConductorSeat, TapSeat};
 use std::sync::ledger::{Book, Ledger};
 
@@ -92,7 +92,7 @@ fn stands(history: &Blocks, owner: Owner, from: usize, receipt: &KeptReceipt) ->
     };
     from <= receipt.place
         && is_of(owner, &happened.event)
-        && is_same_reply(&happened.reply, &receipt.reply)
+        && receipt.reply.is_same(&happened.reply)
 }
 
 /// Whether the receipts of each seat of a tap are those of the tap's turns, of which the counts are given.

@@ -5,6 +5,7 @@ ghost use Rattle.std.specs.Prelude.{◌≡◌, ◌↔◌, IfOk, IsTrue, None, So
 ghost use Rattle.pb_model.specs.World.{Pass, Turn};
 ghost use Rattle.pb_taps.specs.Events.{event_of, reply_of};
 
+use crate::receipts::is_silent_at;
 use arrayvec::ArrayVec;
 use pb_telegram::copy_octets;
 use pb_timers::Moment;
@@ -181,11 +182,4 @@ fn is_pass_of(event: &Event, bits: u64) -> bool
         Event::Pass(of) => *of == bits,
         _ => false,
     }
-}
-
-/// Whether a reply says nothing, at a moment.
-fn is_silent_at(reply: &Reply, now: Moment) -> bool
-    ensures { IsTrue result ↔ (reply_of reply.entry.now ≡ record { now = now; spoke = None }) }
-{
-    reply.now == now && reply.spoke.is_none()
 }

@@ -15,7 +15,7 @@ use crate::blocks::Blocks;
 use crate::faults::CommitFault;
 use crate::histories::Happened;
 use crate::known::{Known, spoken};
-use crate::receipts::KeptReceipt;
+use crate::receipts::{KeptReceipt, KeptReply};
 use pb_station::Decided;
 use pb_timers::Moment;
 use pb_world::{Event, Reply, World};
@@ -181,7 +181,7 @@ fn note_at(
 {
     let kept = KeptReceipt {
         place,
-        reply: Arc::try_clone(&reply)?,
+        reply: KeptReply::of(&reply)?,
     };
     Ok(Note {
         happened: Happened { event, reply },

@@ -1,9 +1,10 @@
-ghost use Rattle.std.specs.Prelude.{◌≡◌, ◌↔◌, IsTrue};
+ghost use Rattle.std.specs.Prelude.{◌≡◌, ◌↔◌, IsTrue, None};
 ghost use Rattle.pb_taps.specs.Events.{event_of, reply_of};
 ghost use Rattle.pb_segment.specs.Histories.{is_of, is_turn};
 
+use pb_timers::Moment;
 use pb_world::{Event, Reply};
-use std::alloc::Global;
+use std::alloc::{AllocError, Global};
 use std::marker::Model;
 use std::sync::Arc;
 
@@ -25,21 +26,20 @@ impl Model for Receipt {
     ghost view = { λ r. record { place = r.place; reply = reply_of r.reply } };
 }
 
-/// A receipt as a seat keeps it: its reply is the one that the history keeps.
+/// A receipt as a seat keeps it.
 #[derive(Debug, Drop)]
 pub(crate) struct KeptReceipt {
     pub(crate) place: usize,
-    pub(crate) reply: Arc<Reply, Global>,
+    pub(crate) reply: KeptReply,
 }
 
 impl Model for KeptReceipt {
-    ghost use Rattle.std.specs.Arc.{arc_value};
-    ghost use Rattle.pb_taps.specs.Events.{reply_of};
+    ghost use Rattle.pb_segment.specs.Kept.{reply_in};
     ghost use Rattle.pb_segment.specs.Histories as specs;
 
     ghost Value = { specs.Receipt };
 
-    ghost view = { λ r. record { place = r.place; reply = reply_of (arc_value r.reply) } };
+    ghost view = { λ r. record { place = r.place; reply = reply_in r.reply } };
 }
 
 impl KeptReceipt {
@@ -50,7 +50,56 @@ impl KeptReceipt {
     {
         Receipt {
             place: self.place,
-            reply: self.reply.copy(),
+            reply: self.reply.told(),
+        }
+    }
+}
+
+/// A reply as a seat keeps it: of one that says nothing, which nearly all are, its moment.
+#[derive(Debug, Drop)]
+pub(crate) enum KeptReply {
+    Silent(Moment),
+    /// The one that the history keeps.
+    Spoken(Arc<Reply, Global>),
+}
+
+impl KeptReply {
+    ghost use Rattle.std.specs.Arc.{arc_value};
+    ghost use Rattle.std.specs.Prelude.{◌≡◌, ◌↔◌, IfOk, IsTrue};
+    ghost use Rattle.pb_taps.specs.Events.{reply_of};
+    ghost use Rattle.pb_segment.specs.Kept.{reply_in};
+
+    /// A reply that the history keeps. Its fault: it is shared too often.
+    pub(crate) fn of(reply: &Arc<Reply, Global>) -> Result<KeptReply, AllocError>
+        ensures { IfOk result (λ kept. reply_in kept ≡ reply_of (arc_value reply.now)) }
+    {
+        match reply.spoke {
+            None => Ok(KeptReply::Silent(reply.now)),
+            Some(_) => Ok(KeptReply::Spoken(Arc::try_clone(reply)?)),
+        }
+    }
+
+    /// The reply itself.
+    #[inline(always)]
+    fn told(&self) -> Reply
+        ensures { reply_of result ≡ reply_in self.now }
+    {
+        match self {
+            KeptReply::Silent(now) => Reply {
+                now: *now,
+                spoke: None,
+            },
+            KeptReply::Spoken(reply) => reply.copy(),
+        }
+    }
+
+    /// Whether it is a reply.
+    pub(crate) fn is_same(&self, reply: &Reply) -> bool
+        ensures { IsTrue result ↔ (reply_of reply.entry.now ≡ reply_in self.entry.now) }
+    {
+        match self {
+            KeptReply::Silent(now) => is_silent_at(reply, *now),
+            KeptReply::Spoken(kept) => is_same_reply(reply, kept),
         }
     }
 }
@@ -82,8 +131,15 @@ pub(crate) fn is_of(owner: Owner, event: &Event) -> bool
     }
 }
 
+/// Whether a reply says nothing, at a moment.
+pub(crate) fn is_silent_at(reply: &Reply, now: Moment) -> bool
+    ensures { IsTrue result ↔ (reply_of reply.entry.now ≡ record { now = now; spoke = None }) }
+{
+    reply.now == now && reply.spoke.is_none()
+}
+
 /// Whether two replies are equal.
-pub(crate) fn is_same_reply(one: &Reply, other: &Reply) -> bool
+fn is_same_reply(one: &Reply, other: &Reply) -> bool
     ensures { IsTrue result ↔ (reply_of one.entry.now ≡ reply_of other.entry.now) }
 {
     one == other
