@@ -115,14 +115,13 @@ pub fn copy_chars(chars: &[RxChar]) -> ArrayVec<RxChar, 255>
     copy
 }
 
-/// The characters of octets that came good take their place behind others. Of many, they are made in a room of their own
-/// first, which the compiler makes faster.
+/// The characters of octets that came good take their place behind others.
 fn push_good(chars: &mut ArrayVec<RxChar, 255>, octets: &[u8])
     requires { length chars.old.items + length octets.now ≤ 255 }
     ensures { chars.new.items ≡ chars.old.items ++ map Good octets.now }
 {
     if octets.len() >= MANY {
-        chars.try_extend_from_slice(&good_chars(octets)).unwrap();
+        push_many(chars, octets);
         return;
     }
     for heard in octets {
@@ -130,8 +129,17 @@ fn push_good(chars: &mut ArrayVec<RxChar, 255>, octets: &[u8])
     }
 }
 
-/// The characters of octets that came good.
+/// Those of many octets are made in a room of their own first, which the compiler makes faster. It stands apart, so that
+/// nobody else clears that room.
 #[inline(never)]
+fn push_many(chars: &mut ArrayVec<RxChar, 255>, octets: &[u8])
+    requires { length chars.old.items + length octets.now ≤ 255 }
+    ensures { chars.new.items ≡ chars.old.items ++ map Good octets.now }
+{
+    chars.try_extend_from_slice(&good_chars(octets)).unwrap();
+}
+
+/// The characters of octets that came good.
 fn good_chars(octets: &[u8]) -> ArrayVec<RxChar, 255>
     requires { length octets.now ≤ 255 }
     ensures { result.items ≡ map Good octets.now }
