@@ -1,5 +1,7 @@
 //! How turns are offered, and how conductor and workers wait for one another.
 
+ghost use Rattle.std.specs.Prelude.{◌<◌};
+
 use pb_segment::TapSeat;
 use std::alloc::{AllocError, Global};
 use std::hint::spin_loop;
@@ -15,6 +17,12 @@ const LOOKS: u32 = 1000;
 /// How long the helper that watches sleeps before it looks again, in microseconds.
 const WATCH: u64 = 100;
 
+/// How many turns are few in that time: more are sooner taken by those who are awake than by one who has to be woken.
+const FEW: u64 = 8;
+
+/// How many taps are named in a word, in eight bits each: a store takes as long as dozens of other instructions.
+const NAMED: usize = 8;
+
 /// The most offers of a run: a history has no more events.
 pub(crate) const MOST_OFFERS: u64 = 1_000_000;
 
@@ -27,20 +35,16 @@ const NONE: u64 = u64::MAX;
 pub(crate) struct Pool<L: Ledger> {
     /// The seat of each tap.
     seats: Vec<Mutex<TapSeat<L>>>,
-    /// The taps of the instant's offers, in their order.
-    taps: Vec<AtomicUsize>,
+    /// The taps of the instant's offers, in their order, [`NAMED`] in a word.
+    taps: Vec<AtomicU64>,
     /// The instant, in bit times.
     now: AtomicU64,
     /// The number of the instant's first offer.
     first: AtomicU64,
     /// How many offers were published so far.
     published: AtomicU64,
-    /// How many numbers were drawn so far, for one who only looks.
-    drawn: AtomicU64,
     /// How many of the instant's offers are not served yet.
     open: AtomicUsize,
-    /// How many of the crew ask the gate.
-    at_gate: AtomicUsize,
     /// Whether an offer was served with a fault.
     failed: AtomicBool,
     /// Whether no offers come any more.
@@ -50,7 +54,7 @@ pub(crate) struct Pool<L: Ledger> {
     beds: Vec<Bed>,
     /// How many of them wait for any offer.
     idle: AtomicUsize,
-    /// Whether one of those watches the gate.
+    /// Whether one of those watches.
     watched: AtomicBool,
     /// How many of them wait for the offer whose number they have drawn.
     holding: AtomicUsize,
@@ -92,10 +96,13 @@ impl<L: Ledger> Pool<L> {
         seats: Vec<TapSeat<L>>,
         helpers: usize,
     ) -> Result<Pool<L>, AllocError> {
-        let mut taps = Vec::with_capacity(alloc, seats.len())?;
+        let words = seats.len().div_ceil(NAMED);
+        let mut taps = Vec::with_capacity(alloc, words)?;
+        for _ in 0..words {
+            taps.push(AtomicU64::new(0))?;
+        }
         let mut lent = Vec::with_capacity(alloc, seats.len())?;
         for seat in seats {
-            taps.push(AtomicUsize::new(0))?;
             lent.push(Mutex::new(seat))?;
         }
         let mut beds = Vec::with_capacity(alloc, helpers)?;
@@ -108,9 +115,7 @@ impl<L: Ledger> Pool<L> {
             now: AtomicU64::new(0),
             first: AtomicU64::new(0),
             published: AtomicU64::new(0),
-            drawn: AtomicU64::new(0),
             open: AtomicUsize::new(0),
-            at_gate: AtomicUsize::new(0),
             failed: AtomicBool::new(false),
             ended: AtomicBool::new(false),
             conductor: Parker::new(),
@@ -129,8 +134,8 @@ impl<L: Ledger> Pool<L> {
         if published > MOST_OFFERS {
             return false;
         }
-        for (place, tap) in self.taps.iter().zip(turns) {
-            place.store(*tap, Ordering::SeqCst);
+        for (word, named) in self.taps.iter().zip(turns.chunks(NAMED)) {
+            word.store(names(named), Ordering::SeqCst);
         }
         self.now.store(now, Ordering::SeqCst);
         self.first.store(first, Ordering::SeqCst);
@@ -142,37 +147,17 @@ impl<L: Ledger> Pool<L> {
 
     /// The offer with a number that was published.
     pub(crate) fn offer(&self, number: u64) -> Option<Offer> {
-        let place = number.saturating_sub(self.first.load(Ordering::SeqCst));
-        let tap = self.taps.get(place as usize)?;
+        let place = number.saturating_sub(self.first.load(Ordering::SeqCst)) as usize;
+        let word = self.taps.get(place / NAMED)?;
         Some(Offer {
             now: self.now.load(Ordering::SeqCst),
-            tap: tap.load(Ordering::SeqCst),
+            tap: named_at(word.load(Ordering::SeqCst), place % NAMED),
         })
     }
 
     /// The seat of a tap.
     pub(crate) fn seat(&self, tap: usize) -> Option<&Mutex<TapSeat<L>>> {
         self.seats.get(tap)
-    }
-
-    /// A number was drawn.
-    pub(crate) fn note_drawn(&self) {
-        self.drawn.fetch_add(1, Ordering::SeqCst);
-    }
-
-    /// Whether an offer was published whose number nobody has drawn yet.
-    pub(crate) fn has_more(&self) -> bool {
-        self.drawn.load(Ordering::SeqCst) < self.published.load(Ordering::SeqCst)
-    }
-
-    /// One of the crew asks the gate, which may hold it.
-    pub(crate) fn enters_gate(&self) {
-        self.at_gate.fetch_add(1, Ordering::SeqCst);
-    }
-
-    /// The gate has answered.
-    pub(crate) fn leaves_gate(&self) {
-        self.at_gate.fetch_sub(1, Ordering::SeqCst);
     }
 
     /// Whether the offer with a number was published.
@@ -212,19 +197,21 @@ impl<L: Ledger> Pool<L> {
     }
 
     /// A helper waits until one more is wanted. False once no offers come any more. One of those who wait watches, and looks
-    /// from time to time whether the gate holds all who are awake; it wakes another to watch when it goes. The others sleep,
-    /// so that nobody who takes turns has to wake anyone.
+    /// from time to time whether those who are awake get on, or the gate holds them; it wakes another to watch when it goes.
+    /// The others sleep, so that nobody who takes turns has to wake anyone.
     pub(crate) fn wait_for_any<R: Wait>(&self, rt: &R, helper: usize) -> bool {
         let Some(bed) = self.beds.get(helper) else {
             return false;
         };
         self.lies_down(bed);
         let mut watches = false;
+        let mut taken = self.taken();
         for _ in rt.forever() {
-            if self.has_ended() || watches && self.is_one_wanted() {
+            if self.has_ended() || watches && self.is_one_wanted(taken) {
                 break;
             }
             watches = watches || !self.watched.swap(true, Ordering::SeqCst);
+            taken = self.taken();
             if watches {
                 bed.helper.park_timeout(rt, Duration::from_micros(WATCH));
             } else {
@@ -290,9 +277,15 @@ impl<L: Ledger> Pool<L> {
         self.ended.load(Ordering::SeqCst)
     }
 
-    /// Whether there are more offers, and all who are awake ask the gate, which may hold them.
-    fn is_one_wanted(&self) -> bool {
-        self.has_more() && self.at_gate.load(Ordering::SeqCst) >= self.awake()
+    /// Whether there are more offers than those who are awake serve, and few turns were taken since so many had been.
+    fn is_one_wanted(&self, taken: u64) -> bool {
+        self.open.load(Ordering::SeqCst) > self.awake() && self.taken() < taken.saturating_add(FEW)
+    }
+
+    /// How many turns were taken so far.
+    fn taken(&self) -> u64 {
+        let open = self.open.load(Ordering::SeqCst) as u64;
+        self.published.load(Ordering::SeqCst).saturating_sub(open)
     }
 
     /// A helper waits for any offer.
@@ -328,4 +321,18 @@ impl<L: Ledger> Pool<L> {
             }
         }
     }
+}
+
+/// The names of some taps, in one word.
+fn names(taps: &[usize]) -> u64 {
+    taps.iter()
+        .rev()
+        .fold(0, |word, tap| word << 8 | u64::from(*tap as u8))
+}
+
+/// The tap that a word names at a place.
+fn named_at(word: u64, place: usize) -> usize
+    requires { place < 8 }
+{
+    usize::from(word.to_le_bytes()[place])
 }

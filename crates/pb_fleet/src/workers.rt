@@ -54,7 +54,9 @@ impl<'a, 't, L: Ledger, R: Wait, G: Gate> Worker<'a, 't, L, R, G> {
             if !self.pool.wait_for_any(self.rt, helper) {
                 break;
             }
-            let Some(number) = self.draw() else { break };
+            let Some(number) = self.drawer.draw() else {
+                break;
+            };
             if !self.pool.wait_for(self.rt, helper, number) {
                 break;
             }
@@ -81,23 +83,15 @@ impl<'a, 't, L: Ledger, R: Wait, G: Gate> Worker<'a, 't, L, R, G> {
 
     /// The number of an offer that was published, which this worker is to serve.
     fn next_number(&mut self) -> Option<u64> {
-        let drawn = match self.held.take() {
-            Some(number) => Some(number),
-            None if self.pool.has_more() => self.draw(),
-            None => None,
+        let number = match self.held.take() {
+            Some(number) => number,
+            None => self.drawer.draw()?,
         };
-        let number = drawn?;
         if self.pool.is_published(number) {
             return Some(number);
         }
         self.held = Some(number);
         None
-    }
-
-    fn draw(&mut self) -> Option<u64> {
-        let number = self.drawer.draw()?;
-        self.pool.note_drawn();
-        Some(number)
     }
 
     /// Takes the turn of the offer with a number.
@@ -127,10 +121,7 @@ impl<'a, 't, L: Ledger, R: Wait, G: Gate> Worker<'a, 't, L, R, G> {
             Err(GlanceFault::Disagree) => return Err(refused(CommitFault::Disagree)),
             Err(GlanceFault::NoMemory) => return Err(PlayFault::NoMemory),
         };
-        self.pool.enters_gate();
-        let is_open = self.gate.between(tap);
-        self.pool.leaves_gate();
-        if !is_open {
+        if !self.gate.between(tap) {
             return Err(PlayFault::GateClosed(tap));
         }
         let decided = decide_in(self.alloc, glance, &mut self.says)?;
