@@ -14,8 +14,8 @@ use pb_world::{
 use std::fmt::Debug;
 use std::process::Abort;
 
-/// Ends the test unless two values are equal. It is a call since the proof of a test that compares in place takes three times as
-/// long; where what follows needs to know it, `assert_eq!` says it in place.
+/// Ends the test unless two values are equal. It is a call since the proof of a test that compares in place takes three
+/// times as long; where what follows needs to know it, `assert_eq!` says it in place.
 fn equal<T: PartialEq + Debug>(rt: &impl Abort, left: &T, right: &T)
     ensures { T.eq left.now right.now ≡ true }
 {
@@ -224,8 +224,8 @@ fn glances_take_the_room_of_replaced_stations(rt: HostRuntime) {
     equal(&rt, &world.into_trace().len(), &1);
 }
 
-/// The turn of a tap, decided on a glance in the room of replaced stations and with a buffer that is used for each; none where
-/// there is no such tap, or the decision doesn't fit.
+/// The turn of a tap, decided on a glance in the room of replaced stations and with a buffer that is used for each;
+/// none where there is no such tap, or the decision doesn't fit.
 fn take_decided(
     rt: &(impl AllocGlobal + Abort),
     world: &mut World,

@@ -2,8 +2,8 @@
 //!
 //! Reads the list as JSON from standard input, and prints the lines that playing it gives. The words `trace TIMES`
 //! and `audit TIMES` do that alone, so many times, and print what the last gave; `bench/world` measures them. The word
-//! `holders` has it print who may initiate after each event, for `tools/fuzz`. Exit statuses: 0 played, 1 the parameters or the taps are refused, 2 no event list or other words, 3 a read or write
-//! fault, 4 no memory.
+//! `holders` has it print who may initiate after each event, for `tools/fuzz`. Exit statuses: 0 played, 1 the
+//! parameters or the taps are refused, 2 no event list or other words, 3 a read or write fault, 4 no memory.
 #![tactic(auto)]
 
 mod lines;

@@ -25,8 +25,8 @@ use std::process::Abort;
 use std::str;
 use std::test::Fail;
 
-/// Ends the test unless two values are equal. It is a call since the proof of a test that compares in place takes three times as
-/// long.
+/// Ends the test unless two values are equal. It is a call since the proof of a test that compares in place takes three
+/// times as long.
 fn equal<T: PartialEq + Debug>(rt: &impl Abort, left: &T, right: &T)
     ensures { T.eq left.now right.now ≡ true }
 {

@@ -16,8 +16,8 @@ use std::alloc::Global;
 ///
 /// The premises, by their numbers: 1, no two running taps have equal addresses; 2, no telegram is lost at a tap
 /// but by damage; 3, no turn is later than the lag; 4, no two masters have waited out their time-outs at clocks a
-/// cable delay apart at most, each by what was active at its own tap while it ran. Where it finds none broken, no telegram is illegal: so the contract says of valid parameters, data to
-/// reply that fit, and requests as requests are.
+/// cable delay apart at most, each by what was active at its own tap while it ran. Where it finds none broken, no
+/// telegram is illegal: so the contract says of valid parameters, data to reply that fit, and requests as requests are.
 ///
 /// Faults, the first that applies: `New` with that of the new bus; `At` with the place of the first event that
 /// is refused, counted from 0, and its fault.

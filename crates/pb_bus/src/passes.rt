@@ -202,8 +202,8 @@ fn tell_any_end(
     }
 }
 
-/// A pass tells the tap at a position that a burst ended at a moment, which brings the characters of a telegram. It is a call of its own
-/// since the room of the longest telegram is cleared for it.
+/// A pass tells the tap at a position that a burst ended at a moment, which brings the characters of a telegram. It is
+/// a call of its own since the room of the longest telegram is cleared for it.
 #[inline(never)]
 fn tell_characters(telegram: &Record, position: usize, tap: &mut Tap, at: Moment, to: Moment)
     requires { length tap.old.marks < mark_limit }

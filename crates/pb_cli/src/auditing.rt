@@ -13,14 +13,15 @@ use pb_show::audited;
 use std::alloc::Global;
 
 /// Reads a scenario file to the end of the reader, and writes the audit of its run on one thread: a line for the first
-/// premise that broke, with the clock in bit times, and a line for the first illegal initiator record, by its position in
-/// the trace from 0. Where the file or its run is refused, it writes the line of that fault. The whole text is made before
-/// the first write.
+/// premise that broke, with the clock in bit times, and a line for the first illegal initiator record, by its position
+/// in the trace from 0. Where the file or its run is refused, it writes the line of that fault. The whole text is made
+/// before the first write.
 ///
-/// At `Ok` the writer holds that text, and the status is `Refused` exactly where the file or the run is refused or a record
-/// is illegal. Faults: `Read` where the reader failed, or all 2,097,152 read calls were made and at least half of them were
-/// interrupted; `TooLong` for a file of more than 1,048,576 bytes; `Write` where the writer failed, or was interrupted
-/// 1,001 times in a row; `NoMemory`. After `Write` a front of the text went out, after the other faults nothing.
+/// At `Ok` the writer holds that text, and the status is `Refused` exactly where the file or the run is refused or a
+/// record is illegal. Faults: `Read` where the reader failed, or all 2,097,152 read calls were made and at least half
+/// of them were interrupted; `TooLong` for a file of more than 1,048,576 bytes; `Write` where the writer failed, or was
+/// interrupted 1,001 times in a row; `NoMemory`. After `Write` a front of the text went out, after the other faults
+/// nothing.
 pub fn audit_file<R: Source, W: Sink>(
     alloc: Global,
     reader: &mut R,

@@ -17,9 +17,9 @@ use std::alloc::Global;
 ///
 /// At `Ok` the writer holds the text of all that the reader had, and the status is `Refused`
 /// exactly where some line is a fault. Faults: `Read` where the reader failed, or all 2,097,152
-/// read calls were made and at least half of them were interrupted; `TooLong` for an input of more than 1,048,576 bytes;
-/// `Write` where the writer failed, or was interrupted 1,001 times in a row; `NoMemory`. After
-/// `Write` a front of the text went out, after the other faults nothing.
+/// read calls were made and at least half of them were interrupted; `TooLong` for an input of more than 1,048,576
+/// bytes; `Write` where the writer failed, or was interrupted 1,001 times in a row; `NoMemory`. After `Write` a front
+/// of the text went out, after the other faults nothing.
 pub fn decode_lines<R: Source, W: Sink>(
     alloc: Global,
     reader: &mut R,

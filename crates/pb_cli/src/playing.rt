@@ -23,15 +23,16 @@ pub const MOST_WORKERS: usize = 64;
 /// The most last lines that may be asked for.
 pub const MOST_LINES: usize = 10_000;
 
-/// Reads a scenario file to the end of the reader, plays the scenario with some workers, the first of them in the caller's thread, and
-/// writes its trace, or the last lines of it; where the file or the run is refused, the line of the fault. The trace is that
-/// of the run on one thread, whatever the number of workers. The whole text is made before the first write.
+/// Reads a scenario file to the end of the reader, plays the scenario with some workers, the first of them in the
+/// caller's thread, and writes its trace, or the last lines of it; where the file or the run is refused, the line of
+/// the fault. The trace is that of the run on one thread, whatever the number of workers. The whole text is made before
+/// the first write.
 ///
-/// `workers`, 1 to 64, is the number of taps where it isn't given (1 where there is no tap, 64 at most); `last` is 1 to 10,000.
-/// At `Ok` the writer holds that text, and the status is `Refused` exactly where it is the line of a fault. Faults: `Read`
-/// where the reader failed, or all 2,097,152 read calls were made and at least half of them were interrupted; `TooLong` for a
-/// file of more than 1,048,576 bytes; `Write` where the writer failed, or was interrupted 1,001 times in a row; `NoMemory`.
-/// After `Write` a front of the text went out, after the other faults nothing.
+/// `workers`, 1 to 64, is the number of taps where it isn't given (1 where there is no tap, 64 at most); `last` is 1 to
+/// 10,000. At `Ok` the writer holds that text, and the status is `Refused` exactly where it is the line of a fault.
+/// Faults: `Read` where the reader failed, or all 2,097,152 read calls were made and at least half of them were
+/// interrupted; `TooLong` for a file of more than 1,048,576 bytes; `Write` where the writer failed, or was interrupted
+/// 1,001 times in a row; `NoMemory`. After `Write` a front of the text went out, after the other faults nothing.
 pub fn play<T: Threads + Wait + Sync, R: Source, W: Sink>(
     rt: &T,
     alloc: Global,
@@ -97,8 +98,8 @@ fn played<T: Threads + Wait + Sync>(
     }
 }
 
-/// How many workers there are: one for each tap where no number is asked for, at least one, and no more than a fleet may
-/// have.
+/// How many workers there are: one for each tap where no number is asked for, at least one, and no more than a fleet
+/// may have.
 fn crew_of(workers: Option<usize>, scenario: &Scenario) -> usize
     requires { IsUpTo worker_limit workers }
     ensures count { result ≡ crew_of workers (length scenario.now.scenario.taps) }

@@ -15,8 +15,8 @@ const BUFFER_LENGTH: usize = 4096;
 
 /// All that the reader has. An interrupted read is tried again, and counts as a call.
 ///
-/// Faults: `Read` where the reader failed, or all `READ_CALLS` calls were made and at least half of them were interrupted;
-/// `TooLong` where it has more than `INPUT_LIMIT` bytes; `NoMemory`.
+/// Faults: `Read` where the reader failed, or all `READ_CALLS` calls were made and at least half of them were
+/// interrupted; `TooLong` where it has more than `INPUT_LIMIT` bytes; `NoMemory`.
 pub fn read_input<R: Source>(alloc: Global, reader: &mut R) -> Result<Vec<u8>, CliFault>
     ensures whole { IfOk result (λ input. IfSome (R.remaining reader.old) (λ bytes. input.items ≡ bytes)) }
     ensures fits { IfOk result (λ input. vec_len input ≤ byte_limit) }

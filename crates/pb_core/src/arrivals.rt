@@ -51,7 +51,8 @@ fn read_as_octets(chars: &[RxChar]) -> Option<Telegram>
     }
 }
 
-/// The telegram of octets that all came good. Most telegrams are read at once, and a receiver is asked about the others.
+/// The telegram of octets that all came good. Most telegrams are read at once, and a receiver is asked about the
+/// others.
 ///
 /// Its call is never put in place: who hears a token would make room for a unit.
 #[inline(never)]
@@ -174,8 +175,8 @@ fn var_of(da: u8, sa: u8, fc: u8, unit: &[u8], check: u8) -> Option<VarTelegram>
     })
 }
 
-/// The octets of characters, where none is damaged and they are no more than the longest telegram's; most are taken four
-/// at a time, for speed.
+/// The octets of characters, where none is damaged and they are no more than the longest telegram's; most are taken
+/// four at a time, for speed.
 fn octets_of(chars: &[RxChar]) -> Option<ArrayVec<u8, 255>>
     ensures { IfSome result (λ octets. chars.now ≡ map Good octets.items) }
 {

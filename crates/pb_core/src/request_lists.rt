@@ -7,8 +7,8 @@ use std::marker::Model;
 /// How many requests of a priority wait at a station at most.
 const REQUEST_LIMIT: usize = 16;
 
-/// The requests of a priority that wait at a station, first in first out, with room for all that may wait. The room is not
-/// filled, so that a copy moves the requests that wait and nothing else.
+/// The requests of a priority that wait at a station, first in first out, with room for all that may wait. The room is
+/// not filled, so that a copy moves the requests that wait and nothing else.
 #[derive(Debug, Drop)]
 pub struct RequestList {
     requests: Vec<Request>,

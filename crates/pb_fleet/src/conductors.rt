@@ -41,8 +41,8 @@ impl<L: Ledger> Conductor<L> {
         Ok(())
     }
 
-    /// Plays the instant at which a walk through the scenario is, and answers the next one, if there is one. The list of
-    /// its turns is made in a room that is used anew.
+    /// Plays the instant at which a walk through the scenario is, and answers the next one, if there is one. The list
+    /// of its turns is made in a room that is used anew.
     fn instant<R: Wait, G: Gate>(
         &mut self,
         worker: &mut Worker<'_, '_, L, R, G>,

@@ -196,9 +196,9 @@ impl<L: Ledger> Pool<L> {
         self.open.load(Ordering::SeqCst) == 0
     }
 
-    /// A helper waits until one more is wanted. False once no offers come any more. One of those who wait watches, and looks
-    /// from time to time whether those who are awake get on, or the gate holds them; it wakes another to watch when it goes.
-    /// The others sleep, so that nobody who takes turns has to wake anyone.
+    /// A helper waits until one more is wanted. False once no offers come any more. One of those who wait watches, and
+    /// looks from time to time whether those who are awake get on, or the gate holds them; it wakes another to watch when
+    /// it goes. The others sleep, so that nobody who takes turns has to wake anyone.
     pub(crate) fn wait_for_any<R: Wait>(&self, rt: &R, helper: usize) -> bool {
         let Some(bed) = self.beds.get(helper) else {
             return false;

@@ -99,8 +99,8 @@ pub fn burst_octets<'a>(
     }
 }
 
-/// The telegram that fills the burst of a tap which ends at a moment, alone: the burst brings its characters. Where there is none, it
-/// brings one damaged character.
+/// The telegram that fills the burst of a tap which ends at a moment, alone: the burst brings its characters. Where
+/// there is none, it brings one damaged character.
 pub fn filling_telegram<'a>(
     entries: &'a [Entry],
     delay: u32,

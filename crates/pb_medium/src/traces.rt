@@ -95,8 +95,8 @@ impl Trace {
     }
 }
 
-/// An entry takes a place among others, with room for it. Nearly always it is the last place, and then the entry is written where it
-/// stays.
+/// An entry takes a place among others, with room for it. Nearly always it is the last place, and then the entry is
+/// written where it stays.
 #[inline(always)]
 fn insert(entries: &mut Vec<Entry>, place: usize, entry: Entry)
     requires place { place ≤ length entries.old.items }

@@ -110,7 +110,8 @@ impl Rotation {
     }
 
     /// Whether a high priority cycle may start, at a moment: where holding time is left, and where none is,
-    /// if no high priority cycle was started since the last receipt. The token was received before, the caller's condition.
+    /// if no high priority cycle was started since the last receipt. The token was received before, the caller's
+    /// condition.
     pub fn may_high(&self, now: Moment) -> bool
         requires { IsSome self.now.last }
         ensures value { result ≡ model.may_high self.now now }

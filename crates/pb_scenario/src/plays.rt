@@ -23,7 +23,8 @@ use std::alloc::Global;
 
 /// Plays a scenario's run on a stage with its new world.
 ///
-/// Faults: `New` for want of memory; `At` where an event is refused, with the clock then, or where memory was refused for one.
+/// Faults: `New` for want of memory; `At` where an event is refused, with the clock then, or where memory was refused
+/// for one.
 pub(crate) fn play<S: Stage>(
     alloc: Global,
     scenario: &Scenario,

@@ -73,8 +73,8 @@ impl<L: Ledger> SharedSegment<L> {
     }
 }
 
-/// What stands under the lock at first: a new world, and an empty history that may have so many events. Its fault: memory
-/// was refused.
+/// What stands under the lock at first: a new world, and an empty history that may have so many events. Its fault:
+/// memory was refused.
 fn opened<L: Ledger>(
     alloc: Global,
     world: World,

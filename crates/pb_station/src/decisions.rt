@@ -81,8 +81,8 @@ impl Decision {
     }
 }
 
-/// A turn of a station, as a [`Decision`] is one, whose octets stand in the buffer that it was decided with, so that a turn
-/// in which nothing is said has no room for any.
+/// A turn of a station, as a [`Decision`] is one, whose octets stand in the buffer that it was decided with, so that a
+/// turn in which nothing is said has no room for any.
 #[derive(Debug, Drop)]
 pub struct Decided<'a> {
     /// The tap of the station, counted from 0.
@@ -152,8 +152,8 @@ fn copied(speak: Option<&ArrayVec<u8, 255>>) -> Option<ArrayVec<u8, 255>>
     }
 }
 
-/// The turn that [`decide`] gives, whose octets stay in a buffer that may be used for many turns, one after another. What
-/// the buffer had before is forgotten. The caller's conditions are the same.
+/// The turn that [`decide`] gives, whose octets stay in a buffer that may be used for many turns, one after another.
+/// What the buffer had before is forgotten. The caller's conditions are the same.
 ///
 /// Fault: `NoMemory` where memory was refused, for the station before and after.
 #[inline(always)]

@@ -18,9 +18,9 @@ pub const MARK_LIMIT: usize = 64;
 /// How many characters they bring at most, 255 each.
 const CHAR_LIMIT: usize = 16_320;
 
-/// The unread marks of a tap, with room for as many as there may be: a list of marks in every clause. The characters of all
-/// marks stand behind one another, so that nothing is moved but what a mark brings, and apart from those the octets of
-/// marks whose characters all came good, which are most.
+/// The unread marks of a tap, with room for as many as there may be: a list of marks in every clause. The characters of
+/// all marks stand behind one another, so that nothing is moved but what a mark brings, and apart from those the octets
+/// of marks whose characters all came good, which are most.
 #[derive(Debug, Drop)]
 pub struct Inbox {
     notes: Vec<Note>,
@@ -206,8 +206,8 @@ fn copy_all(
     Ok(copies)
 }
 
-/// A mark with its characters, or its octets, stands behind others, with room for it. The beginning of activity, which brings none, is
-/// not moved with the room for them.
+/// A mark with its characters, or its octets, stands behind others, with room for it. The beginning of activity, which
+/// brings none, is not moved with the room for them.
 #[inline(always)]
 fn push_copy(copies: &mut Vec<Mark>, note: &Note, chars: &[RxChar], octets: &[u8])
     requires chars { length chars.now ≤ 255 }

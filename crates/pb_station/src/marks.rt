@@ -129,8 +129,8 @@ fn push_good(chars: &mut ArrayVec<RxChar, 255>, octets: &[u8])
     }
 }
 
-/// Those of many octets are made in a room of their own first, which the compiler makes faster. It stands apart, so that
-/// nobody else clears that room.
+/// Those of many octets are made in a room of their own first, which the compiler makes faster. It stands apart, so
+/// that nobody else clears that room.
 #[inline(never)]
 fn push_many(chars: &mut ArrayVec<RxChar, 255>, octets: &[u8])
     requires { length chars.old.items + length octets.now ≤ 255 }

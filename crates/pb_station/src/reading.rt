@@ -173,8 +173,8 @@ fn after_noise(phase: Phase, kept: &mut Kept, params: &BusParams, at: Moment) ->
     ended(phase, kept, params, at, &None)
 }
 
-/// The station after activity has ended at a moment and brought any characters. It is a call of its own since the room of the
-/// longest telegram is cleared for it.
+/// The station after activity has ended at a moment and brought any characters. It is a call of its own since the room
+/// of the longest telegram is cleared for it.
 #[inline(never)]
 fn after_others(
     phase: Phase,

@@ -37,8 +37,8 @@ impl Spares {
         Ok(copy.with_room(self.rooms.pop()))
     }
 
-    /// The rooms of two stations that are no longer wanted are kept, if there is place for both among 16, and memory for
-    /// them is not refused.
+    /// The rooms of two stations that are no longer wanted are kept, if there is place for both among 16, and memory
+    /// for them is not refused.
     pub fn keep(&mut self, one: Station, other: Station) {
         if self.rooms.len() + 2 <= LIMIT && self.rooms.reserve(2).is_ok() {
             self.rooms.push_reserved(one.into_parts());

@@ -42,8 +42,8 @@ pub(crate) fn take_turn(
     speak(phase, kept, waiting, params, now, out);
 }
 
-/// The first half of a turn, with marks that are in no inbox: the station reads them, and its timers between them and up
-/// to the clock. It answers whether its speaking moment has come.
+/// The first half of a turn, with marks that are in no inbox: the station reads them, and its timers between them and
+/// up to the clock. It answers whether its speaking moment has come.
 pub(crate) fn read_on(core: &mut Core, params: &BusParams, marks: &[Mark], now: Moment) -> bool
     requires clock { now ≤ last_turn }
     requires over { AreOver now marks.now }

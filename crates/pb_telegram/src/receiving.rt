@@ -195,8 +195,8 @@ impl Receiver {
         }
     }
 
-    /// Whether the characters spell a short acknowledgement: [`Receiver::answer`] tells that too, but for one who asks this
-    /// first no room for a unit is made (IEC 61158-4-3, telegram formats).
+    /// Whether the characters spell a short acknowledgement: [`Receiver::answer`] tells that too, but for one who asks
+    /// this first no room for a unit is made (IEC 61158-4-3, telegram formats).
     #[inline(always)]
     pub fn is_acknowledgement(&self) -> bool
         ensures { (chars : List RxChar) → StandsFor self.now chars → IsTrue result ↔ Spells chars Ack }

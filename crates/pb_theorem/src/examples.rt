@@ -9,7 +9,8 @@ ghost use Rattle.pb_theorem.specs.Runs as runs;
 ghost use Rattle.pb_theorem.specs.Scenarios.{verdict_of, verdict_on, kept, breaks, bus_with_lag, bus_with_delay, passive};
 ghost use Rattle.pb_theorem.specs.Traces.{illegal_in, illegal_on, named_at, claimed, passed, passed_as, takes_at, by_first, by_second, by_third, noise, token, question, answer, acknowledgement, scrap};
 
-/// The worked scenarios that break no premise: their traces are legal, and at each moment they name the station that may initiate.
+/// The worked scenarios that break no premise: their traces are legal, and at each moment they name the station that
+/// may initiate.
 pub fn scenarios_that_keep_the_premises()
     ensures alone { verdict_of (master 1 ∷ []) alone ≡ kept }
     ensures ring { verdict_of two_masters ring_formed ≡ kept }

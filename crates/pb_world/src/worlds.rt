@@ -166,9 +166,9 @@ impl World {
         self.bus.glance(alloc, tap)
     }
 
-    /// What [`glance_of`](World::glance_of) shows, for a turn that is decided soon: the stations that decided turns have
-    /// replaced are kept, and the glance takes their room, so that it and the decision seldom take memory. Nothing that
-    /// can be seen of the world changes. The tap is in the list, the caller's condition.
+    /// What [`glance_of`](World::glance_of) shows, for a turn that is decided soon: the stations that decided turns
+    /// have replaced are kept, and the glance takes their room, so that it and the decision seldom take memory. Nothing
+    /// that can be seen of the world changes. The tap is in the list, the caller's condition.
     ///
     /// Fault: `NoMemory` where memory was refused, for the station and the marks.
     pub fn glance_in_room(&mut self, alloc: Global, tap: usize) -> Result<Glance, NoMemory>
@@ -188,17 +188,17 @@ impl World {
         self.bus.fits(decision)
     }
 
-    /// Whether a turn that was decided with a buffer was decided on its tap as that is now, as [`fits`](World::fits) says of
-    /// a decision. It changes nothing, and takes no memory.
+    /// Whether a turn that was decided with a buffer was decided on its tap as that is now, as [`fits`](World::fits)
+    /// says of a decision. It changes nothing, and takes no memory.
     pub fn fits_decided(&self, decided: &Decided<'_>) -> bool
         ensures { IsTrue result ↔ Fits self.entry.now decided.entry.now }
     {
         self.bus.fits_decided(decided)
     }
 
-    /// Why [`apply`](World::apply) would refuse an event, memory apart: its fault of the numbers 1 to 10, or None. `speaks`
-    /// says of a turn whether the station would speak, the caller's condition; of another event it says nothing. It
-    /// changes nothing, and takes no memory.
+    /// Why [`apply`](World::apply) would refuse an event, memory apart: its fault of the numbers 1 to 10, or None.
+    /// `speaks` says of a turn whether the station would speak, the caller's condition; of another event it says
+    /// nothing. It changes nothing, and takes no memory.
     pub fn refusal(&self, event: &Event, speaks: bool) -> Option<WorldFault>
         requires { TellsSpeech self.now (event_of event.now) speaks }
         ensures { result ≡ fault_of (step self.entry.now (event_of event.now)) }
@@ -206,8 +206,8 @@ impl World {
         self.bus.refusal(event, speaks)
     }
 
-    /// Takes the turn of a decision that [`fits`](World::fits), the caller's condition: it answers what `Turn` of its tap
-    /// would answer, and leaves what that would leave. A refused turn changes nothing.
+    /// Takes the turn of a decision that [`fits`](World::fits), the caller's condition: it answers what `Turn` of its
+    /// tap would answer, and leaves what that would leave. A refused turn changes nothing.
     ///
     /// Faults: those of `Turn`.
     #[inline(always)]
@@ -220,8 +220,8 @@ impl World {
         self.take_decided(alloc, decision.lend(&mut octets))
     }
 
-    /// Takes the turn that was decided with a buffer and [`fits_decided`](World::fits_decided), the caller's condition: it
-    /// answers and leaves what [`take`](World::take) does of its decision. A refused turn changes nothing.
+    /// Takes the turn that was decided with a buffer and [`fits_decided`](World::fits_decided), the caller's condition:
+    /// it answers and leaves what [`take`](World::take) does of its decision. A refused turn changes nothing.
     ///
     /// Faults: those of `Turn`.
     #[inline(always)]

@@ -1,4 +1,5 @@
-//! `ringplay`: plays and audits scenarios of the PROFIBUS data link layer (FDL), and turns its telegrams from hex to text.
+//! `ringplay`: plays and audits scenarios of the PROFIBUS data link layer (FDL), and turns its telegrams from hex to
+//! text.
 //!
 //! Opens the streams, calls `pb_cli`, and turns its answer into an exit status: 0 done, 1 something
 //! is refused, 2 usage, 3 a read or write fault or too long an input, 4 no memory.

@@ -205,7 +205,8 @@ fn stations_are_copied_in_the_room_of_others(rt: HostRuntime) -> Result<(), Fail
     Ok(())
 }
 
-/// An inbox keeps marks in their order, each with its characters; a station is due when the first of them was delivered.
+/// An inbox keeps marks in their order, each with its characters; a station is due when the first of them was
+/// delivered.
 #[test]
 fn an_inbox_keeps_marks_in_their_order(rt: HostRuntime) -> Result<(), Fail> {
     let alloc = rt.alloc();

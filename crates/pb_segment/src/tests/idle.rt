@@ -1,5 +1,5 @@
-//! Turns that find nothing to do, in a world and through a segment. bench/world measures what one takes, by the difference of
-//! a thousand and two thousand.
+//! Turns that find nothing to do, in a world and through a segment. bench/world measures what one takes, by the
+//! difference of a thousand and two thousand.
 
 ghost use Rattle.std.specs.Prelude.{◌≡◌, ◌+◌, length};
 ghost use Rattle.pb_segment.specs.Origins.{IsNew};
