@@ -61,7 +61,8 @@ impl Watched {
         Ok(())
     }
 
-    /// What an audit finds in the events so far.
+    /// What an audit finds in the events so far. The bus has come by them from a new one, and none was refused, the
+    /// caller's condition.
     pub fn judge(&self) -> Audit
         requires { IsOfNew self.now }
         ensures { FindsIn self.entry.now result }

@@ -36,6 +36,8 @@ impl Bus {
 
     /// Does an event. What a station says in it stands in `sent`. It is called, and not put in place, so that a caller
     /// doesn't clear at each event the room that a seldom one takes.
+    ///
+    /// Faults: those of the event ([`WorldFault`]), the first that applies.
     #[inline(never)]
     pub fn apply(&mut self, alloc: Global, event: &Event) -> Result<(), WorldFault>
         requires { IsKept self.old }
@@ -81,7 +83,9 @@ impl Bus {
         Ok(())
     }
 
-    /// Takes the turn of a decision that fits. What the station says stands in `sent`.
+    /// Takes the turn of a decision that fits, the caller's condition. What the station says stands in `sent`.
+    ///
+    /// Faults: those of a turn, the first that applies.
     #[inline(always)]
     pub fn take(&mut self, alloc: Global, decided: Decided<'_>) -> Result<(), WorldFault>
         requires kept { IsKept self.old }

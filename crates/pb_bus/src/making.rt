@@ -12,6 +12,8 @@ use pb_timers::BusParams;
 use std::alloc::Global;
 
 /// A bus whose taps don't run yet, at clock 0.
+///
+/// Faults: those of a new world ([`NewFault`]), the first that applies.
 pub fn new_bus(alloc: Global, params: BusParams, specs: &[TapSpec]) -> Result<Bus, NewFault>
     ensures ok { IfOk result (λ bus. new_world params (map spec_of specs.now) ≡ Ok (world_of bus)) }
     ensures kept { IfOk result IsKept }

@@ -1,10 +1,10 @@
 //! Message cycles of the PROFIBUS data link layer (FDL): frame count bits, retries, replies, and what
 //! came of a request (EN 50170-2, message cycles).
 //!
-//! A station with the token takes a [`Request`] from its [`Queue`], and its [`Initiator`] makes the
-//! telegram, repeats it, and says by an [`Outcome`] what came of it. A station that is asked answers
-//! as its [`Responder`] says, which executes a repeated request once. Requests and their queues are of
-//! pb_messages, and handed on here.
+//! A station with the token takes a [`Request`] of those that wait at it (pb_core, `Waiting`), and its [`Initiator`]
+//! makes the telegram, repeats it, and says by an [`Outcome`] what came of it. A station that is asked answers
+//! as its [`Responder`] says, which executes a repeated request once. A [`Request`], and a [`Queue`] as a copy of those
+//! that wait, are of pb_messages, and handed on here.
 //! No call takes memory.
 #![tactic(auto)]
 

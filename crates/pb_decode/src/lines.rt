@@ -15,11 +15,15 @@ use std::alloc::{AllocError, Global};
 /// Lines of text, and whether one of them is a fault.
 #[derive(Drop)]
 pub struct Decoded {
+    /// The lines, each with a line feed, one for each line of the input.
     pub text: Vec<u8>,
+    /// Whether one of them is a fault.
     pub is_refused: bool,
 }
 
 /// The lines of text for lines of hex.
+///
+/// Fault: memory was refused.
 pub fn decode(alloc: Global, input: &[u8]) -> Result<Decoded, AllocError>
     ensures text { IfOk result (λ decoded. decoded.text.items ≡ output_of input.now) }
     ensures refused { IfOk result (λ decoded. decoded.is_refused ≡ refuses input.now) }

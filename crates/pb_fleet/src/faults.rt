@@ -7,8 +7,9 @@ use pb_station::NoMemory;
 use std::alloc::AllocError;
 use thiserror::Error;
 
-/// Why a fleet gives no report. Of several faults the one that stands first here is given, and of several of
-/// one kind that of the least tap; `New` comes right after `BadWorkers`, before any worker starts.
+/// Why a fleet gives no report. `BadWorkers` is looked for first, and right after it `New`, which stands last here;
+/// both come before any worker starts. Of several other faults the one that stands first here is given, and of several
+/// of one kind that of the least tap.
 #[derive(Clone, Copy, Debug, PartialEq, Eq, Error)]
 pub enum FleetFault {
     /// 1: the number of workers is not 1 to 64.

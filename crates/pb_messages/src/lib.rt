@@ -3,8 +3,8 @@
 //!
 //! A telegram with a control octet is a [`Frame`] of four fields, whatever its form. A [`Message`] is
 //! what any telegram says, and a [`Reply`] what a station answers. A [`Request`] asks for a
-//! [`Service`], which the function code of its control octet names ([`Asked`]). Requests wait in a
-//! [`Queue`], a list for each priority.
+//! [`Service`], which the function code of its control octet names ([`Asked`]). A [`Queue`] is a copy of the
+//! requests that wait at a station (pb_core, `Waiting`), a list for each priority.
 //! No call takes memory.
 #![tactic(auto)]
 

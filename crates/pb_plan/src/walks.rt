@@ -41,8 +41,8 @@ impl<'a> Walk<'a> {
     ghost use Rattle.pb_plan.specs.Walks.{AreFrom, events_after, events_before};
     ghost use Rattle.pb_plan.specs.Walks.{new_walk, plan_in, passes, turns_in};
 
-    /// A walk at 0 through steps that stand in order of time, up to a moment in bit times, over so many taps.
-    /// Its fault: memory was refused.
+    /// A walk at 0 over so many taps, through steps that stand in order of time, up to a moment in bit times, at most
+    /// 2^62, both the caller's conditions. Its fault: memory was refused.
     pub fn new(
         alloc: Global,
         steps: &'a [Step],
@@ -97,7 +97,7 @@ impl<'a> Walk<'a> {
     }
 
     /// Whether a tap takes its turn now that is due at a moment, if it is: not later than now, and not while
-    /// it is withheld.
+    /// it is withheld. The tap is one of the walk's, the caller's condition.
     pub fn wants(&self, tap: usize, due: Option<Moment>) -> bool
         requires { tap < self.now.taps }
         ensures { result ≡ wants (plan_in self.now) self.now.clock tap due }
@@ -105,8 +105,8 @@ impl<'a> Walk<'a> {
         takes_turn(self.held[tap], self.clock, due)
     }
 
-    /// Lists the taps that take their turns now, in their order, where each is due at a moment or not at all. The list's
-    /// room is used anew. Its fault: memory was refused.
+    /// Lists the taps that take their turns now, in their order, where each is due at a moment or not at all. There are
+    /// as many dues as taps, the caller's condition. The list's room is used anew. Its fault: memory was refused.
     pub fn note_turns(
         &self,
         dues: &[Option<Moment>],
@@ -126,7 +126,7 @@ impl<'a> Walk<'a> {
 
     /// The next instant, in bit times, if there is one: the first moment after now and up to the end at
     /// which a step stands, something changes on the bus, a tap is due that isn't withheld, or a withholding
-    /// ends.
+    /// ends. There are as many dues as taps, the caller's condition.
     pub fn next(&self, dues: &[Option<Moment>], change: Option<Moment>) -> Option<u64>
         requires { length dues.now ≡ self.now.taps }
         ensures next { result ≡ next (plan_in self.now) self.now.clock dues.now change }
@@ -137,7 +137,8 @@ impl<'a> Walk<'a> {
     }
 
     /// The earlier of a moment and that at which a tap may take a turn next, in bit times, where it is due at a moment
-    /// or not at all: when it is withheld no more, or is due after now.
+    /// or not at all: when it is withheld no more, or is due after now. The tap is one of the walk's, the caller's
+    /// condition.
     pub fn sooner(&self, first: Option<u64>, tap: usize, due: Option<Moment>) -> Option<u64>
         requires { tap < self.now.taps }
         ensures { result ≡ earlier first (comes (plan_in self.now) self.now.clock tap due) }
@@ -155,8 +156,8 @@ impl<'a> Walk<'a> {
         next_instant(self.clock, self.until, self.later, change, turn)
     }
 
-    /// For how long time passes from now, in bit times: to the next instant, or where there is none to the
-    /// end, if that is later.
+    /// For how long time passes from now, in bit times: to the next instant, which is later than now, the caller's
+    /// condition, or where there is none to the end, if that is later.
     pub fn pass_to(&self, next: Option<u64>) -> Option<u64>
         requires { IfSome next (λ at. self.now.clock < at) }
         ensures { passes result ≡ passing bus (plan_in self.now) self.now.clock next }
@@ -164,7 +165,7 @@ impl<'a> Walk<'a> {
         time_to(self.clock, next.unwrap_or(self.until))
     }
 
-    /// Goes on to a later moment, in bit times.
+    /// Goes on to a moment, in bit times, later than now and not past the end, both the caller's conditions.
     pub fn go_to(&mut self, at: u64)
         requires later { self.old.clock < at }
         requires end { at ≤ self.old.until }

@@ -27,11 +27,12 @@ const LAST_END: u64 = 10_000_000;
 
 const TOP_KEYS: [Key; 5] = [Key::Version, Key::Until, Key::Bus, Key::Tap, Key::Step];
 
-/// The scenario that a file describes, in TOML. In version 1 a bus delays nothing, and has 32 taps at most; in version 2 the
-/// file says the cable delay, in bit times, and there are 127 taps at most.
+/// The scenario that a file describes, in TOML. In version 1 a bus delays nothing, and has 32 taps at most; in version
+/// 2 the file says the cable delay, in bit times, and there are 127 taps at most.
 ///
-/// Faults: the first that applies, in the order in which a file is looked at: `NotToml` where the file is no
-/// TOML in UTF-8, then that of its table; or `NoMemory`.
+/// Faults: `NotToml` where the file is no TOML in UTF-8; else the first that applies in the order in which
+/// [`ScenarioFault`] says that a file is looked at: `BadVersion`, `Missing`, `BadKind`, `BadValue`, `Unknown`, `Twice`,
+/// `NoSuchName`, `StepOrder`, `Params` or `TooMany`; or `NoMemory`.
 pub fn read(alloc: Global, file: &[u8]) -> Result<Scenario, ScenarioFault>
     ensures scenario { IfOk result (files.Describes file.now) }
     ensures fault { IfErr result (files.RefusesFile file.now) }

@@ -86,7 +86,7 @@ impl Scenario {
         &self.taps
     }
 
-    /// The name of a tap.
+    /// The name of a tap, counted from 0, which is below the number of taps, the caller's condition.
     pub fn name(&self, tap: usize) -> &str
         requires { tap < length self.now.names }
         ensures { slice_get self.now.names tap ≡ Some result.now }

@@ -35,8 +35,8 @@ pub fn traced(
     })
 }
 
-/// What is written for the fault of a fleet, which is not that its workers were refused. Where memory was refused there is
-/// no line: it is refused here too.
+/// What is written for the fault of a fleet, which is not that its workers were refused. Where memory was refused there
+/// is no line: it is refused here too. Where it was refused for a thread the fault is `NoThread`, which has a line.
 ///
 /// Fault: memory was refused, there or here.
 pub fn refused_fleet(alloc: Global, fault: FleetFault) -> Result<Shown, AllocError>

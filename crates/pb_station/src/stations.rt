@@ -411,7 +411,8 @@ impl Station {
         speak_on(core, params, now, out);
     }
 
-    /// Whether the station would say anything in that turn. It changes nothing.
+    /// Whether the station would say anything in a turn at a moment, at most 2^61, with the unread marks of an inbox,
+    /// none of them of a later moment, both the caller's conditions. It changes nothing.
     pub fn would_speak(&self, inbox: &Inbox, now: Moment) -> bool
         requires clock { now ≤ last_turn }
         requires over { AllOver now inbox.now }

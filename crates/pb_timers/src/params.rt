@@ -64,8 +64,8 @@ impl ParamFault {
     }
 }
 
-/// The parameters that all stations of a segment share, in bit times (IEC 61158-4-3, timing
-/// parameters). Each value meets all ten rules.
+/// The parameters that all stations of a segment share (IEC 61158-4-3, timing parameters): times in bit times, and the
+/// GAP factor, the highest station address and the retries, which are no times. Each value meets all ten rules.
 #[derive(Clone, Copy, Debug)]
 pub struct BusParams {
     tsl: u32,
@@ -121,11 +121,24 @@ fn refuse_late(tsl: u32, tid2: u32, tsdr: u32, lag: u32, ttd: u32) -> Result<(),
 impl BusParams {
     ghost use Rattle.pb_timers.specs.ParamRules.{param_faults, IsValid};
 
-    /// Parameters that meet all ten rules, or the least fault that applies.
+    /// Parameters that meet all ten rules.
     ///
-    /// The arguments are the slot time, idle times 1 and 2, the reply delay, the take lag and the
-    /// target rotation time in bit times, the GAP factor, the highest station address, the retries of
-    /// a cycle, and the cable delay in bit times: how much later a telegram is at the taps of others.
+    /// The arguments are the slot time, idle times 1 and 2, the reply delay, the lag (how late a turn may be) and the
+    /// target rotation time, in bit times; the GAP factor; the highest station address; the retries of a cycle; and the
+    /// cable delay, in bit times: how much later a telegram is at the taps of others.
+    ///
+    /// Faults, the first that applies:
+    ///
+    /// 1. `Slot`: the slot time is not 100 to 16383.
+    /// 2. `IdleShort`: idle time 1 is under 33.
+    /// 3. `IdleOrder`: idle time 2 is under idle time 1.
+    /// 4. `ReplyShort`: the reply delay is under 11.
+    /// 5. `Rotation`: the target rotation time is not 256 to 16777215.
+    /// 6. `GapFactor`: the GAP factor is not 1 to 100.
+    /// 7. `Highest`: the highest station address is not 2 to 126.
+    /// 8. `Retries`: there are more than 7 retries.
+    /// 9. `TakeLate`: the sum of idle time 2, the lag and twice the cable delay is not under the slot time.
+    /// 10. `ReplyLate`: the sum of the reply delay, the lag and twice the cable delay is not under the slot time.
     #[expect(clippy::too_many_arguments)]
     pub fn new(
         tsl: u32,
