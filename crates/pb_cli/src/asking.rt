@@ -74,9 +74,9 @@ fn command<'a>(alloc: Global) -> Result<Command<'a>, AllocError> {
         .about("Plays a scenario and prints its trace")
         .arg(file(alloc))?
         .arg(number(alloc, WORKERS, MOST_WORKERS).help(
-            "Threads that take turns, 1 to 64 [default: one for each tap]",
+            "Threads that take turns, 1 to 64 [default: one for each tap, 64 at most]",
         ))?
-        .arg(number(alloc, LAST, MOST_LINES).help("Prints the last lines alone, 1 to 10,000"))?;
+        .arg(number(alloc, LAST, MOST_LINES).help("Prints the last lines alone, 1 to 10000"))?;
     let audit = Command::new(alloc, AUDIT)
         .about(
             "Says which premise broke in a scenario's run, and which record of its trace is illegal",

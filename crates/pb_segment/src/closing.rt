@@ -90,9 +90,7 @@ fn stands(history: &Blocks, owner: Owner, from: usize, receipt: &KeptReceipt) ->
     let Some(happened) = history.get(receipt.place) else {
         return false;
     };
-    from <= receipt.place
-        && is_of(owner, &happened.event)
-        && receipt.reply.is_same(&happened.reply)
+    from <= receipt.place && is_of(owner, &happened.event) && receipt.reply.is_same(&happened.reply)
 }
 
 /// Whether the receipts of each seat of a tap are those of the tap's turns, of which the counts are given.
