@@ -34,12 +34,6 @@ use pb_tokenfsm::{AwaitData, Claim, Holding, Listening, Pass, Phase, Use};
 /// The control octet of Request FDL Status: a request, whose frame count bit does not count.
 const STATUS_REQUEST: u8 = 0x49;
 
-// ---- the use of the token
-
-// ---- tokens
-
-// ---- replies
-
 /// The station at the clock speaks, if its moment has come.
 pub fn speak(
     phase: &mut Phase,
