@@ -6,7 +6,6 @@ ghost use Rattle.pb_timers.specs.Timers.{Params, bits};
 ghost use Rattle.pb_telegram.specs.Grammar.{spelling};
 ghost use Rattle.pb_telegram.specs.Initiators.{IsInitiator};
 ghost use Rattle.pb_messages.specs.Queued.{Queued};
-ghost use Rattle.pb_messages.specs.Requests.{is_answered};
 ghost use Rattle.pb_ring.specs.Las.{readied};
 ghost use Rattle.pb_ring.specs.Gap.{is_due, last_asked, next_asked, round_after};
 ghost use Rattle.pb_ring.specs.declared.gaps.Round.TheVariants.{Open};
@@ -24,7 +23,7 @@ ghost use Rattle.pb_phases.specs.Speeches.{spoken_with, Says, after_taking};
 use crate::rotations::received_if;
 use arrayvec::ArrayVec;
 use pb_core::{Kept, Past, Reply, SendBuffer, Waiting, after, readied};
-use pb_cycles::{Request, Service};
+use pb_cycles::Request;
 use pb_ring::Gap;
 use pb_rotation::Rotation;
 use pb_telegram::{ShortTelegram, Telegram, TokenTelegram};
@@ -387,7 +386,7 @@ fn says_request(
     ensures { Says (λ s. says_request params.now s (has_asked holder) request now)
         kept.old (phase_of (Phase.Use holder)) kept.new (phase_of result) out.new }
 {
-    let answered = is_answered(&request);
+    let answered = request.service().is_answered();
     let telegram = kept.cycles.initiator.request(kept.address.get(), request);
     let octets = holder.initiate(&telegram);
     kept.past = said(kept.past, now, &octets);
@@ -434,16 +433,6 @@ fn says_no_request(
         says_look(holder, kept, params, now, out)
     } else {
         says_token(holder.done(), kept, params, now, out)
-    }
-}
-
-/// Whether a request is answered, by an acknowledgement or by data.
-fn is_answered(request: &Request) -> bool
-    ensures { result ≡ is_answered request.now.service }
-{
-    match request.service() {
-        Service::Sda | Service::Srd => true,
-        Service::Sdn => false,
     }
 }
 
