@@ -59,22 +59,22 @@ pub(crate) fn given_up(holder: Holding<AwaitData>, kept: &mut Kept, ready: Momen
 
 /// The station after the timer of its phase has ended at a moment.
 #[inline(never)]
-fn timed_out(phase: Phase, kept: &mut Kept, t: Moment) -> Phase
-    ensures { Becomes (λ s. phase_timed_out s (phase_of phase) t)
+fn timed_out(phase: Phase, kept: &mut Kept, moment: Moment) -> Phase
+    ensures { Becomes (λ s. phase_timed_out s (phase_of phase) moment)
         kept.old (phase_of phase) kept.new (phase_of result) }
 {
     match phase {
         Phase::Listening(listening) => {
             stand_alone(kept);
-            Phase::Claim(listening.on_timeout(t))
+            Phase::Claim(listening.on_timeout(moment))
         }
         Phase::Idle(idle) => {
             stand_alone(kept);
-            Phase::Claim(idle.on_timeout(t))
+            Phase::Claim(idle.on_timeout(moment))
         }
-        Phase::AwaitData(holder) => not_answered(holder, kept, t),
-        Phase::AwaitStatus(holder) => Phase::Use(holder.on_outcome(t)),
-        Phase::Checking(checking) => not_taken(checking, kept, t),
+        Phase::AwaitData(holder) => not_answered(holder, kept, moment),
+        Phase::AwaitStatus(holder) => Phase::Use(holder.on_outcome(moment)),
+        Phase::Checking(checking) => not_taken(checking, kept, moment),
         other => other,
     }
 }
@@ -111,26 +111,26 @@ fn stand_alone(kept: &mut Kept)
 }
 
 /// The slot of a request ended: the request is sent again, if a retry is left.
-fn not_answered(holder: Holding<AwaitData>, kept: &mut Kept, t: Moment) -> Phase
-    ensures { Becomes (λ s. not_answered s (was_asked holder) false t)
+fn not_answered(holder: Holding<AwaitData>, kept: &mut Kept, moment: Moment) -> Phase
+    ensures { Becomes (λ s. not_answered s (was_asked holder) false moment)
         kept.old (phase_of (Phase.AwaitData holder)) kept.new (phase_of result) }
 {
     if !kept.cycles.initiator.retry_left() {
-        return given_up(holder, kept, t);
+        return given_up(holder, kept, moment);
     }
-    Phase::AwaitData(holder.on_silence(t))
+    Phase::AwaitData(holder.on_silence(moment))
 }
 
 /// Nobody took the token: it is passed again, after the last try to the station behind.
-fn not_taken(checking: Checking, kept: &mut Kept, t: Moment) -> Phase
-    ensures { Becomes (λ s. not_taken s (tries_of (Phase.Checking checking)) t)
+fn not_taken(checking: Checking, kept: &mut Kept, moment: Moment) -> Phase
+    ensures { Becomes (λ s. not_taken s (tries_of (Phase.Checking checking)) moment)
         kept.old (phase_of (Phase.Checking checking)) kept.new (phase_of result) }
 {
     if checking.tries() >= TRIES {
         let next = kept.las.ns(kept.address.get());
         kept.las = removed(kept.las, next);
     }
-    Phase::Pass(checking.on_silence(t))
+    Phase::Pass(checking.on_silence(moment))
 }
 
 /// How long the station waits in silence before it claims the token.
