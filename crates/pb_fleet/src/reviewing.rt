@@ -34,8 +34,8 @@ impl<'a> pb_review::Report for Played<'a> {
         }
     }
 
-    fn look(&self, k: usize) -> Option<Look<'_>> {
-        match self.outlooks.get(k) {
+    fn look(&self, position: usize) -> Option<Look<'_>> {
+        match self.outlooks.get(position) {
             Some(outlook) => Some(Look {
                 place: outlook.place,
                 dues: outlook.due.moments(),

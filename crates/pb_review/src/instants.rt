@@ -28,18 +28,18 @@ pub(crate) struct Next {
 pub(crate) fn read_instant<R: Report>(
     report: &R,
     walk: &Walk<'_>,
-    k: usize,
+    position: usize,
     place: usize,
     want: &mut Vec<bool>,
 ) -> Result<Option<Next>, AllocError>
     requires place { place ≤ length (R.events report.now) }
-    requires looks { k ≤ 2 ^ 63 }
+    requires looks { position ≤ 2 ^ 63 }
     ensures { IfOk result (λ o. IfSome o (IsNext walk.now (R.looks report.now) (R.events report.now) place)) }
 {
     let Some(started) = read_steps(report, place, walk.today(), false) else {
         return Ok(None);
     };
-    let Some(before) = look_at(report, walk, k, started) else {
+    let Some(before) = look_at(report, walk, position, started) else {
         return Ok(None);
     };
     note_wanted(walk, before.dues, want)?;
@@ -49,7 +49,7 @@ pub(crate) fn read_instant<R: Report>(
     let Some(done) = read_steps(report, turned, walk.today(), true) else {
         return Ok(None);
     };
-    let Some(after) = look_at(report, walk, k + 1, done) else {
+    let Some(after) = look_at(report, walk, position + 1, done) else {
         return Ok(None);
     };
     let moment = walk.next(after.dues, after.change);
@@ -63,12 +63,12 @@ pub(crate) fn read_instant<R: Report>(
 fn look_at<'a, R: Report>(
     report: &'a R,
     walk: &Walk<'_>,
-    k: usize,
+    position: usize,
     place: usize,
 ) -> Option<Look<'a>>
-    ensures { IfSome result (IsLookAt (R.looks report.now) k place walk.now.taps) }
+    ensures { IfSome result (IsLookAt (R.looks report.now) position place walk.now.taps) }
 {
-    match report.look(k) {
+    match report.look(position) {
         Some(look) if look.place == place && look.dues.len() == walk.taps() => Some(look),
         _ => None,
     }

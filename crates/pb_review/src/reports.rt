@@ -38,6 +38,6 @@ pub trait Report {
         ensures { option_map (λ e. event_of e.now) result ≡ slice_get (events self.now) place };
 
     /// The outlook at a place among the outlooks, counted from 0.
-    fn look(&self, k: usize) -> Option<Look<'_>>
-        ensures { option_map look_of result ≡ slice_get (looks self.now) k };
+    fn look(&self, position: usize) -> Option<Look<'_>>
+        ensures { option_map look_of result ≡ slice_get (looks self.now) position };
 }

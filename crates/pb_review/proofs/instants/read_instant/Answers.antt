@@ -25,11 +25,11 @@ returns g c =
     let after = c.in-Some-look_at-2.after in
     let moment = c.next-moment.result in
     let one : Reads all c.args.place (p.early now) a = subst (λ (es : List Event). Reads all c.args.place es a) c.today.ensures.early c.in-Some.ensures in
-    let shows : Shows looks a before.dues.now before.change = shown looks c.args.k before a c.in-Some-look_at.ensures.0 c.in-Some-look_at.ensures.1 in
+    let shows : Shows looks a before.dues.now before.change = shown looks c.args.position before a c.in-Some-look_at.ensures.0 c.in-Some-look_at.ensures.1 in
     let turned = c.in-Some-read_turns.ensures in
     let picks : Picks (wanted p now 0 before.dues.now) turned.0 = subst (λ (bs : List Bool). Picks bs turned.0) c.in_ok-note_wanted.ensures turned.2 in
     let three : Reads all b (p.late now) done = subst (λ (es : List Event). Reads all b es done) c.today-2.ensures.late c.in-Some-read_steps.ensures in
-    let shows_after : Shows looks done after.dues.now after.change = shown looks (c.args.k + 1) after done c.in-Some-look_at-2.ensures.0 c.in-Some-look_at-2.ensures.1 in
+    let shows_after : Shows looks done after.dues.now after.change = shown looks (c.args.position + 1) after done c.in-Some-look_at-2.ensures.0 c.in-Some-look_at-2.ensures.1 in
     let four : Reads all done (passing bus p now moment) d = subst (λ (es : List Event). Reads all done es d) c.pass_to.ensures c.in-Some-read_pass.ensures in
     record {
       goes = goes p looks all now c.args.place a b done d turned.0 before.dues.now after.dues.now before.change after.change moment one shows picks turned.1 three shows_after c.next-moment.ensures.next four;
