@@ -23,9 +23,10 @@ impl<'a> Report for Kept<'a> {
     ghost use Rattle.std.specs.Prelude.{map};
     ghost use Rattle.pb_taps.specs.Events.{event_of};
 
-    ghost events = { λ k. map event_of k.events.now };
+    ghost events = { λ kept. map event_of kept.events.now };
 
-    ghost looks = { λ k. map (λ s. record { place = s.place; dues = s.dues; change = s.change }) k.looks.now };
+    ghost looks = { λ kept.
+        map (λ shown. record { place = shown.place; dues = shown.dues; change = shown.change }) kept.looks.now };
 
     fn len(&self) -> usize {
         self.events.len()
@@ -35,8 +36,8 @@ impl<'a> Report for Kept<'a> {
         self.events.get(place)
     }
 
-    fn look(&self, k: usize) -> Option<Look<'_>> {
-        match self.looks.get(k) {
+    fn look(&self, position: usize) -> Option<Look<'_>> {
+        match self.looks.get(position) {
             Some(shown) => Some(Look {
                 place: shown.place,
                 dues: &shown.dues,
