@@ -3,7 +3,7 @@ ghost use Rattle.std.specs.Prelude.{◌≡◌, ◌<◌, ◌≤◌, IfOk, IfSome,
 use crate::faults::PlayFault;
 use crate::gates::Gate;
 use crate::workers::Worker;
-use pb_plan::{Deed, Step, Walk};
+use pb_plan::{Step, Walk, When};
 use pb_scenario::Scenario;
 use pb_segment::{CommitFault, ConductorSeat, Event, GlanceFault, Outlook, SharedSegment};
 use std::alloc::Global;
@@ -53,13 +53,13 @@ impl<L: Ledger> Conductor<L> {
     {
         let (rt, alloc, segment) = (worker.rt, worker.alloc, worker.segment);
         let now = walk.now();
-        self.steps(rt, alloc, segment, now, walk.today(), false)?;
+        self.steps(rt, alloc, segment, now, walk.today(), When::BeforeTurns)?;
         self.look(rt, alloc, segment, now)?;
         walk.note_turns(self.shown(walk)?.due.moments(), turns)?;
         if !turns.is_empty() && !worker.serve_all(now, turns) {
             return Ok(None);
         }
-        self.steps(rt, alloc, segment, now, walk.today(), true)?;
+        self.steps(rt, alloc, segment, now, walk.today(), When::AfterTurns)?;
         self.look(rt, alloc, segment, now)?;
         let after = self.shown(walk)?;
         let next = walk.next(after.due.moments(), after.next_change);
@@ -77,10 +77,10 @@ impl<L: Ledger> Conductor<L> {
         segment: &SharedSegment<L>,
         now: u64,
         steps: &[Step],
-        late: bool,
+        when: When,
     ) -> Result<(), PlayFault> {
         for step in steps {
-            if let Some(event) = said(&step.deed, late) {
+            if let Some(event) = step.deed.said(when) {
                 self.drive(rt, alloc, segment, now, event.copy())?;
             }
         }
@@ -134,14 +134,5 @@ impl<L: Ledger> Conductor<L> {
                 fault: CommitFault::Disagree,
             }),
         }
-    }
-}
-
-/// What a deed says before the turns or after them.
-fn said(deed: &Deed, late: bool) -> Option<&Event> {
-    if late {
-        deed.after_turns()
-    } else {
-        deed.before_turns()
     }
 }

@@ -1,4 +1,5 @@
 pub mod Steps
+pub mod Said
 pub mod Walks
 pub mod Coming
 pub mod Walking

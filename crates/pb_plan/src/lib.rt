@@ -7,5 +7,5 @@ mod coming;
 mod steps;
 mod walks;
 
-pub use steps::{Deed, Step};
+pub use steps::{Deed, Step, When};
 pub use walks::Walk;

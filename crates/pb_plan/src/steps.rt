@@ -14,6 +14,15 @@ pub enum Deed {
     },
 }
 
+/// When in its instant an event of a step happens.
+#[derive(Clone, Copy, Debug, PartialEq, Eq)]
+pub enum When {
+    /// Before the turns.
+    BeforeTurns,
+    /// After the turns.
+    AfterTurns,
+}
+
 /// A step of a scenario.
 #[derive(Debug, PartialEq, Eq, Drop)]
 pub struct Step {
@@ -29,6 +38,7 @@ impl Deed {
     ghost use Rattle.pb_taps.specs.Events.{event_of};
     ghost use Rattle.pb_runs.specs.Scenarios.{event_before, event_after};
     ghost use Rattle.pb_plan.specs.Steps.{deed_of};
+    ghost use Rattle.pb_plan.specs.Said.{said_in};
 
     /// The event that happens before the turns of its instant: every event but that a telegram is lost at a
     /// tap.
@@ -50,6 +60,16 @@ impl Deed {
         match self {
             Deed::Happens(event @ Event::Unheard { .. }) => Some(event),
             Deed::Happens(_) | Deed::Withhold { .. } => None,
+        }
+    }
+
+    /// The event that happens before the turns of its instant, or the one that happens after them.
+    pub fn said(&self, when: When) -> Option<&Event>
+        ensures { option_map (λ e. event_of e.now) result ≡ said_in when (deed_of self.now) }
+    {
+        match when {
+            When::BeforeTurns => self.before_turns(),
+            When::AfterTurns => self.after_turns(),
         }
     }
 }

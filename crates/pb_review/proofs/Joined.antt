@@ -1,6 +1,5 @@
 -- How far a history is read.
-use Rattle.std.proofs.Common.{◌≡◌, ◌∙◌, ℕ, zero, suc, ◌+◌, ◌<◌, ◌≤◌, List, [], ◌∷◌, ◌++◌, append_assoc, append-nil, length, map, take, drop, slice_get, slice_set, get_or, Bool, true, false, Option, Some, None, refl, sym, ap, subst, arith}
-use Rattle.std.specs.List.{cons_option}
+use Rattle.std.proofs.Common.{◌≡◌, ◌∙◌, ℕ, zero, suc, ◌+◌, ◌<◌, ◌≤◌, List, [], ◌∷◌, ◌++◌, append_assoc, append-nil, length, map, take, drop, slice_get, slice_set, get_or, Bool, true, false, Some, refl, sym, ap, subst, arith}
 use Rattle.std.specs.Option.{option_to_list}
 use Rattle.std.proofs.lemmas.Grind.{common_steps}
 use Rattle.std.proofs.lemmas.List.{map-append}
@@ -8,7 +7,10 @@ use Rattle.pb_model.specs.World.{Event, Turn}
 use Rattle.pb_runs.specs.Histories.{Picks, none_left}
 use Rattle.pb_plan.specs.declared.steps.Step.{Step}
 use Rattle.pb_plan.specs.Steps.{deed_of, steps_of}
-use Rattle.pb_review.specs.Reading.{Reads, ReadsTurns, Takes, event_when, events_when}
+use Rattle.pb_plan.specs.declared.steps.When.{When}
+use Rattle.pb_plan.specs.Said.{said_in, said_by}
+use Rattle.pb_plan.proofs.Said.{said-more}
+use Rattle.pb_review.specs.Reading.{Reads, ReadsTurns, Takes}
 
 -- ---- events
 
@@ -33,30 +35,12 @@ reads-join all xs ys a b c one two = record {
 
 -- ---- steps
 
-when-append : (late : Bool) (i : ℕ) (steps : List Step) (s : Step) → slice_get steps i ≡ Some s
-    → events_when late (steps_of (take (i + 1) steps)) ≡ events_when late (steps_of (take i steps)) ++ option_to_list (event_when late (deed_of s.deed))
-when-append late i [] s found = absurd cc
-when-append late zero (x ∷ steps) s found =
-    let same : x ≡ s = cc in ap (λ (y : Step). cons_option (event_when late (deed_of y.deed)) []) same ∙ by (event_when late (deed_of s.deed))
-  where
-    by : (o : Option Event) → cons_option o [] ≡ option_to_list o
-    by None = refl
-    by (Some e) = refl
-when-append late (suc i) (x ∷ steps) s found =
-    let same : suc i + 1 ≡ suc (i + 1) = omega arith in
-    ap (λ n. events_when late (steps_of (take n (x ∷ steps)))) same ∙ ap (cons_option (event_when late (deed_of x.deed))) (when-append late i steps s found) ∙ by (event_when late (deed_of x.deed))
-  where
-    by : (o : Option Event) → cons_option o (events_when late (steps_of (take i steps)) ++ option_to_list (event_when late (deed_of s.deed)))
-        ≡ cons_option o (events_when late (steps_of (take i steps))) ++ option_to_list (event_when late (deed_of s.deed))
-    by None = refl
-    by (Some e) = refl
-
 -- one step more
-pub reads-step : (all : List Event) (late : Bool) (i : ℕ) (steps : List Step) (s : Step) (place at next : ℕ) → slice_get steps i ≡ Some s → Reads all place (events_when late (steps_of (take i steps))) at
-    → Reads all at (option_to_list (event_when late (deed_of s.deed))) next → Reads all place (events_when late (steps_of (take (i + 1) steps))) next
-reads-step all late i steps s place at next found so_far one =
-    subst (λ es. Reads all place es next) (sym (when-append late i steps s found))
-    (reads-join all (events_when late (steps_of (take i steps))) (option_to_list (event_when late (deed_of s.deed))) place at next so_far one)
+pub reads-step : (all : List Event) (when : When) (i : ℕ) (steps : List Step) (s : Step) (place at next : ℕ) → slice_get steps i ≡ Some s → Reads all place (said_by when (steps_of (take i steps))) at
+    → Reads all at (option_to_list (said_in when (deed_of s.deed))) next → Reads all place (said_by when (steps_of (take (i + 1) steps))) next
+reads-step all when i steps s place at next found so_far one =
+    subst (λ es. Reads all place es next) (sym (said-more when i steps s found))
+    (reads-join all (said_by when (steps_of (take i steps))) (option_to_list (said_in when (deed_of s.deed))) place at next so_far one)
 
 -- ---- turns
 

@@ -1,11 +1,9 @@
 -- How far a history is read.
-use Rattle.std.specs.Prelude.{◌≡◌, ℕ, suc, ◌+◌, ◌≤◌, Bool, true, false, List, ◌++◌, length, drop, map, slice_get, slice_set, Option, Some, if◌then◌else◌}
-use Rattle.std.specs.List.{filter_map}
+use Rattle.std.specs.Prelude.{◌≡◌, ℕ, suc, ◌+◌, ◌≤◌, Bool, true, false, List, ◌++◌, length, drop, map, slice_get, slice_set, Option, Some}
 use Rattle.pb_model.specs.World.{Event, Turn}
 use Rattle.pb_runs.specs.Histories.{EndsOr, IsRun, Picks}
 use Rattle.pb_runs.specs.Bus.{bus}
 use Rattle.pb_runs.specs.Laws.{Look, Shows}
-use Rattle.pb_runs.specs.Scenarios.{Deed, Planned, event_before, event_after}
 use Rattle.pb_plan.specs.Walks.{WalkView, plan_in}
 
 -- from a place on a history has these events, up to a place
@@ -13,14 +11,6 @@ pub record Reads (all : List Event) (place : ℕ) (es : List Event) (next : ℕ)
   pub cut : drop place all ≡ es ++ drop next all
   pub count : next ≡ place + length es
   pub inside : next ≤ length all
-
--- what a deed says before the turns or after them
-abbrev pub event_when : Bool → Deed → Option Event
-event_when late deed = if late then event_after deed else event_before deed
-
--- what steps say then
-abbrev pub events_when : Bool → List Planned → List Event
-events_when late steps = filter_map (λ s. event_when late s.deed) steps
 
 -- what is left of a history from a place on is cut into instants of the plan of a walk, from a moment on
 abbrev pub IsCut : WalkView → List Look → List Event → ℕ → ℕ → ℕ → Type 0

@@ -10,7 +10,7 @@ ghost use Rattle.pb_review.specs.Reading.{Reads};
 use crate::reading::read_steps;
 use crate::reports::{Look, Report};
 use crate::turning::{note_wanted, read_turns};
-use pb_plan::Walk;
+use pb_plan::{Walk, When};
 use pb_taps::Event;
 use std::alloc::AllocError;
 
@@ -36,7 +36,7 @@ pub(crate) fn read_instant<R: Report>(
     requires looks { position ≤ 2 ^ 63 }
     ensures { IfOk result (λ o. IfSome o (IsNext walk.now (R.looks report.now) (R.events report.now) place)) }
 {
-    let Some(started) = read_steps(report, place, walk.today(), false) else {
+    let Some(started) = read_steps(report, place, walk.today(), When::BeforeTurns) else {
         return Ok(None);
     };
     let Some(before) = look_at(report, walk, position, started) else {
@@ -46,7 +46,7 @@ pub(crate) fn read_instant<R: Report>(
     let Some(turned) = read_turns(report, started, want) else {
         return Ok(None);
     };
-    let Some(done) = read_steps(report, turned, walk.today(), true) else {
+    let Some(done) = read_steps(report, turned, walk.today(), When::AfterTurns) else {
         return Ok(None);
     };
     let Some(after) = look_at(report, walk, position + 1, done) else {

@@ -2,11 +2,11 @@ ghost use Rattle.std.specs.Prelude.{◌≡◌, ◌≤◌, ◌∷◌, [], true, l
 ghost use Rattle.std.specs.Option.{option_map, option_to_list};
 ghost use Rattle.pb_taps.specs.Events.{event_of};
 ghost use Rattle.pb_plan.specs.Steps.{deed_of, steps_of};
-ghost use Rattle.pb_review.specs.Nexts.{said_by, said_in};
-ghost use Rattle.pb_review.specs.Reading.{Reads, event_when};
+ghost use Rattle.pb_plan.specs.Said.{said_by, said_in};
+ghost use Rattle.pb_review.specs.Reading.{Reads};
 
 use crate::reports::Report;
-use pb_plan::{Deed, Step};
+use pb_plan::{Deed, Step, When};
 use pb_taps::Event;
 
 /// How far the history goes on with what some steps say before the turns or after them, if it does.
@@ -14,24 +14,24 @@ pub(crate) fn read_steps<R: Report>(
     report: &R,
     place: usize,
     steps: &[Step],
-    late: bool,
+    when: When,
 ) -> Option<usize>
     requires { place ≤ length (R.events report.now) }
-    ensures { IfSome result (Reads (R.events report.now) place (said_by late steps.now)) }
+    ensures { IfSome result (Reads (R.events report.now) place (said_by when (steps_of steps.now))) }
 {
     let mut at = place;
     for step in steps {
-        at = read_deed(report, at, &step.deed, late)?;
+        at = read_deed(report, at, &step.deed, when)?;
     }
     Some(at)
 }
 
 /// How far it goes on with what a deed says then, if anything.
-fn read_deed<R: Report>(report: &R, place: usize, deed: &Deed, late: bool) -> Option<usize>
+fn read_deed<R: Report>(report: &R, place: usize, deed: &Deed, when: When) -> Option<usize>
     requires { place ≤ length (R.events report.now) }
-    ensures { IfSome result (Reads (R.events report.now) place (said_in late deed.now)) }
+    ensures { IfSome result (Reads (R.events report.now) place (option_to_list (said_in when (deed_of deed.now)))) }
 {
-    match said(deed, late) {
+    match deed.said(when) {
         None => Some(place),
         Some(event) => read_event(report, place, event),
     }
@@ -56,16 +56,5 @@ fn is_event(found: Option<&Event>, event: &Event) -> bool
     match found {
         Some(found) => found == event,
         None => false,
-    }
-}
-
-/// What a deed says before the turns or after them.
-fn said(deed: &Deed, late: bool) -> Option<&Event>
-    ensures { option_map (λ e. event_of e.now) result ≡ event_when late (deed_of deed.now) }
-{
-    if late {
-        deed.after_turns()
-    } else {
-        deed.before_turns()
     }
 }

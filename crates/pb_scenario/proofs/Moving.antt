@@ -4,7 +4,6 @@ use Rattle.std.specs.Prelude.{min}
 use Rattle.std.proofs.lemmas.List.{drop_all, length-map}
 use Rattle.std.specs.Result.{IsErrAnd}
 use Rattle.pb_turn.specs.Stations.{earlier}
-use Rattle.std.specs.List.{cons_option}
 use Rattle.std.specs.Option.{option_to_list, option_and_then}
 use Rattle.pb_model.specs.Medium.{Tap}
 use Rattle.pb_model.specs.World.{World, Event, Turn, Reply, Fault}
@@ -14,9 +13,11 @@ use Rattle.pb_runs.specs.Runs.{Plan, all, and_then, comes, next_turn, places, tu
 use Rattle.pb_runs.specs.Bus.{bus, due_in, dues}
 use Rattle.pb_runs.proofs.OnTheBus.{turns-leave-others}
 use Rattle.pb_plan.specs.declared.steps.Step.{Step}
+use Rattle.pb_plan.specs.declared.steps.When.{When}
 use Rattle.pb_plan.specs.Steps.{deed_of, steps_of}
+use Rattle.pb_plan.specs.Said.{said_in, said_by}
+use Rattle.pb_plan.proofs.Said.{said-cut, said-more}
 use Rattle.pb_scenario.specs.declared.faults.RunFault.{RunFault}
-use Rattle.pb_scenario.specs.Said.{said_in, said_by}
 use Rattle.pb_scenario.specs.Stages.{StageView, ComesOn, IsReady}
 use Rattle.pb_scenario.specs.Plays.{Happened, Stops, turn_if}
 use Rattle.pb_scenario.proofs.Playing.{all-append, err-append, one-ok, stops-too}
@@ -73,59 +74,18 @@ stops-at m now w es fault at stops = subst (λ n. Stops Err fault (all bus n es 
 
 -- ---- steps
 
-one-said : (late : Bool) (s : Step) → said_by late (steps_of (s ∷ [])) ≡ option_to_list (said_in late (deed_of s.deed))
-one-said late s = by (said_in late (deed_of s.deed))
-  where
-    by : (o : Option Event) → cons_option o [] ≡ option_to_list o
-    by None = refl
-    by (Some e) = refl
+pub step-happened : (now : ℕ) (when : When) (i : ℕ) (steps : List Step) (s : Step) (a b c : StageView) → slice_get steps i ≡ Some s → Happened now a (said_by when (steps_of (take i steps))) b
+    → Happened now b (option_to_list (said_in when (deed_of s.deed))) c → Happened now a (said_by when (steps_of (take (i + 1) steps))) c
+step-happened now when i steps s a b c found before one =
+    subst (λ es. Happened now a es c) (sym (said-more when i steps s found)) (happened-join now a b c (said_by when (steps_of (take i steps))) (option_to_list (said_in when (deed_of s.deed))) before one)
 
-said-append : (late : Bool) (xs ys : List Step) → said_by late (steps_of (xs ++ ys)) ≡ said_by late (steps_of xs) ++ said_by late (steps_of ys)
-said-append late [] ys = refl
-said-append late (x ∷ xs) ys = ap (cons_option (said_in late (deed_of x.deed))) (said-append late xs ys) ∙ by (said_in late (deed_of x.deed))
-  where
-    by : (o : Option Event) → cons_option o (said_by late (steps_of xs) ++ said_by late (steps_of ys)) ≡ cons_option o (said_by late (steps_of xs)) ++ said_by late (steps_of ys)
-    by None = refl
-    by (Some e) = refl
-
-take-one : {X : Type 0} (xs : List X) (i : ℕ) (x : X) → slice_get xs i ≡ Some x → take (i + 1) xs ≡ take i xs ++ x ∷ []
-take-one [] i x found = absurd cc
-take-one (y ∷ ys) zero x found = let same : y ≡ x = cc in ap (λ z. z ∷ []) same
-take-one (y ∷ ys) (suc i) x found =
-    let same : suc i + 1 ≡ suc (i + 1) = omega arith in
-    ap (λ n. take n (y ∷ ys)) same ∙ ap (λ zs. y ∷ zs) (take-one ys i x found)
-
-cut-at : {X : Type 0} (xs : List X) (i : ℕ) (x : X) → slice_get xs i ≡ Some x → xs ≡ take i xs ++ (x ∷ drop (i + 1) xs)
-cut-at [] i x found = absurd cc
-cut-at (y ∷ ys) zero x found = let same : y ≡ x = cc in ap (λ z. z ∷ ys) same
-cut-at (y ∷ ys) (suc i) x found =
-    let same : suc (i + 1) ≡ suc i + 1 = omega arith in
-    ap (λ zs. y ∷ zs) (cut-at ys i x found) ∙ ap (λ n. y ∷ (take i ys ++ (x ∷ drop n (y ∷ ys)))) same
-
--- what steps say up to one of them
-said-more : (late : Bool) (i : ℕ) (steps : List Step) (s : Step) → slice_get steps i ≡ Some s
-    → said_by late (steps_of (take (i + 1) steps)) ≡ said_by late (steps_of (take i steps)) ++ option_to_list (said_in late (deed_of s.deed))
-said-more late i steps s found =
-    ap (λ xs. said_by late (steps_of xs)) (take-one steps i s found) ∙ said-append late (take i steps) (s ∷ []) ∙ ap (λ es. said_by late (steps_of (take i steps)) ++ es) (one-said late s)
-
-said-cut : (late : Bool) (i : ℕ) (steps : List Step) (s : Step) → slice_get steps i ≡ Some s
-    → said_by late (steps_of steps) ≡ said_by late (steps_of (take i steps)) ++ (option_to_list (said_in late (deed_of s.deed)) ++ said_by late (steps_of (drop (i + 1) steps)))
-said-cut late i steps s found =
-    ap (λ xs. said_by late (steps_of xs)) (cut-at steps i s found) ∙ said-append late (take i steps) (s ∷ drop (i + 1) steps)
-    ∙ ap (λ es. said_by late (steps_of (take i steps)) ++ es) (said-append late (s ∷ []) (drop (i + 1) steps) ∙ ap (λ es. es ++ said_by late (steps_of (drop (i + 1) steps))) (one-said late s))
-
-pub step-happened : (now : ℕ) (late : Bool) (i : ℕ) (steps : List Step) (s : Step) (a b c : StageView) → slice_get steps i ≡ Some s → Happened now a (said_by late (steps_of (take i steps))) b
-    → Happened now b (option_to_list (said_in late (deed_of s.deed))) c → Happened now a (said_by late (steps_of (take (i + 1) steps))) c
-step-happened now late i steps s a b c found before one =
-    subst (λ es. Happened now a es c) (sym (said-more late i steps s found)) (happened-join now a b c (said_by late (steps_of (take i steps))) (option_to_list (said_in late (deed_of s.deed))) before one)
-
-pub step-stops : (now : ℕ) (late : Bool) (i : ℕ) (steps : List Step) (s : Step) (a b : StageView) (fault : RunFault) → slice_get steps i ≡ Some s → Happened now a (said_by late (steps_of (take i steps))) b
-    → Stops Err fault (all bus now (option_to_list (said_in late (deed_of s.deed))) b.world) → Stops Err fault (all bus now (said_by late (steps_of steps)) a.world)
-step-stops now late i steps s a b fault found before stops =
-    let here = option_to_list (said_in late (deed_of s.deed)) in
-    let rest = said_by late (steps_of (drop (i + 1) steps)) in
-    subst (λ es. Stops Err fault (all bus now es a.world)) (sym (said-cut late i steps s found))
-    (stops-after now a b (said_by late (steps_of (take i steps))) (here ++ rest) fault before (stops-front now b.world here rest fault stops))
+pub step-stops : (now : ℕ) (when : When) (i : ℕ) (steps : List Step) (s : Step) (a b : StageView) (fault : RunFault) → slice_get steps i ≡ Some s → Happened now a (said_by when (steps_of (take i steps))) b
+    → Stops Err fault (all bus now (option_to_list (said_in when (deed_of s.deed))) b.world) → Stops Err fault (all bus now (said_by when (steps_of steps)) a.world)
+step-stops now when i steps s a b fault found before stops =
+    let here = option_to_list (said_in when (deed_of s.deed)) in
+    let rest = said_by when (steps_of (drop (i + 1) steps)) in
+    subst (λ es. Stops Err fault (all bus now es a.world)) (sym (said-cut when i steps s found))
+    (stops-after now a b (said_by when (steps_of (take i steps))) (here ++ rest) fault before (stops-front now b.world here rest fault stops))
 
 -- ---- turns
 

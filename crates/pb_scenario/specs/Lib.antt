@@ -4,7 +4,6 @@ pub mod Texts
 pub mod Lines
 pub mod Keys
 pub mod Words
-pub mod Said
 pub mod Faults
 pub mod Stages
 pub mod Watching

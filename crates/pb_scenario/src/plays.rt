@@ -7,16 +7,16 @@ ghost use Rattle.pb_bus.specs.Worlds.{due_at};
 ghost use Rattle.pb_runs.specs.Runs.{next_turn, turns, wants};
 ghost use Rattle.pb_runs.specs.Bus.{bus, dues};
 ghost use Rattle.pb_plan.specs.Steps.{deed_of, steps_of};
+ghost use Rattle.pb_plan.specs.Said.{said_by, said_in};
 ghost use Rattle.pb_plan.specs.Walks.{passes, plan_in};
 ghost use Rattle.pb_scenario.specs.Faults.{EndsBy};
-ghost use Rattle.pb_scenario.specs.Said.{said_by, said_in};
 ghost use Rattle.pb_scenario.specs.Stages.{IsReady};
 ghost use Rattle.pb_scenario.specs.Plays.{Goes, IsPlayed, Plays, turn_if};
 
 use crate::faults::RunFault;
 use crate::scenarios::Scenario;
 use crate::stages::Stage;
-use pb_plan::{Deed, Step, Walk};
+use pb_plan::{Deed, Step, Walk, When};
 use pb_taps::{Event, NewFault};
 use pb_timers::Moment;
 use std::alloc::Global;
@@ -58,9 +58,9 @@ fn play_instant<S: Stage>(
     ensures { Goes walk.now (S.view stage.old) result (S.view stage.new) }
 {
     let now = moment_of(walk);
-    play_steps(alloc, stage, now, walk.today(), false)?;
+    play_steps(alloc, stage, now, walk.today(), When::BeforeTurns)?;
     play_turns(alloc, stage, now, walk)?;
-    play_steps(alloc, stage, now, walk.today(), true)?;
+    play_steps(alloc, stage, now, walk.today(), When::AfterTurns)?;
     let next = walk.next_by(next_turn(stage, walk), stage.bus().next_change());
     play_pass(alloc, stage, now, walk.pass_to(next))?;
     Ok(next)
@@ -72,13 +72,13 @@ fn play_steps<S: Stage>(
     stage: &mut S,
     now: Moment,
     steps: &[Step],
-    late: bool,
+    when: When,
 ) -> Result<(), RunFault>
     requires { IsReady (S.view stage.old) }
-    ensures { Plays now (S.view stage.old) (said_by late (steps_of steps.now)) result (S.view stage.new) }
+    ensures { Plays now (S.view stage.old) (said_by when (steps_of steps.now)) result (S.view stage.new) }
 {
     for step in steps {
-        play_deed(alloc, stage, now, &step.deed, late)?;
+        play_deed(alloc, stage, now, &step.deed, when)?;
     }
     Ok(())
 }
@@ -89,13 +89,13 @@ fn play_deed<S: Stage>(
     stage: &mut S,
     now: Moment,
     deed: &Deed,
-    late: bool,
+    when: When,
 ) -> Result<(), RunFault>
     requires { IsReady (S.view stage.old) }
-    ensures { Plays now (S.view stage.old) (option_to_list (said_in late (deed_of deed.now))) result
+    ensures { Plays now (S.view stage.old) (option_to_list (said_in when (deed_of deed.now))) result
         (S.view stage.new) }
 {
-    match said(deed, late) {
+    match deed.said(when) {
         Some(event) => happens(alloc, stage, now, event),
         None => Ok(()),
     }
@@ -185,17 +185,6 @@ fn next_turn<S: Stage>(stage: &S, walk: &Walk<'_>) -> Option<u64>
         first = walk.sooner(first, tap, stage.bus().due(tap));
     }
     first
-}
-
-/// What a deed says before the turns or after them.
-fn said(deed: &Deed, late: bool) -> Option<&Event>
-    ensures { option_map (λ e. event_of e.now) result ≡ said_in late (deed_of deed.now) }
-{
-    if late {
-        deed.after_turns()
-    } else {
-        deed.before_turns()
-    }
 }
 
 /// The moment at which a walk is.

@@ -4,5 +4,5 @@ use Rattle.pb_review.proofs.reading.read_steps.Goals as goal
 
 pub loop-step-preserved : goal.loop-step-preserved
 loop-step-preserved g c =
-    reads-step (g.R.Report.events c.args.report.now) c.args.late c.loop-step.step-index c.args.steps.now c.step-item.result c.args.place c.loop-step.at c.in_ok-at.at
+    reads-step (g.R.Report.events c.args.report.now) c.args.when c.loop-step.step-index c.args.steps.now c.step-item.result c.args.place c.loop-step.at c.in_ok-at.at
     (get-at c.args.steps.now c.loop-step.step-index c.step-item.result c.loop-step-test.true c.step-item.is) c.loop-step.invariant c.in_ok-at.ensures

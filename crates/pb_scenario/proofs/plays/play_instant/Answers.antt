@@ -1,11 +1,12 @@
 -- What is played at a moment is an instant of the run.
-use Rattle.std.proofs.Common.{◌≡◌, ◌∙◌, ℕ, true, false, Option, ap}
+use Rattle.std.proofs.Common.{◌≡◌, ◌∙◌, ℕ, Option, ap}
 use Rattle.pb_turn.specs.Stations.{earlier}
 use Rattle.pb_runs.specs.Runs.{next, next_turn, onward, passing, turns}
 use Rattle.pb_runs.specs.Bus.{bus, dues, next_change}
 use Rattle.pb_plan.specs.Steps.{steps_of}
 use Rattle.pb_plan.specs.Walks.{passes, plan_in}
-use Rattle.pb_scenario.specs.Said.{said_by}
+use Rattle.pb_plan.specs.declared.steps.When.TheVariants.{BeforeTurns, AfterTurns}
+use Rattle.pb_plan.specs.Said.{said_by}
 use Rattle.pb_scenario.specs.Plays.{Happened}
 use Rattle.pb_scenario.proofs.Counting.{count-all}
 use Rattle.pb_scenario.proofs.Moving.{happened-as, happened-at, in-err, ready-after, stops-as, stops-at}
@@ -19,13 +20,13 @@ returns-in_err-play_steps g c =
     let fault = c.in_err-play_steps.field-0.0 in
     in-err _ _ c.from_residual.result fault c.from_residual.ensures.0 c.from_residual.ensures.1
     (ends-early walk old fault
-    (stops-as c.moment_of-now.result walk.clock old.world (said_by false (steps_of c.today.result.now)) ((plan_in walk).early walk.clock) fault c.moment_of-now.ensures c.today.ensures.early c.in_err-play_steps.ensures))
+    (stops-as c.moment_of-now.result walk.clock old.world (said_by BeforeTurns (steps_of c.today.result.now)) ((plan_in walk).early walk.clock) fault c.moment_of-now.ensures c.today.ensures.early c.in_err-play_steps.ensures))
 
 pub play_turns-requires-clause-taps : goal.play_turns-requires-clause-taps
 play_turns-requires-clause-taps g c =
     let old = g.S.Stage.view c.args.stage.now in
     let a = g.S.Stage.view c.play_steps.new.stage in
-    count-all c.moment_of-now.result (said_by false (steps_of c.today.result.now)) old.world a.world c.in_ok-play_steps.ensures.world ∙ c.requires.taps
+    count-all c.moment_of-now.result (said_by BeforeTurns (steps_of c.today.result.now)) old.world a.world c.in_ok-play_steps.ensures.world ∙ c.requires.taps
 
 pub play_turns-requires-clause-ready : goal.play_turns-requires-clause-ready
 play_turns-requires-clause-ready g c =
@@ -56,7 +57,7 @@ returns-in_err-play_steps-2 g c =
     let fault = c.in_err-play_steps-2.field-0.0 in
     in-err _ _ c.from_residual-in_err-play_steps-2.result fault c.from_residual-in_err-play_steps-2.ensures.0 c.from_residual-in_err-play_steps-2.ensures.1
     (ends-late walk old a b fault one two
-    (stops-as m walk.clock b.world (said_by true (steps_of c.today-2.result.now)) ((plan_in walk).late walk.clock) fault at c.today-2.ensures.late c.in_err-play_steps-2.ensures))
+    (stops-as m walk.clock b.world (said_by AfterTurns (steps_of c.today-2.result.now)) ((plan_in walk).late walk.clock) fault at c.today-2.ensures.late c.in_err-play_steps-2.ensures))
 
 pub next_turn-requires-clause-taps : goal.next_turn-requires-clause-taps
 next_turn-requires-clause-taps g c =
@@ -66,9 +67,9 @@ next_turn-requires-clause-taps g c =
     let a = g.S.Stage.view c.play_steps.new.stage in
     let b = g.S.Stage.view c.play_turns.new.stage in
     let after = g.S.Stage.view c.play_steps-2.new.stage in
-    count-all m (said_by true (steps_of c.today-2.result.now)) b.world after.world c.in_ok-play_steps-2.ensures.world
+    count-all m (said_by AfterTurns (steps_of c.today-2.result.now)) b.world after.world c.in_ok-play_steps-2.ensures.world
     ∙ count-all m (turns bus (plan_in walk) walk.clock a.world) a.world b.world c.in_ok-play_turns.ensures.world
-    ∙ count-all m (said_by false (steps_of c.today.result.now)) old.world a.world c.in_ok-play_steps.ensures.world ∙ c.requires.taps
+    ∙ count-all m (said_by BeforeTurns (steps_of c.today.result.now)) old.world a.world c.in_ok-play_steps.ensures.world ∙ c.requires.taps
 
 pub returns-in_err-play_pass : goal.returns-in_err-play_pass
 returns-in_err-play_pass g c =

@@ -1,0 +1,14 @@
+-- What the steps of a moment say before the turns or after them.
+use Rattle.std.specs.Prelude.{List, Option}
+use Rattle.std.specs.List.{filter_map}
+use Rattle.pb_model.specs.World.{Event}
+use Rattle.pb_runs.specs.Scenarios.{Deed, Planned, event_before, event_after}
+use Rattle.pb_plan.specs.declared.steps.When.{When}
+use Rattle.pb_plan.specs.declared.steps.When.TheVariants.{BeforeTurns, AfterTurns}
+
+abbrev pub said_in : When → Deed → Option Event
+said_in BeforeTurns deed = event_before deed
+said_in AfterTurns deed = event_after deed
+
+abbrev pub said_by : When → List Planned → List Event
+said_by when steps = filter_map (λ s. said_in when s.deed) steps
