@@ -19,7 +19,7 @@ pub use addresses::Address;
 pub use arrivals::{spelled_telegram, spelled_token, token_in, whole_telegram};
 pub use cores::{Core, Kept};
 pub use cycles::{Cycles, copy_outcome, give_up};
-pub use lists::{entered, heard, readied, removed};
+pub use lists::{entered, hear, readied, removed};
 pub use moments::{PastMoment, after};
 pub use past::Past;
 pub use replies::{Reply, StationType, answer, is_request, status_answer};

@@ -6,13 +6,11 @@ ghost use Rattle.pb_ring.specs.Las.{heard, entered, removed, readied};
 use pb_ring::Las;
 use pb_telegram::TokenTelegram;
 
-/// The list after a token was heard.
-pub fn heard(las: Las, token: &TokenTelegram) -> Las
-    ensures { result ≡ heard las token.now.sa token.now.da }
+/// A token is heard.
+pub fn hear(las: &mut Las, token: &TokenTelegram)
+    ensures { las.new ≡ heard las.old token.now.sa token.now.da }
 {
-    let mut list = las;
-    list.hear(token.sa, token.da);
-    list
+    las.hear(token.sa, token.da);
 }
 
 /// The list after a station has entered it, if it is complete.

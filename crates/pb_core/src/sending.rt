@@ -1,4 +1,6 @@
 use arrayvec::ArrayVec;
+use pb_telegram::Telegram;
+use pb_tokenfsm::Holding;
 use std::marker::Model;
 
 /// What a station sends in a turn, if anything. Its room for octets is used again in each turn.
@@ -18,6 +20,8 @@ impl Model for SendBuffer {
 
 impl SendBuffer {
     ghost use Rattle.std.specs.Prelude.{◌≡◌, ◌≤◌, Some, None, MatchOption, length};
+    ghost use Rattle.pb_telegram.specs.Grammar.{spelling};
+    ghost use Rattle.pb_telegram.specs.Initiators.{IsInitiator};
 
     /// Nothing is sent.
     pub fn new() -> SendBuffer
@@ -43,6 +47,20 @@ impl SendBuffer {
         self.octets.clear();
         self.octets.try_extend_from_slice(octets).unwrap();
         self.sent = true;
+    }
+
+    /// A telegram that a holder of the token initiates is sent, a token or a request, the caller's condition. It answers
+    /// how many octets that is.
+    #[inline(always)]
+    pub fn initiate<S: Copy>(&mut self, holder: &Holding<S>, telegram: &Telegram) -> usize
+        requires { IsInitiator telegram.now }
+        ensures sent { self.new ≡ Some (spelling telegram.now) }
+        ensures count { result ≡ length (spelling telegram.now) }
+        ensures fits { result ≤ 255 }
+    {
+        holder.initiate_in(telegram, &mut self.octets);
+        self.sent = true;
+        self.octets.len()
     }
 
     /// The octets that are sent, where they stand.

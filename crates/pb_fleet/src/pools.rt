@@ -325,9 +325,11 @@ impl<L: Ledger> Pool<L> {
 
 /// The names of some taps, in one word.
 fn names(taps: &[usize]) -> u64 {
-    taps.iter()
-        .rev()
-        .fold(0, |word, tap| word << 8 | u64::from(*tap as u8))
+    let mut word = 0;
+    for tap in taps.iter().rev() {
+        word = word << 8 | (*tap & 0xff) as u64;
+    }
+    word
 }
 
 /// The tap that a word names at a place.

@@ -18,7 +18,7 @@ ghost use Rattle.pb_core.specs.Cores.{Becomes};
 use crate::rotations::received_if;
 use crate::timers::given_up;
 use pb_core::{
-    Kept, Reply, StationType, after, answer, cycles, entered, heard, is_request, status_answer,
+    Kept, Reply, StationType, after, answer, cycles, entered, hear, is_request, status_answer,
 };
 use pb_cycles::status_reply;
 use pb_ring::Las;
@@ -161,13 +161,13 @@ fn token_in_idle(
         kept.old (phase_of (Phase.Idle idle)) kept.new (phase_of result) }
 {
     let ts = kept.address.get();
-    let ps = kept.las.ps(ts);
-    kept.las = heard(kept.las, token);
-    if token.da == ts {
-        own_token(idle, kept, params, at, token, ps)
-    } else {
-        foreign_token(idle, kept)
+    if token.da != ts {
+        hear(&mut kept.las, token);
+        return foreign_token(idle, kept);
     }
+    let ps = kept.las.ps(ts);
+    hear(&mut kept.las, token);
+    own_token(idle, kept, params, at, token, ps)
 }
 
 /// A token to the station itself is taken, or refused.
@@ -268,7 +268,7 @@ fn listening_token(listening: Listening, kept: &mut Kept, token: &TokenTelegram)
         { phase = doubled_by (is_doubled listening) token.now.sa s.address })
         kept.old (phase_of (Phase.Listening listening)) kept.new (phase_of result) }
 {
-    kept.las = heard(kept.las, token);
+    hear(&mut kept.las, token);
     doubled_by(listening, token.sa, kept.address.get())
 }
 
@@ -327,7 +327,7 @@ fn holder_hears(phase: Phase, kept: &mut Kept, arrival: &Option<Telegram>) -> Ph
         kept.old (phase_of phase) kept.new (phase_of result) }
 {
     if let Some(Telegram::Token(token)) = arrival {
-        kept.las = heard(kept.las, token);
+        hear(&mut kept.las, token);
     }
     phase
 }
@@ -337,7 +337,7 @@ fn token_lost<S: Copy>(holder: Holding<S>, kept: &mut Kept, token: &TokenTelegra
     ensures { Becomes (λ s. lost (with_token s token.now.da token.now.sa))
         kept.old turn.Offline kept.new (phase_of result) }
 {
-    kept.las = heard(kept.las, token);
+    hear(&mut kept.las, token);
     Phase::Idle(holder.on_foreign())
 }
 

@@ -21,8 +21,7 @@ ghost use Rattle.pb_core.specs.Replies.{reply_of};
 ghost use Rattle.pb_phases.specs.Speeches.{spoken_with, Says, after_taking};
 
 use crate::rotations::received_if;
-use arrayvec::ArrayVec;
-use pb_core::{Kept, Past, Reply, SendBuffer, Waiting, after, readied};
+use pb_core::{Kept, Reply, SendBuffer, Waiting, after, readied};
 use pb_cycles::Request;
 use pb_ring::Gap;
 use pb_rotation::Rotation;
@@ -139,7 +138,7 @@ fn says_ready(listening: Listening, kept: &mut Kept, now: Moment, out: &mut Send
     match kept.reply.take() {
         None => silent(Phase::Listening(listening), out),
         Some(reply) => {
-            kept.past = said(kept.past, now, &reply.octets);
+            kept.past = kept.past.said(now, reply.octets.len());
             out.send(&reply.octets);
             ready_if(listening, kept, reply.joins)
         }
@@ -155,7 +154,7 @@ fn says_reply(phase: Phase, kept: &mut Kept, now: Moment, out: &mut SendBuffer) 
     match kept.reply.take() {
         None => silent(phase, out),
         Some(reply) => {
-            kept.past = said(kept.past, now, &reply.octets);
+            kept.past = kept.past.said(now, reply.octets.len());
             out.send(&reply.octets);
             phase
         }
@@ -175,9 +174,8 @@ fn says_claim(
         kept.old (phase_of (Phase.Claim holder)) kept.new (phase_of result) out.new }
 {
     let ts = kept.address.get();
-    let octets = holder.initiate(&token(ts, ts));
-    kept.past = said(kept.past, now, &octets);
-    out.send(&octets);
+    let count = out.initiate(&holder, &token(ts, ts));
+    kept.past = kept.past.said(now, count);
     let end = kept.past.end.get();
     let phase = holder.on_sent(after(end, u64::from(params.tid1())));
     let receipt = match &phase {
@@ -223,9 +221,8 @@ fn says_again(
 {
     match kept.cycles.initiator.again() {
         Some(telegram) => {
-            let octets = holder.initiate(&telegram);
-            kept.past = said(kept.past, now, &octets);
-            out.send(&octets);
+            let count = out.initiate(&holder, &telegram);
+            kept.past = kept.past.said(now, count);
             Phase::AwaitData(holder.again())
         }
         None => silent(Phase::AwaitData(holder.on_no_retry()), out),
@@ -246,9 +243,8 @@ fn says_token(
 {
     let ts = kept.address.get();
     let ns = kept.las.ns(ts);
-    let octets = holder.initiate(&token(ns, ts));
-    kept.past = said(kept.past, now, &octets);
-    out.send(&octets);
+    let count = out.initiate(&holder, &token(ns, ts));
+    kept.past = kept.past.said(now, count);
     let end = kept.past.end.get();
     kept.rotation = received_if(kept.rotation, ns == ts, end);
     holder.on_sent(ns, ts, after(end, u64::from(params.tid1())))
@@ -261,19 +257,6 @@ fn silent(phase: Phase, out: &mut SendBuffer) -> Phase
 {
     out.clear();
     phase
-}
-
-/// The past of a station that says octets at a moment.
-fn said(past: Past, now: Moment, octets: &ArrayVec<u8, 255>) -> Past
-    requires { now ≤ last_turn }
-    ensures { result
-        ≡ record {
-          quiet = max past.quiet (now + bits (length octets.now.items));
-          begin = now;
-          end = now + bits (length octets.now.items);
-        } }
-{
-    past.said(now, octets.len())
 }
 
 /// One that listens and has said whether it is ready: with the reply that it is, it joins the ring.
@@ -388,9 +371,8 @@ fn says_request(
 {
     let answered = request.service().is_answered();
     let telegram = kept.cycles.initiator.request(kept.address.get(), request);
-    let octets = holder.initiate(&telegram);
-    kept.past = said(kept.past, now, &octets);
-    out.send(&octets);
+    let count = out.initiate(&holder, &telegram);
+    kept.past = kept.past.said(now, count);
     let ready = after(kept.past.end.get(), u64::from(params.tid2()));
     asked(holder, answered, ready)
 }
@@ -524,9 +506,8 @@ fn asks_status(
         ))
         kept.old (phase_of (Phase.Use holder)) kept.new (phase_of result) out.new }
 {
-    let octets = holder.initiate(&status_request(address, kept.address.get()));
-    kept.past = said(kept.past, now, &octets);
-    out.send(&octets);
+    let count = out.initiate(&holder, &status_request(address, kept.address.get()));
+    kept.past = kept.past.said(now, count);
     Phase::AwaitStatus(holder.ask_status(address))
 }
 

@@ -17,17 +17,20 @@ pub fn is_heard_again(last: Option<HeardToken>, sa: u8, da: u8) -> bool
     }
 }
 
-/// The stage after a token that is no retry.
-pub fn heard_stage(stage: Stage, sa: u8, da: u8) -> Stage
+/// A token that is no retry is heard.
+pub fn hear_token(stage: &mut Stage, sa: u8, da: u8)
     requires source { sa < 127 }
     requires destination { da < 127 }
-    ensures { result ≡ stage_heard stage sa da }
+    ensures { stage.new ≡ stage_heard stage.old sa da }
 {
     match stage {
-        Stage::Learning(rotation, closed) => learn(rotation, closed, sa, da),
+        Stage::Learning(rotation, closed) => {
+            let learnt = learn(*rotation, *closed, sa, da);
+            *stage = learnt;
+        }
         Stage::Complete(members, place) => {
-            let own = own_address(place);
-            Stage::Complete(correct(members, own, sa, da), place_heard(place, sa, da))
+            correct(members, own_address(*place), sa, da);
+            count_skips(place, sa, da);
         }
     }
 }
@@ -114,28 +117,23 @@ fn own_address(place: Option<Place>) -> Option<u8>
     }
 }
 
-/// The members of a complete list after a token.
-fn correct(members: Addresses, own: Option<u8>, sa: u8, da: u8) -> Addresses
+/// A token corrects the members of a complete list.
+fn correct(members: &mut Addresses, own: Option<u8>, sa: u8, da: u8)
     requires source { sa < 127 }
     requires destination { da < 127 }
-    ensures { result ≡ corrected members own sa da }
+    ensures { members.new ≡ corrected members.old own sa da }
 {
-    let mut left = members.without_removed(own, sa, da);
-    left.insert(da);
-    left.insert(sa);
-    left
+    *members = members.without_removed(own, sa, da);
+    members.insert(da);
+    members.insert(sa);
 }
 
-/// The own station's place in the ring after a token.
-fn place_heard(place: Option<Place>, sa: u8, da: u8) -> Option<Place>
-    ensures { result ≡ place_after place sa da }
+/// A token skips the own station in the ring, or doesn't.
+fn count_skips(place: &mut Option<Place>, sa: u8, da: u8)
+    ensures { place.new ≡ place_after place.old sa da }
 {
-    match place {
-        Some(place) => Some(Place {
-            address: place.address,
-            skipped: skips_heard(place.address, place.skipped, sa, da),
-        }),
-        None => None,
+    if let Some(own) = place {
+        own.skipped = skips_heard(own.address, own.skipped, sa, da);
     }
 }
 

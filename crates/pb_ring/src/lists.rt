@@ -6,7 +6,7 @@ ghost use Rattle.pb_ring.specs.Las.{listening, claimed, heard, entered, removed,
 
 use crate::addresses::Addresses;
 use crate::learning::{
-    active_stations, entered_stage, heard_stage, is_heard_again, readied_stage, removed_stage,
+    active_stations, entered_stage, hear_token, is_heard_again, readied_stage, removed_stage,
 };
 use crate::stages::{HeardToken, Place, Stage};
 use std::marker::Model;
@@ -73,7 +73,7 @@ impl Las {
         ensures { self.new ≡ heard self.old sa da }
     {
         if !is_heard_again(self.last, sa, da) {
-            self.stage = heard_stage(self.stage, sa, da);
+            hear_token(&mut self.stage, sa, da);
         }
         self.last = Some(HeardToken {
             source: sa,

@@ -14,6 +14,7 @@ pub fn copy_octets<const ROOM: usize>(octets: &[u8]) -> ArrayVec<u8, ROOM>
 
 /// Some octets take the place of others, at most as many as the room has places, the caller's condition. Where there
 /// are none, none is moved, and where there are as many, those that stood there aren't cleared.
+#[inline(always)]
 pub fn put_octets<const ROOM: usize>(room: &mut ArrayVec<u8, ROOM>, octets: &[u8])
     requires { length octets.now ≤ ROOM }
     ensures { room.new.items ≡ octets.now }

@@ -29,4 +29,4 @@ pub use laws::{
 pub use parsing::parse;
 pub use receiving::Receiver;
 pub use telegrams::{Fixed8Telegram, ShortTelegram, Telegram, TokenTelegram, VarTelegram};
-pub use writing::write;
+pub use writing::{write, write_in};

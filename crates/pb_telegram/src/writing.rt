@@ -2,6 +2,7 @@ ghost use Rattle.std.specs.Prelude.{◌≡◌};
 ghost use Rattle.pb_telegram.specs.Grammar.{spelling};
 
 use crate::control::fcs;
+use crate::copying::put_octets;
 use crate::telegrams::{
     ACKNOWLEDGEMENT, END, FIXED_START, SHORT_START, TOKEN_START, Telegram, VAR_START,
 };
@@ -13,33 +14,37 @@ pub fn write(telegram: &Telegram) -> ArrayVec<u8, 255>
     ensures { result.items ≡ spelling telegram.now }
 {
     let mut octets = ArrayVec::new();
+    write_in(telegram, &mut octets);
+    octets
+}
+
+/// The octets of a telegram, as [`write`] gives them, in the place of others that are no longer wanted.
+#[inline(always)]
+pub fn write_in(telegram: &Telegram, octets: &mut ArrayVec<u8, 255>)
+    ensures { octets.new.items ≡ spelling telegram.now }
+{
     match telegram {
         Telegram::Short(short) => {
             let check = fcs(short.da, short.sa, short.fc, &[]);
             let short = [SHORT_START, short.da, short.sa, short.fc, check, END];
-            octets.try_extend_from_slice(&short).unwrap();
+            put_octets(octets, &short);
         }
         Telegram::Var(var) => {
             let count = var.unit.len() as u8 + 3;
             let head = [VAR_START, count, count, VAR_START, var.da, var.sa, var.fc];
-            octets.try_extend_from_slice(&head).unwrap();
+            put_octets(octets, &head);
             octets.try_extend_from_slice(&var.unit).unwrap();
             octets.push(fcs(var.da, var.sa, var.fc, &var.unit));
             octets.push(END);
         }
         Telegram::Fixed8(fixed) => {
             let head = [FIXED_START, fixed.da, fixed.sa, fixed.fc];
-            octets.try_extend_from_slice(&head).unwrap();
+            put_octets(octets, &head);
             octets.try_extend_from_slice(&fixed.unit).unwrap();
             octets.push(fcs(fixed.da, fixed.sa, fixed.fc, &fixed.unit));
             octets.push(END);
         }
-        Telegram::Token(token) => {
-            octets.push(TOKEN_START);
-            octets.push(token.da);
-            octets.push(token.sa);
-        }
-        Telegram::Ack => octets.push(ACKNOWLEDGEMENT),
+        Telegram::Token(token) => put_octets(octets, &[TOKEN_START, token.da, token.sa]),
+        Telegram::Ack => put_octets(octets, &[ACKNOWLEDGEMENT]),
     }
-    octets
 }

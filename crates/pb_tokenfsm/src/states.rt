@@ -9,7 +9,7 @@ ghost use Rattle.pb_tokenfsm.specs.Phases.{phase_of, claims_sent, has_asked, was
 use crate::phases::Phase;
 use crate::waiting::Idle;
 use arrayvec::ArrayVec;
-use pb_telegram::{Telegram, write};
+use pb_telegram::{Telegram, write, write_in};
 use pb_timers::Moment;
 
 /// How often the token is tried at a successor.
@@ -90,6 +90,15 @@ impl<S: Copy> Holding<S> {
         ensures { result.items ≡ spelling telegram.now }
     {
         write(telegram)
+    }
+
+    /// The same octets, in the place of others that are no longer wanted.
+    #[inline(always)]
+    pub fn initiate_in(&self, telegram: &Telegram, octets: &mut ArrayVec<u8, 255>)
+        requires { IsInitiator telegram.now }
+        ensures { octets.new.items ≡ spelling telegram.now }
+    {
+        write_in(telegram, octets);
     }
 
     /// Another station is heard: the token is lost.
