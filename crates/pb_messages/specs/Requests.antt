@@ -1,5 +1,5 @@
 -- Which requests there are, and the function codes of their control octets.
-use Rattle.std.specs.Prelude.{ℕ, ◌+◌, ◌≤◌, ◌==◌, nat_lt, Bool, true, false, ◌&&◌, ◌||◌, if◌then◌else◌, List, [], ◌∷◌}
+use Rattle.std.specs.Prelude.{ℕ, ◌+◌, ◌≤◌, ◌==◌, nat_lt, Bool, true, false, ◌&&◌, ◌||◌, not, if◌then◌else◌, List, [], ◌∷◌}
 use Rattle.pb_messages.specs.Fields.{Fields}
 use Rattle.pb_messages.specs.RequestFields.{RequestFields}
 use Rattle.pb_messages.specs.declared.services.Service.{Service}
@@ -15,9 +15,13 @@ is_answered Sda = true
 is_answered Sdn = false
 is_answered Srd = true
 
--- the faults of a new request: all stations, 127, are only sent to
+-- a request of the service may go to an address: to a station's, or to 127, all stations, where the service isn't answered
+abbrev pub may_go_to : Service → ℕ → Bool
+may_go_to service address = nat_lt address 127 || (address == 127 && not (is_answered service))
+
+-- the faults of a new request
 abbrev pub request_faults : ℕ → Service → List (Bool × RequestFault)
-request_faults da service = (nat_lt 127 da || (da == 127 && is_answered service), BadAddress) ∷ []
+request_faults da service = (not (may_go_to service da), BadAddress) ∷ []
 
 -- what the type of a request keeps: a service that is answered goes to a station
 abbrev pub IsAddressed : ℕ → Service → Type 0

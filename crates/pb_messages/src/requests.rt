@@ -81,7 +81,7 @@ impl Request {
         ensures addressed { OnOk result (first_fault (request_faults da service) ≡ None) }
         ensures fault { IfErr result (λ fault. first_fault (request_faults da service) ≡ Some fault) }
     {
-        if da > 127 || (da == 127 && service.is_answered()) {
+        if !service.may_go_to(da) {
             return Err(RequestFault::BadAddress);
         }
         Ok(Request {

@@ -1,5 +1,5 @@
 ghost use Rattle.std.specs.Prelude.{◌≡◌, ◌<◌, Some, None};
-ghost use Rattle.pb_messages.specs.Requests.{is_answered, code_of, asked_by};
+ghost use Rattle.pb_messages.specs.Requests.{is_answered, may_go_to, code_of, asked_by};
 
 /// A service of the data link layer (IEC 61158-4-3, data link service).
 #[derive(Clone, Copy, Debug, Default, PartialEq, Eq)]
@@ -33,6 +33,14 @@ impl Service {
             Service::Sda | Service::Srd => true,
             Service::Sdn => false,
         }
+    }
+
+    /// Whether a request of the service may go to an address: to a station's, 0 to 126, or to 127, all stations, where the
+    /// service isn't answered.
+    pub fn may_go_to(self, address: u8) -> bool
+        ensures { result ≡ may_go_to self address }
+    {
+        address < 127 || (address == 127 && !self.is_answered())
     }
 
     /// The function code of the service, with high priority or not.

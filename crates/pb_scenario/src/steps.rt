@@ -188,7 +188,7 @@ fn request(fields: Fields<'_>) -> Result<Request, ScenarioFault>
 {
     let service = service(fields)?;
     let to = fields.number(Key::To, 0, 255)? as u8;
-    if to > 127 || (to == 127 && service.is_answered()) {
+    if !service.may_go_to(to) {
         return Err(ScenarioFault::BadValue(fields.path(Key::To)));
     }
     let high = fields.flag(Key::High)?;
