@@ -1,7 +1,6 @@
 ghost use Rattle.std.specs.Prelude.{◌≡◌, ◌+◌, ◌≤◌, ◌&&◌, IfSome, if◌then◌else◌, Some, None, map};
 ghost use Rattle.std.specs.List.{list_any};
 ghost use Rattle.std.specs.Option.{option_map};
-ghost use Rattle.pb_turn.specs.Stations as stations;
 ghost use Rattle.pb_model.specs.World.{clock_limit};
 ghost use Rattle.pb_medium.specs.Entries.{entry_of};
 ghost use Rattle.pb_runs.specs.Bus.{is_in_air, started_now};
@@ -10,6 +9,7 @@ ghost use Rattle.pb_taps.specs.Taps.{tap_of};
 
 use crate::buses::Bus;
 use crate::passes::moment_of;
+use pb_core::earlier;
 use pb_medium::{Entry, next_begin, next_end, something_lasts};
 use pb_taps::Tap;
 use pb_timers::Moment;
@@ -60,15 +60,4 @@ fn known_of(begin: Option<u64>) -> Option<Moment>
 {
     let begin = moment_of(begin)?;
     begin.add(1).ok()
-}
-
-/// The earlier of two moments, if there are any.
-fn earlier(one: Option<Moment>, two: Option<Moment>) -> Option<Moment>
-    ensures { result ≡ stations.earlier one two }
-{
-    match (one, two) {
-        (Some(one), Some(two)) => Some(one.min(two)),
-        (Some(one), None) => Some(one),
-        (None, two) => two,
-    }
 }

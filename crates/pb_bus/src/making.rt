@@ -5,9 +5,10 @@ ghost use Rattle.pb_taps.specs.Faults.{RefusesNew};
 ghost use Rattle.pb_taps.specs.Taps.{spec_of};
 
 use crate::buses::Bus;
+use pb_core::beginning;
 use pb_medium::Trace;
 use pb_station::{SendBuffer, Spares};
-use pb_taps::{NewFault, TapSpec, beginning, check_taps, new_taps};
+use pb_taps::{NewFault, TapSpec, check_taps, new_taps};
 use pb_timers::BusParams;
 use std::alloc::Global;
 

@@ -1,5 +1,6 @@
 ghost use Rattle.std.specs.Prelude.{◌≡◌, ◌≤◌, ◌+◌, max};
 ghost use Rattle.pb_timers.specs.Timers.{last_moment};
+ghost use Rattle.pb_turn.specs.Stations.{earlier};
 
 use pb_timers::{Moment, bits};
 use std::marker::Model;
@@ -65,6 +66,23 @@ impl PastMoment {
         } else {
             self
         }
+    }
+}
+
+/// The moment at which a clock begins.
+pub fn beginning() -> Moment
+    ensures { result ≡ 0 }
+{
+    Moment::new(0).unwrap()
+}
+
+/// The earlier of two moments, of which either may be missing.
+pub fn earlier(one: Option<Moment>, two: Option<Moment>) -> Option<Moment>
+    ensures { result ≡ earlier one two }
+{
+    match (one, two) {
+        (Some(one), Some(two)) => Some(if two < one { two } else { one }),
+        (one, two) => one.or(two),
     }
 }
 

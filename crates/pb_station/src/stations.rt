@@ -9,7 +9,7 @@ use crate::inboxes::Inbox;
 use crate::marks::Mark;
 use crate::turns::{due_of, due_on, read_on, speak_on, take_turn, would_speak};
 use arrayvec::ArrayVec;
-use pb_core::{Address, Core, Cycles, Kept, Past, SendBuffer, Waiting, copy_outcome};
+use pb_core::{Address, Core, Cycles, Kept, Past, SendBuffer, Waiting, beginning, copy_outcome};
 use pb_cycles::{Outcome, Queue, Request};
 use pb_ring::{Gap, Las};
 use pb_rotation::Rotation;
@@ -97,13 +97,6 @@ fn new_kept(address: Address, params: &BusParams, reply: ArrayVec<u8, 246>, now:
         rotation: Rotation::new(params.ttr()),
         cycles: Cycles::new(params, reply),
     }
-}
-
-/// The moment at which a clock begins.
-fn beginning() -> Moment
-    ensures { result ≡ 0 }
-{
-    Moment::new(0).unwrap()
 }
 
 /// A core as its station starts: a master listens for the ring, a passive station waits for requests.

@@ -12,7 +12,7 @@ ghost use Rattle.pb_station.specs.MarkViews.{mark_of, AllOver, AreOver};
 use crate::inboxes::{Inbox, Unread};
 use crate::marks::Mark;
 use crate::reading::{after_marks, after_notes};
-use pb_core::{Core, Kept, SendBuffer, after};
+use pb_core::{Core, Kept, SendBuffer, after, earlier};
 use pb_phases::{after_timer, speak, speaks_at, timer, would_say};
 use pb_timers::{BusParams, Moment};
 use pb_tokenfsm::Phase;
@@ -149,16 +149,6 @@ fn has_come(moment: Option<Moment>, now: Moment) -> bool
     match moment {
         Some(moment) => moment <= now,
         None => false,
-    }
-}
-
-/// The earlier of two moments, of which either may be missing.
-fn earlier(a: Option<Moment>, b: Option<Moment>) -> Option<Moment>
-    ensures { result ≡ earlier a b }
-{
-    match (a, b) {
-        (Some(a), Some(b)) => Some(if b < a { b } else { a }),
-        (a, b) => a.or(b),
     }
 }
 
