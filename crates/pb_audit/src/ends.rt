@@ -8,9 +8,7 @@ ghost use Rattle.pb_audit.specs.Ends.{AreEnds, HaveMore};
 
 use crate::activity::{active_at, is_active};
 use pb_medium::Entry;
-
-/// How many taps a bus may have.
-const TAPS: usize = 127;
+use pb_taps::TAP_LIMIT;
 
 /// The latest end at each tap of those entries of a trace that have begun at all taps, in bit times.
 #[derive(Debug, Drop)]
@@ -20,7 +18,7 @@ pub(crate) struct Ends {
     /// How many taps there are.
     taps: usize,
     /// By tap: what stands behind them counts for nothing.
-    latest: [u64; TAPS],
+    latest: [u64; TAP_LIMIT],
 }
 
 impl Ends {
@@ -37,8 +35,8 @@ impl Ends {
     {
         Ends {
             begun: 0,
-            taps: taps.min(TAPS),
-            latest: [0; TAPS],
+            taps: taps.min(TAP_LIMIT),
+            latest: [0; TAP_LIMIT],
         }
     }
 
@@ -78,7 +76,7 @@ impl Ends {
 }
 
 /// The latest end at each of so many taps with one entry more.
-fn take_on(latest: &mut [u64; TAPS], taps: usize, entry: &Entry, delay: u32)
+fn take_on(latest: &mut [u64; TAP_LIMIT], taps: usize, entry: &Entry, delay: u32)
     requires { taps ≤ 127 }
     ensures size { length latest.new ≡ length latest.old }
     ensures more { HaveMore delay taps (entry_of entry.now) latest.old latest.new }

@@ -15,15 +15,12 @@ ghost use Rattle.pb_taps.specs.Taps.{tap_of};
 
 use crate::activity::is_active;
 use pb_bus::Bus;
-use pb_taps::{Event, Tap, WorldFault};
+use pb_taps::{Event, TAP_LIMIT, Tap, WorldFault};
 use pb_timers::Moment;
 use std::alloc::Global;
 
 /// How many addresses a station may have: 0 to 126.
 const ADDRESSES: usize = 127;
-
-/// How many taps a bus may have.
-const TAPS: usize = 127;
 
 /// What has to hold of a bus, so that one station at most may initiate.
 #[derive(Clone, Copy, Debug)]
@@ -74,7 +71,7 @@ pub(crate) struct Foresight {
 #[derive(Clone, Copy, Debug)]
 pub(crate) struct Watch {
     /// The moment since which each tap has been in silence, in bit times.
-    quiet: [u64; TAPS],
+    quiet: [u64; TAP_LIMIT],
     /// No tap has been in silence since before this moment.
     oldest: u64,
     /// Whether two running taps have one address.
@@ -100,7 +97,7 @@ impl Watch {
         ensures namesakes { result.namesakes ≡ false }
     {
         Watch {
-            quiet: [0; TAPS],
+            quiet: [0; TAP_LIMIT],
             oldest: 0,
             namesakes: false,
             waited: None,
@@ -158,7 +155,7 @@ pub(crate) fn follow(
 
 /// An event is about to happen: while time passes in it, those taps at which something is active are no longer in
 /// silence. Answers a moment since before which none has been.
-fn listen(quiet: &mut [u64; TAPS], oldest: u64, bus: &Bus, event: &Event) -> u64
+fn listen(quiet: &mut [u64; TAP_LIMIT], oldest: u64, bus: &Bus, event: &Event) -> u64
     requires kept { IsKept bus.now }
     requires silent { IsQuiet (world_of bus.now) quiet.old }
     requires oldest { IsOldest oldest (length bus.now.taps.items) quiet.old }
@@ -175,7 +172,7 @@ fn listen(quiet: &mut [u64; TAPS], oldest: u64, bus: &Bus, event: &Event) -> u64
 }
 
 /// The least of the first of some moments.
-fn oldest_of(quiet: &[u64; TAPS], taps: usize) -> u64
+fn oldest_of(quiet: &[u64; TAP_LIMIT], taps: usize) -> u64
     requires { taps ≤ 127 }
     ensures { IsOldest result taps quiet.now }
 {
@@ -197,7 +194,7 @@ fn time_in(event: &Event) -> Option<u64>
 }
 
 /// Taps at which something is active before a moment are no longer in silence.
-fn listen_to(quiet: &mut [u64; TAPS], bus: &Bus, to: u64)
+fn listen_to(quiet: &mut [u64; TAP_LIMIT], bus: &Bus, to: u64)
     requires { IsKept bus.now }
     ensures { HaveHeard (world_of bus.entry.now) to quiet.old quiet.new }
 {
@@ -343,7 +340,7 @@ fn has_waited(bus: &Bus, position: usize, tap: &Tap, quiet: u64) -> bool
 }
 
 /// The first tap from a position on that has waited out its time-out.
-fn first_waiting(bus: &Bus, quiet: &[u64; TAPS], from: usize) -> Option<usize>
+fn first_waiting(bus: &Bus, quiet: &[u64; TAP_LIMIT], from: usize) -> Option<usize>
     requires kept { IsKept bus.now }
     requires silent { IsQuiet (world_of bus.now) quiet.now }
     requires place { from ≤ length bus.now.taps.items }
@@ -358,7 +355,7 @@ fn first_waiting(bus: &Bus, quiet: &[u64; TAPS], from: usize) -> Option<usize>
 }
 
 /// The taps that have waited out their time-outs: none where no tap has been in silence for the shortest time-out.
-fn waiting_now(bus: &Bus, quiet: &[u64; TAPS], oldest: u64) -> Waiting
+fn waiting_now(bus: &Bus, quiet: &[u64; TAP_LIMIT], oldest: u64) -> Waiting
     requires kept { IsKept bus.now }
     requires silent { IsQuiet (world_of bus.now) quiet.now }
     requires oldest { IsOldest oldest (length bus.now.taps.items) quiet.now }
@@ -371,7 +368,7 @@ fn waiting_now(bus: &Bus, quiet: &[u64; TAPS], oldest: u64) -> Waiting
 }
 
 /// The taps that have waited out their time-outs, by a look at each.
-fn waiting_taps(bus: &Bus, quiet: &[u64; TAPS]) -> Waiting
+fn waiting_taps(bus: &Bus, quiet: &[u64; TAP_LIMIT]) -> Waiting
     requires kept { IsKept bus.now }
     requires silent { IsQuiet (world_of bus.now) quiet.now }
     ensures { result ≡ waiting_of (waited_by (world_of bus.entry.now) 0 (world_of bus.entry.now).taps) }

@@ -13,7 +13,7 @@ mod turning;
 pub use events::{Event, Reply};
 pub use faults::{NewFault, WorldFault};
 pub use glancing::{fits, fits_decided, glance};
-pub use making::{check_taps, new_taps};
+pub use making::{TAP_LIMIT, check_taps, new_taps};
 pub use queueing::{check_queue, queue};
 pub use taps::{Kind, Tap, TapSpec};
 pub use turning::{Replaced, check_running, take_decided, take_turn, would_speak};

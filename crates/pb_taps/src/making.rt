@@ -20,7 +20,7 @@ use pb_timers::BusParams;
 use std::alloc::Global;
 
 /// How many taps a bus may have.
-const TAP_LIMIT: usize = 127;
+pub const TAP_LIMIT: usize = 127;
 
 /// The highest address of a station.
 const HIGHEST_ADDRESS: u32 = 126;
