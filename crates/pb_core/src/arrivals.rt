@@ -9,24 +9,10 @@ ghost use Rattle.pb_core.specs.Arrivals.{brings};
 
 use arrayvec::ArrayVec;
 use pb_telegram::{
-    Receiver, RxChar, ShortTelegram, Telegram, TokenTelegram, VarTelegram, copy_octets, fcs,
-    spelled_unit_is_the_telegrams, what_is_spelled_has_no_fault,
+    ACKNOWLEDGEMENT, END, Receiver, RxChar, SHORT_START, ShortTelegram, TOKEN_START, Telegram,
+    TokenTelegram, VAR_START, VarTelegram, copy_octets, fcs, spelled_unit_is_the_telegrams,
+    what_is_spelled_has_no_fault,
 };
-
-/// The octet with which a token begins.
-const TOKEN_START: u8 = 0xdc;
-
-/// The octet with which a telegram without data begins.
-const SHORT_START: u8 = 0x10;
-
-/// The octet with which a telegram with data of variable length begins, twice: before its lengths and behind them.
-const VAR_START: u8 = 0x68;
-
-/// The octet that is the short acknowledgement.
-const ACKNOWLEDGEMENT: u8 = 0xe5;
-
-/// The octet with which a telegram with a control octet ends.
-const END: u8 = 0x16;
 
 /// The telegram that the characters of a burst bring; none where they are not one that is whole.
 pub fn whole_telegram(chars: &[RxChar]) -> Option<Telegram>

@@ -28,5 +28,8 @@ pub use laws::{
 };
 pub use parsing::parse;
 pub use receiving::Receiver;
-pub use telegrams::{Fixed8Telegram, ShortTelegram, Telegram, TokenTelegram, VarTelegram};
+pub use telegrams::{
+    ACKNOWLEDGEMENT, END, Fixed8Telegram, SHORT_START, ShortTelegram, TOKEN_START, Telegram,
+    TokenTelegram, VAR_START, VarTelegram,
+};
 pub use writing::{write, write_in};
