@@ -60,9 +60,5 @@ pub fn audit_file<R: Source, W: Sink>(
     let file = read_input(alloc, reader)?;
     let shown = audited(alloc, &file)?;
     write_out(writer, &shown.text)?;
-    Ok(if shown.is_refused {
-        Status::Refused
-    } else {
-        Status::Done
-    })
+    Ok(Status::of(shown.is_refused))
 }

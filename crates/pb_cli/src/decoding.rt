@@ -58,9 +58,5 @@ pub fn decode_lines<R: Source, W: Sink>(
     let input = read_input(alloc, reader)?;
     let decoded = decode(alloc, &input)?;
     write_out(writer, &decoded.text)?;
-    Ok(if decoded.is_refused {
-        Status::Refused
-    } else {
-        Status::Done
-    })
+    Ok(Status::of(decoded.is_refused))
 }

@@ -13,6 +13,21 @@ pub enum Status {
     Refused,
 }
 
+impl Status {
+    ghost use Rattle.pb_cli.specs.Statuses.{status_of};
+
+    /// How a call ended, by whether what it wrote tells of a refusal.
+    pub(crate) fn of(is_refused: bool) -> Status
+        ensures { result ≡ status_of is_refused }
+    {
+        if is_refused {
+            Status::Refused
+        } else {
+            Status::Done
+        }
+    }
+}
+
 /// Why a call did not write its whole text. Shown, it is the program's words for it.
 #[derive(Clone, Copy, Debug, PartialEq, Eq, Error)]
 pub enum CliFault {

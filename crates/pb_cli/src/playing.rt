@@ -74,11 +74,7 @@ pub fn play<T: Threads + Wait + Sync, R: Source, W: Sink>(
     let file = read_input(alloc, reader)?;
     let shown = played(rt, alloc, &file, workers, last)?;
     write_out(writer, &shown.text)?;
-    Ok(if shown.is_refused {
-        Status::Refused
-    } else {
-        Status::Done
-    })
+    Ok(Status::of(shown.is_refused))
 }
 
 /// What is written for the run of a scenario file.
