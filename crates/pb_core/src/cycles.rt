@@ -31,30 +31,6 @@ pub fn copy_outcome(last: &Option<(u8, Outcome)>) -> Option<(u8, Outcome)>
     }
 }
 
-/// Becomes what another is. It is a call of its own since often there is none, and its room is then not moved.
-#[inline(never)]
-fn become_outcome(last: &mut Option<(u8, Outcome)>, other: &Option<(u8, Outcome)>)
-    ensures { last.new ≡ other.now }
-{
-    match other {
-        Some((of, outcome)) => put_outcome(last, *of, outcome),
-        None => *last = None,
-    }
-}
-
-/// An outcome is the last, with its station.
-fn put_outcome(last: &mut Option<(u8, Outcome)>, of: u8, outcome: &Outcome)
-    ensures { last.new ≡ Some (of, outcome.now) }
-{
-    match last {
-        Some((station, last)) => {
-            *station = of;
-            last.copy_from(outcome);
-        }
-        None => *last = Some((of, outcome.copy())),
-    }
-}
-
 /// The open request is given up, as nobody answered it.
 #[tactic(auto, using(crate::proofs::Closing::last_of))]
 pub fn give_up(cycles: &mut Cycles)
@@ -77,15 +53,6 @@ pub fn hear(cycles: &mut Cycles, telegram: &Telegram) -> bool
     let answered = outcome.is_some();
     keep_outcome(&mut cycles.last_outcome, of, outcome);
     answered
-}
-
-/// An outcome, if there is one, is the last, with its station.
-fn keep_outcome(last: &mut Option<(u8, Outcome)>, of: Option<u8>, outcome: Option<Outcome>)
-    ensures { last.new ≡ outcome_at of outcome last.old }
-{
-    if let (Some(of), Some(outcome)) = (of, outcome) {
-        *last = Some((of, outcome));
-    }
 }
 
 impl Cycles {
@@ -120,5 +87,38 @@ impl Cycles {
             responder: self.responder.copy(),
             last_outcome: copy_outcome(&self.last_outcome),
         }
+    }
+}
+
+/// Becomes what another is. It is a call of its own since often there is none, and its room is then not moved.
+#[inline(never)]
+fn become_outcome(last: &mut Option<(u8, Outcome)>, other: &Option<(u8, Outcome)>)
+    ensures { last.new ≡ other.now }
+{
+    match other {
+        Some((of, outcome)) => put_outcome(last, *of, outcome),
+        None => *last = None,
+    }
+}
+
+/// An outcome is the last, with its station.
+fn put_outcome(last: &mut Option<(u8, Outcome)>, of: u8, outcome: &Outcome)
+    ensures { last.new ≡ Some (of, outcome.now) }
+{
+    match last {
+        Some((station, last)) => {
+            *station = of;
+            last.copy_from(outcome);
+        }
+        None => *last = Some((of, outcome.copy())),
+    }
+}
+
+/// An outcome, if there is one, is the last, with its station.
+fn keep_outcome(last: &mut Option<(u8, Outcome)>, of: Option<u8>, outcome: Option<Outcome>)
+    ensures { last.new ≡ outcome_at of outcome last.old }
+{
+    if let (Some(of), Some(outcome)) = (of, outcome) {
+        *last = Some((of, outcome));
     }
 }

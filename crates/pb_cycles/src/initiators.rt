@@ -41,33 +41,6 @@ impl OpenRequest {
     }
 }
 
-/// Becomes what another is. It is a call of its own since a request is seldom open, and its room is then not moved.
-#[inline(never)]
-fn copy_pending(pending: &mut Option<OpenRequest>, other: &Option<OpenRequest>)
-    ensures { pending.new ≡ other.now }
-{
-    match other {
-        Some(request) => become_open(pending, request),
-        None => *pending = None,
-    }
-}
-
-/// The same request is open.
-fn become_open(pending: &mut Option<OpenRequest>, request: &OpenRequest)
-    ensures { pending.new ≡ Some request.now }
-{
-    match pending {
-        Some(pending) => pending.copy_from(request),
-        None => *pending = Some(request.copy()),
-    }
-}
-
-fn is_same_request(one: &Option<OpenRequest>, other: &Option<OpenRequest>) -> bool
-    ensures { IsTrue result ↔ (one.now ≡ other.now) }
-{
-    one == other
-}
-
 /// The side of message cycles that asks: frame count bits, retries, and what replies mean
 /// (EN 50170-2, message cycles).
 #[derive(Debug, Drop)]
@@ -240,4 +213,31 @@ impl Initiator {
         self.pending = None;
         Some(Outcome::NoAnswer)
     }
+}
+
+/// Becomes what another is. It is a call of its own since a request is seldom open, and its room is then not moved.
+#[inline(never)]
+fn copy_pending(pending: &mut Option<OpenRequest>, other: &Option<OpenRequest>)
+    ensures { pending.new ≡ other.now }
+{
+    match other {
+        Some(request) => become_open(pending, request),
+        None => *pending = None,
+    }
+}
+
+/// The same request is open.
+fn become_open(pending: &mut Option<OpenRequest>, request: &OpenRequest)
+    ensures { pending.new ≡ Some request.now }
+{
+    match pending {
+        Some(pending) => pending.copy_from(request),
+        None => *pending = Some(request.copy()),
+    }
+}
+
+fn is_same_request(one: &Option<OpenRequest>, other: &Option<OpenRequest>) -> bool
+    ensures { IsTrue result ↔ (one.now ≡ other.now) }
+{
+    one == other
 }

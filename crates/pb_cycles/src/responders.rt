@@ -41,27 +41,6 @@ impl Kept {
     }
 }
 
-/// Becomes what another is. It is a call of its own since often nothing is kept, and its room is then not moved.
-#[inline(never)]
-fn copy_kept(kept: &mut Option<Kept>, other: &Option<Kept>)
-    ensures { kept.new ≡ other.now }
-{
-    match other {
-        Some(last) => keep(kept, last),
-        None => *kept = None,
-    }
-}
-
-/// The same is kept.
-fn keep(kept: &mut Option<Kept>, last: &Kept)
-    ensures { kept.new ≡ Some last.now }
-{
-    match kept {
-        Some(kept) => kept.copy_from(last),
-        None => *kept = Some(last.copy()),
-    }
-}
-
 /// The side of message cycles that answers (EN 50170-2, message cycles). It executes a request once,
 /// also where it comes again.
 #[derive(Debug, PartialEq, Eq, Drop)]
@@ -83,65 +62,6 @@ impl Model for Responder {
       kept = t.kept;
       executed = t.executed;
     } };
-}
-
-/// A reply telegram from `ts`, whose type is `station_type`, to the station that sent the request.
-fn reply_frame(ts: u8, station_type: u8, request: &Frame, code: u8, unit: &[u8]) -> Reply
-    requires station { ts ≤ 126 }
-    requires type_bits { station_type ≤ 3 }
-    requires code_bits { code < 16 }
-    requires unit_fits { length unit.now ≤ 246 }
-    ensures { result ≡ reply_frame ts station_type request.now code unit.now }
-{
-    let fc = 16 * station_type + code;
-    Reply::Answer(Frame::new(request.sa() % 128, ts, fc, copy_octets(unit)))
-}
-
-/// The reply to an SRD: the reply data with the priority of the request, or none.
-fn data_reply(ts: u8, station_type: u8, request: &Frame, high: bool, unit: &[u8]) -> Reply
-    requires station { ts ≤ 126 }
-    requires type_bits { station_type ≤ 3 }
-    requires unit_fits { length unit.now ≤ 246 }
-    ensures { result ≡ data_reply ts station_type request.now high unit.now }
-{
-    if unit.is_empty() {
-        return reply_frame(ts, station_type, request, 9, &[]);
-    }
-    let code = if high { 10 } else { 8 };
-    reply_frame(ts, station_type, request, code, unit)
-}
-
-/// The reply of a service that is executed. No service takes an address extension.
-fn service_reply(
-    ts: u8,
-    station_type: u8,
-    request: &Frame,
-    service: Service,
-    high: bool,
-    unit: &[u8],
-) -> Reply
-    requires station { ts ≤ 126 }
-    requires type_bits { station_type ≤ 3 }
-    requires unit_fits { length unit.now ≤ 246 }
-    ensures { result ≡ service_reply ts station_type request.now service high unit.now }
-{
-    match service {
-        Service::Sdn => Reply::Acknowledge,
-        Service::Sda | Service::Srd if request.da() & 0x80 != 0 => {
-            reply_frame(ts, station_type, request, 3, &[])
-        }
-        Service::Sda => Reply::Acknowledge,
-        Service::Srd => data_reply(ts, station_type, request, high, unit),
-    }
-}
-
-/// Whether an SDA or SRD is a repeat of the one before: its frame count bit counts, and requester and
-/// bit are the same.
-fn is_repeat(kept: &Kept, request: &Frame) -> bool
-    ensures { result ≡ is_repeat (Some kept.now) request.now }
-{
-    let fc = Fc(request.fc());
-    fc.fcv() && kept.requester == request.sa() % 128 && kept.bit == fc.fcb()
 }
 
 impl Responder {
@@ -305,4 +225,84 @@ impl Responder {
         self.count_one();
         answer
     }
+}
+
+/// Becomes what another is. It is a call of its own since often nothing is kept, and its room is then not moved.
+#[inline(never)]
+fn copy_kept(kept: &mut Option<Kept>, other: &Option<Kept>)
+    ensures { kept.new ≡ other.now }
+{
+    match other {
+        Some(last) => keep(kept, last),
+        None => *kept = None,
+    }
+}
+
+/// The same is kept.
+fn keep(kept: &mut Option<Kept>, last: &Kept)
+    ensures { kept.new ≡ Some last.now }
+{
+    match kept {
+        Some(kept) => kept.copy_from(last),
+        None => *kept = Some(last.copy()),
+    }
+}
+
+/// A reply telegram from `ts`, whose type is `station_type`, to the station that sent the request.
+fn reply_frame(ts: u8, station_type: u8, request: &Frame, code: u8, unit: &[u8]) -> Reply
+    requires station { ts ≤ 126 }
+    requires type_bits { station_type ≤ 3 }
+    requires code_bits { code < 16 }
+    requires unit_fits { length unit.now ≤ 246 }
+    ensures { result ≡ reply_frame ts station_type request.now code unit.now }
+{
+    let fc = 16 * station_type + code;
+    Reply::Answer(Frame::new(request.sa() % 128, ts, fc, copy_octets(unit)))
+}
+
+/// The reply to an SRD: the reply data with the priority of the request, or none.
+fn data_reply(ts: u8, station_type: u8, request: &Frame, high: bool, unit: &[u8]) -> Reply
+    requires station { ts ≤ 126 }
+    requires type_bits { station_type ≤ 3 }
+    requires unit_fits { length unit.now ≤ 246 }
+    ensures { result ≡ data_reply ts station_type request.now high unit.now }
+{
+    if unit.is_empty() {
+        return reply_frame(ts, station_type, request, 9, &[]);
+    }
+    let code = if high { 10 } else { 8 };
+    reply_frame(ts, station_type, request, code, unit)
+}
+
+/// The reply of a service that is executed. No service takes an address extension.
+fn service_reply(
+    ts: u8,
+    station_type: u8,
+    request: &Frame,
+    service: Service,
+    high: bool,
+    unit: &[u8],
+) -> Reply
+    requires station { ts ≤ 126 }
+    requires type_bits { station_type ≤ 3 }
+    requires unit_fits { length unit.now ≤ 246 }
+    ensures { result ≡ service_reply ts station_type request.now service high unit.now }
+{
+    match service {
+        Service::Sdn => Reply::Acknowledge,
+        Service::Sda | Service::Srd if request.da() & 0x80 != 0 => {
+            reply_frame(ts, station_type, request, 3, &[])
+        }
+        Service::Sda => Reply::Acknowledge,
+        Service::Srd => data_reply(ts, station_type, request, high, unit),
+    }
+}
+
+/// Whether an SDA or SRD is a repeat of the one before: its frame count bit counts, and requester and
+/// bit are the same.
+fn is_repeat(kept: &Kept, request: &Frame) -> bool
+    ensures { result ≡ is_repeat (Some kept.now) request.now }
+{
+    let fc = Fc(request.fc());
+    fc.fcv() && kept.requester == request.sa() % 128 && kept.bit == fc.fcb()
 }

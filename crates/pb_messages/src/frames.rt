@@ -30,44 +30,6 @@ impl Model for Frame {
     ghost inverse = { λ f. record { da = f.da; sa = f.sa; fc = f.fc; unit = record { items = f.unit } } };
 }
 
-/// The telegram of these fields: its form goes by how many octets of data it has.
-fn form(da: u8, sa: u8, fc: u8, unit: &[u8]) -> Telegram
-    requires sa { sa % 128 < 127 }
-    requires fc { fc < 128 }
-    requires unit { length unit.now ≤ 246 }
-    ensures octets { spelling result ≡ frame_octets (record { da = da; sa = sa; fc = fc; unit = unit.now }) }
-    ensures message { message_of result ≡ Framed (record { da = da; sa = sa; fc = fc; unit = unit.now }) }
-    ensures initiator { IsBitSet fc 6 → IsInitiator result }
-{
-    if unit.is_empty() {
-        return Telegram::Short(ShortTelegram { da, sa, fc });
-    }
-    if unit.len() == 8 {
-        return Telegram::Fixed8(Fixed8Telegram {
-            da,
-            sa,
-            fc,
-            unit: eight_octets(unit),
-        });
-    }
-    Telegram::Var(VarTelegram {
-        da,
-        sa,
-        fc,
-        unit: copy_octets(unit),
-    })
-}
-
-/// Eight octets as an array.
-fn eight_octets(unit: &[u8]) -> [u8; 8]
-    requires { length unit.now ≡ 8 }
-    ensures { result ≡ unit.now }
-{
-    let mut eight = [0; 8];
-    eight.copy_from_slice(unit);
-    eight
-}
-
 impl Frame {
     /// The fields of a telegram. The caller's conditions: bits 0 to 6 of SA are the address of a station,
     /// at most 126, and bit 7 of FC is clear.
@@ -139,4 +101,42 @@ impl Frame {
     {
         form(self.da, self.sa, self.fc, &self.unit)
     }
+}
+
+/// The telegram of these fields: its form goes by how many octets of data it has.
+fn form(da: u8, sa: u8, fc: u8, unit: &[u8]) -> Telegram
+    requires sa { sa % 128 < 127 }
+    requires fc { fc < 128 }
+    requires unit { length unit.now ≤ 246 }
+    ensures octets { spelling result ≡ frame_octets (record { da = da; sa = sa; fc = fc; unit = unit.now }) }
+    ensures message { message_of result ≡ Framed (record { da = da; sa = sa; fc = fc; unit = unit.now }) }
+    ensures initiator { IsBitSet fc 6 → IsInitiator result }
+{
+    if unit.is_empty() {
+        return Telegram::Short(ShortTelegram { da, sa, fc });
+    }
+    if unit.len() == 8 {
+        return Telegram::Fixed8(Fixed8Telegram {
+            da,
+            sa,
+            fc,
+            unit: eight_octets(unit),
+        });
+    }
+    Telegram::Var(VarTelegram {
+        da,
+        sa,
+        fc,
+        unit: copy_octets(unit),
+    })
+}
+
+/// Eight octets as an array.
+fn eight_octets(unit: &[u8]) -> [u8; 8]
+    requires { length unit.now ≡ 8 }
+    ensures { result ≡ unit.now }
+{
+    let mut eight = [0; 8];
+    eight.copy_from_slice(unit);
+    eight
 }

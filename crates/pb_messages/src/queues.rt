@@ -32,43 +32,6 @@ impl Model for Queue {
     ghost inverse = { λ q. record { high = record { items = q.high }; low = record { items = q.low } } };
 }
 
-/// Puts the request behind the others, or hands it back where there are 16.
-fn push(list: &mut ArrayVec<Request, 16>, request: Request) -> Result<(), QueueFull>
-    ensures ok { OnOk result (list.new.items ≡ list.old.items ++ request ∷ []) }
-    ensures room { OnOk result (length list.old.items < 16) }
-    ensures full { OnErr result (length list.old.items ≡ 16) }
-    ensures kept { OnErr result (list.new.items ≡ list.old.items) }
-    ensures handed_back { IfErr result (λ refused. refused.request ≡ request) }
-{
-    match list.try_push(request) {
-        Ok(()) => Ok(()),
-        Err(refused) => Err(QueueFull {
-            request: refused.element(),
-        }),
-    }
-}
-
-/// Takes the request that has waited longest.
-fn take(list: &mut ArrayVec<Request, 16>) -> Option<Request>
-    ensures first { MatchOption result (list.old.items ≡ []) (λ request. list.old.items
-        ≡ request ∷ list.new.items) }
-    ensures none { IfNone result (list.new.items ≡ []) }
-{
-    list.pop_at(0)
-}
-
-/// A list of these requests.
-fn list_of(requests: &[Request]) -> ArrayVec<Request, 16>
-    requires { length requests.now ≤ 16 }
-    ensures { result.items ≡ requests.now }
-{
-    let mut list = ArrayVec::new();
-    for request in requests {
-        list.push(request.copy());
-    }
-    list
-}
-
 impl Queue {
     /// A queue in which nothing waits.
     pub fn new() -> Queue
@@ -150,4 +113,41 @@ impl Queue {
     {
         self.low.len()
     }
+}
+
+/// Puts the request behind the others, or hands it back where there are 16.
+fn push(list: &mut ArrayVec<Request, 16>, request: Request) -> Result<(), QueueFull>
+    ensures ok { OnOk result (list.new.items ≡ list.old.items ++ request ∷ []) }
+    ensures room { OnOk result (length list.old.items < 16) }
+    ensures full { OnErr result (length list.old.items ≡ 16) }
+    ensures kept { OnErr result (list.new.items ≡ list.old.items) }
+    ensures handed_back { IfErr result (λ refused. refused.request ≡ request) }
+{
+    match list.try_push(request) {
+        Ok(()) => Ok(()),
+        Err(refused) => Err(QueueFull {
+            request: refused.element(),
+        }),
+    }
+}
+
+/// Takes the request that has waited longest.
+fn take(list: &mut ArrayVec<Request, 16>) -> Option<Request>
+    ensures first { MatchOption result (list.old.items ≡ []) (λ request. list.old.items
+        ≡ request ∷ list.new.items) }
+    ensures none { IfNone result (list.new.items ≡ []) }
+{
+    list.pop_at(0)
+}
+
+/// A list of these requests.
+fn list_of(requests: &[Request]) -> ArrayVec<Request, 16>
+    requires { length requests.now ≤ 16 }
+    ensures { result.items ≡ requests.now }
+{
+    let mut list = ArrayVec::new();
+    for request in requests {
+        list.push(request.copy());
+    }
+    list
 }

@@ -38,26 +38,6 @@ impl Model for Rotation {
     ghost inverse = { rotation_inside };
 }
 
-/// The receipt before one at a moment.
-fn before(last: Option<Receipt>, at: Moment) -> Moment
-    ensures { result ≡ model.before (option_map receipt_of last) at }
-{
-    match last {
-        Some(last) => last.at,
-        None => at,
-    }
-}
-
-/// A receipt since which a high priority cycle was started.
-fn used(last: Option<Receipt>) -> Option<Receipt>
-    ensures { option_map receipt_of result ≡ option_map model.used (option_map receipt_of last) }
-{
-    match last {
-        Some(last) => Some(Receipt { high: true, ..last }),
-        None => None,
-    }
-}
-
 impl Rotation {
     ghost use Rattle.std.specs.Prelude.{◌≡◌, ◌∷◌, [], ◌++◌, ◌+◌, ◌-◌, ◌||◌, not, nat_lt, ℕ, List, IsSome, IfSome};
     ghost use Rattle.pb_rotation.specs.Receipts as heard;
@@ -144,5 +124,25 @@ impl Rotation {
             → IfSome (heard.measured_from happenings) (λ from. result ≡ nat_lt 0 (from + ttr - now)) }
     {
         self.holding_left(now) > 0
+    }
+}
+
+/// The receipt before one at a moment.
+fn before(last: Option<Receipt>, at: Moment) -> Moment
+    ensures { result ≡ model.before (option_map receipt_of last) at }
+{
+    match last {
+        Some(last) => last.at,
+        None => at,
+    }
+}
+
+/// A receipt since which a high priority cycle was started.
+fn used(last: Option<Receipt>) -> Option<Receipt>
+    ensures { option_map receipt_of result ≡ option_map model.used (option_map receipt_of last) }
+{
+    match last {
+        Some(last) => Some(Receipt { high: true, ..last }),
+        None => None,
     }
 }

@@ -80,48 +80,6 @@ impl Parts {
     }
 }
 
-/// What a station keeps that has neither heard nor said anything since a moment.
-fn new_kept(address: Address, params: &BusParams, reply: ArrayVec<u8, 246>, now: Moment) -> Kept
-    requires { now ≤ last_turn }
-    ensures { station_with result (record { high = []; low = [] }) phases.Offline
-        ≡ record (turn.new_station params.now address reply.items)
-        { quiet = now; own = record { begin = now; end = now } } }
-{
-    Kept {
-        address,
-        busy: false,
-        past: Past::started(now),
-        reply: None,
-        las: Las::listening(),
-        gap: Gap::fresh(),
-        rotation: Rotation::new(params.ttr()),
-        cycles: Cycles::new(params, reply),
-    }
-}
-
-/// A core as its station starts: a master listens for the ring, a passive station waits for requests.
-fn start_core(core: &mut Core, params: &BusParams, master: bool, now: Moment)
-    requires { now ≤ last_turn }
-    ensures { station_of core.new ≡ turn.started params.now (station_of core.old) master now }
-{
-    let reply = copy_octets(core.kept.cycles.responder.data());
-    core.kept = new_kept(core.kept.address, params, reply, now);
-    core.waiting.clear();
-    core.phase = if master {
-        Phase::Listening(Listening::new())
-    } else {
-        Phase::PassiveIdle(PassiveIdle)
-    };
-}
-
-/// A core whose station stops: it says nothing more.
-fn stop_core(core: &mut Core)
-    ensures { station_of core.new ≡ turn.stopped (station_of core.old) }
-{
-    core.phase = Phase::Offline(Offline);
-    core.kept.reply = None;
-}
-
 impl Station {
     ghost use Rattle.std.specs.Prelude.{◌≡◌, ◌≤◌, ◌<◌, List, nat_le, length, Some, None, map, is_some, IsTrue, ◌↔◌, IfOk, OnOk, OnErr, MatchResult};
     ghost use Rattle.pb_timers.specs.Timers.{Params};
@@ -428,4 +386,46 @@ impl Station {
     {
         due_on(&self.parts.core, &self.parts.params, marks)
     }
+}
+
+/// What a station keeps that has neither heard nor said anything since a moment.
+fn new_kept(address: Address, params: &BusParams, reply: ArrayVec<u8, 246>, now: Moment) -> Kept
+    requires { now ≤ last_turn }
+    ensures { station_with result (record { high = []; low = [] }) phases.Offline
+        ≡ record (turn.new_station params.now address reply.items)
+        { quiet = now; own = record { begin = now; end = now } } }
+{
+    Kept {
+        address,
+        busy: false,
+        past: Past::started(now),
+        reply: None,
+        las: Las::listening(),
+        gap: Gap::fresh(),
+        rotation: Rotation::new(params.ttr()),
+        cycles: Cycles::new(params, reply),
+    }
+}
+
+/// A core as its station starts: a master listens for the ring, a passive station waits for requests.
+fn start_core(core: &mut Core, params: &BusParams, master: bool, now: Moment)
+    requires { now ≤ last_turn }
+    ensures { station_of core.new ≡ turn.started params.now (station_of core.old) master now }
+{
+    let reply = copy_octets(core.kept.cycles.responder.data());
+    core.kept = new_kept(core.kept.address, params, reply, now);
+    core.waiting.clear();
+    core.phase = if master {
+        Phase::Listening(Listening::new())
+    } else {
+        Phase::PassiveIdle(PassiveIdle)
+    };
+}
+
+/// A core whose station stops: it says nothing more.
+fn stop_core(core: &mut Core)
+    ensures { station_of core.new ≡ turn.stopped (station_of core.old) }
+{
+    core.phase = Phase::Offline(Offline);
+    core.kept.reply = None;
 }

@@ -95,29 +95,6 @@ impl Model for BusParams {
     ghost inverse = { params_inside };
 }
 
-/// Whether the number is not in the range, whose ends are in it.
-fn is_outside(low: u32, high: u32, number: u32) -> bool
-    ensures { result ≡ is_outside low high number }
-{
-    number < low || number > high
-}
-
-/// Refuses a take or a reply that may come after a slot: the idle time 2, and the reply delay, with the lag and the
-/// cable delay there and back.
-fn refuse_late(tsl: u32, tid2: u32, tsdr: u32, lag: u32, ttd: u32) -> Result<(), ParamFault>
-    ensures in_time { IfOk result (λ _. first_fault (late_faults tsl tid2 tsdr lag ttd) ≡ None) }
-    ensures fault { IfErr result (λ fault. first_fault (late_faults tsl tid2 tsdr lag ttd) ≡ Some fault) }
-{
-    let (tsl, lag, there_and_back) = (u64::from(tsl), u64::from(lag), 2 * u64::from(ttd));
-    if u64::from(tid2) + lag + there_and_back >= tsl {
-        return Err(ParamFault::TakeLate);
-    }
-    if u64::from(tsdr) + lag + there_and_back >= tsl {
-        return Err(ParamFault::ReplyLate);
-    }
-    Ok(())
-}
-
 impl BusParams {
     ghost use Rattle.pb_timers.specs.ParamRules.{param_faults, IsValid};
 
@@ -314,4 +291,27 @@ impl BusParams {
         let tsl = u64::from(self.tsl);
         6 * tsl + 2 * u64::from(addr) * tsl
     }
+}
+
+/// Whether the number is not in the range, whose ends are in it.
+fn is_outside(low: u32, high: u32, number: u32) -> bool
+    ensures { result ≡ is_outside low high number }
+{
+    number < low || number > high
+}
+
+/// Refuses a take or a reply that may come after a slot: the idle time 2, and the reply delay, with the lag and the
+/// cable delay there and back.
+fn refuse_late(tsl: u32, tid2: u32, tsdr: u32, lag: u32, ttd: u32) -> Result<(), ParamFault>
+    ensures in_time { IfOk result (λ _. first_fault (late_faults tsl tid2 tsdr lag ttd) ≡ None) }
+    ensures fault { IfErr result (λ fault. first_fault (late_faults tsl tid2 tsdr lag ttd) ≡ Some fault) }
+{
+    let (tsl, lag, there_and_back) = (u64::from(tsl), u64::from(lag), 2 * u64::from(ttd));
+    if u64::from(tid2) + lag + there_and_back >= tsl {
+        return Err(ParamFault::TakeLate);
+    }
+    if u64::from(tsdr) + lag + there_and_back >= tsl {
+        return Err(ParamFault::ReplyLate);
+    }
+    Ok(())
 }
