@@ -25,4 +25,4 @@ pub use pb_medium::Entry;
 pub use pb_taps::{NewFault, WorldFault};
 pub use runs::{audit_of, events_of};
 pub use scenarios::Scenario;
-pub use texts::trace_text;
+pub use texts::{push_number, trace_text};

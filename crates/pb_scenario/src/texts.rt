@@ -30,6 +30,13 @@ pub fn trace_text(
     Ok(text)
 }
 
+/// Appends a number in decimal digits.
+pub fn push_number<N: Integer>(text: &mut Vec<u8>, number: N) -> Result<(), AllocError>
+    ensures { OnOk result (text.new.items ≡ text.old.items ++ N.text number) }
+{
+    text.extend_from_slice(Buffer::new().format(number).as_bytes())
+}
+
 /// Appends the line of an entry.
 fn push_entry(text: &mut Vec<u8>, scenario: &Scenario, entry: &Entry) -> Result<(), AllocError>
     ensures { OnOk result (text.new.items ≡ text.old.items ++ line_of scenario.now entry.now) }
@@ -75,13 +82,6 @@ fn push_span(text: &mut Vec<u8>, begin: u64, end: u64) -> Result<(), AllocError>
     text.extend_from_slice(b" ")?;
     push_number(text, end)?;
     text.extend_from_slice(b" ")
-}
-
-/// Appends a number in decimal digits.
-fn push_number<N: Integer>(text: &mut Vec<u8>, number: N) -> Result<(), AllocError>
-    ensures { OnOk result (text.new.items ≡ text.old.items ++ N.text number) }
-{
-    text.extend_from_slice(Buffer::new().format(number).as_bytes())
 }
 
 /// Appends the octets of a telegram, each as two hex digits in lower case.

@@ -4,9 +4,8 @@ ghost use Rattle.pb_audit.specs.Auditing.{broken_at};
 ghost use Rattle.pb_show.specs.Audits.{broken_of, found, legality_line, premise_line};
 ghost use Rattle.pb_show.specs.Shown.{shown_of};
 
-use crate::numbers::push_number;
 use crate::shown::Shown;
-use pb_scenario::Audit;
+use pb_scenario::{Audit, push_number};
 use pb_timers::Moment;
 use std::alloc::{AllocError, Global};
 

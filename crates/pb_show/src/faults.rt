@@ -3,8 +3,7 @@ ghost use Rattle.pb_show.specs.Names.{path_text};
 ghost use Rattle.pb_show.specs.Faults.{IsTold, file_words, line_of_run, new_line, refused_line, scenario_line, table_fault};
 
 use crate::names::{new_name, push_key, push_path, world_name};
-use crate::numbers::push_number;
-use pb_scenario::{NewFault, Path, RunFault, ScenarioFault, WorldFault};
+use pb_scenario::{NewFault, Path, RunFault, ScenarioFault, WorldFault, push_number};
 use std::alloc::{AllocError, Global};
 
 /// The line of a file's fault. Where memory was refused there is none: it is refused here too.

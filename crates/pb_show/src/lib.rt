@@ -9,7 +9,6 @@ mod audits;
 mod faults;
 mod files;
 mod names;
-mod numbers;
 mod plays;
 mod shown;
 mod tails;

@@ -1,8 +1,7 @@
 ghost use Rattle.std.specs.Prelude.{◌≡◌, ◌++◌, OnOk};
 ghost use Rattle.pb_show.specs.Names.{item_text, key_text, new_name, path_text, section_text, world_name};
 
-use crate::numbers::push_number;
-use pb_scenario::{NewFault, Path, Section, WorldFault};
+use pb_scenario::{NewFault, Path, Section, WorldFault, push_number};
 use std::alloc::AllocError;
 
 /// The name of a fault of a new world.
