@@ -149,7 +149,10 @@ pub(crate) fn moment_of(bits: Option<u64>) -> Option<Moment>
     requires { IfSome bits (λ n. n ≤ last_moment) }
     ensures { result ≡ bits }
 {
-    bits.and_then(Moment::new)
+    match bits {
+        Some(bits) => Some(Moment::new(bits).unwrap()),
+        None => None,
+    }
 }
 
 /// A pass tells a tap that a burst began, if one did.
