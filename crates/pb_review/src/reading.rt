@@ -29,7 +29,8 @@ pub(crate) fn read_steps<R: Report>(
 /// How far it goes on with what a deed says then, if anything.
 fn read_deed<R: Report>(report: &R, place: usize, deed: &Deed, when: When) -> Option<usize>
     requires { place ≤ length (R.events report.now) }
-    ensures { IfSome result (Reads (R.events report.now) place (option_to_list (said_in when (deed_of deed.now)))) }
+    ensures { IfSome result
+        (Reads (R.events report.now) place (option_to_list (said_in when (deed_of deed.now)))) }
 {
     match deed.said(when) {
         None => Some(place),

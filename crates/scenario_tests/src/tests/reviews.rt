@@ -25,8 +25,11 @@ impl<'a> Report for Kept<'a> {
 
     ghost events = { λ kept. map event_of kept.events.now };
 
-    ghost looks = { λ kept.
-        map (λ shown. record { place = shown.place; dues = shown.dues; change = shown.change }) kept.looks.now };
+    ghost looks = { λ kept. map (λ shown. record {
+      place = shown.place;
+      dues = shown.dues;
+      change = shown.change;
+    }) kept.looks.now };
 
     fn len(&self) -> usize {
         self.events.len()
