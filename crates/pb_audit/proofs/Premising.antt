@@ -26,7 +26,7 @@ use Rattle.pb_theorem.proofs.Quiets.{silent-quiet}
 use Rattle.pb_theorem.proofs.Judged.{any-append}
 use Rattle.pb_theorem.proofs.Watching.{quiet-step, many-taps, stands-followed}
 use Rattle.pb_medium.specs.Airs.{IsCut}
-use Rattle.pb_audit.specs.Premises.{IsFirstWaiting, IsQuiet, HaveHeard, Listens, time_in, waiting_of, met_by, last_by}
+use Rattle.pb_audit.specs.Premises.{IsFirstWaiting, IsOldest, IsQuiet, HaveHeard, Listens, time_in, waiting_of, met_by, last_by}
 use Rattle.pb_audit.specs.declared.premises.Waiting.{Waiting}
 use Rattle.pb_audit.specs.declared.premises.Waiting.TheVariants as waiting
 use Rattle.pb_bus.specs.Worlds.{due_at}
@@ -53,6 +53,9 @@ active-recent w over to tap (m, at, some, old, recent) =
     ∙ ap (λ (b : Bool). b || is_active w.params.ttd w.now to (drop over w.trace) tap) (over-active w.params.ttd m w.now to tap (take over w.trace) old at)
     )
 
+none-active : (w : World) (over to tap : ℕ) → IsCut w.params.ttd w.now over w.trace → drop over w.trace ≡ [] → is_active w.params.ttd w.now to w.trace tap ≡ false
+none-active w over to tap cut none = sym (active-recent w over to tap cut) ∙ ap (λ es. is_active w.params.ttd w.now to es tap) none
+
 -- an event that is accepted ends when it can
 pass-ends : (w next : World) (bits : ℕ) (reply : Reply) → step_pass w bits ≡ Ok (next, reply) → w.now + bits ≤ clock_limit
 pass-ends w next bits reply ok =
@@ -71,6 +74,12 @@ listens-pass w bits to before after sound quiet reaches have next reply ok tap t
     ∙ ap (λ n. if is_active w.params.ttd w.now n w.trace tap then n else get_or before tap 0) same
     ∙ ap (λ n. if is_active w.params.ttd w.now (w.now + bits) w.trace tap then w.now + bits else n) (quiet tap here)
     ∙ sym (quiet-step w next (Pass bits) reply sound ok tap)
+
+-- and after a pass where nothing is recent
+pub listens-alone : (w : World) (over bits : ℕ) (quiet : List ℕ) → IsSound w → IsQuiet w quiet → IsCut w.params.ttd w.now over w.trace → drop over w.trace ≡ [] → Listens w (Pass bits) quiet
+listens-alone w over bits quiet sound silent cut none =
+    let to = w.now + bits in
+    listens-pass w bits to quiet quiet sound silent (λ ends. refl) (λ tap there. sym (ap (λ (b : Bool). if b then to else get_or quiet tap 0) (none-active w over to tap cut none)))
 
 -- and after any other event
 pub listens-still : (w : World) (e : Event) (before : List ℕ) → ((tap q : ℕ) → quiet_after w e tap q ≡ q) → IsSound w → IsQuiet w before → Listens w e before
@@ -142,6 +151,24 @@ all-renewed f xs before tap so_far k there = so_far k ∙ ap (λ (b : Bool). if 
 pub quiet-blank : (w : World) (quiet : List ℕ) → w.trace ≡ [] → length w.taps ≤ 127 → quiet ≡ replicate 127 0 → IsQuiet w quiet
 quiet-blank w quiet empty few zeros tap there =
     ap (λ qs. get_or qs tap 0) zeros ∙ get_or-replicate 127 tap 0 0 (omega (arith, few, there)) ∙ sym (ap (quiet_at w.params.ttd tap w.now) empty)
+
+-- ---- the least of some numbers
+
+-- a number behind them changes
+pub least-still : (least tap v : ℕ) (xs : List ℕ) → IsOldest least tap xs → IsOldest least tap (slice_set xs tap v)
+least-still least tap v xs all k there =
+    let apart : k ≢ tap = λ (same : k ≡ tap). omega (arith, same, there) in
+    subst (λ (n : ℕ). least ≤ n) (sym (get_or-set_other xs tap k v 0 apart)) (all k there)
+
+-- one more of them
+pub least-more : (before least tap : ℕ) (xs : List ℕ) → least ≤ before → least ≤ get_or xs tap 0 → IsOldest before tap xs → IsOldest least (tap + 1) xs
+least-more before least tap xs less here all k there = by (k == tap) refl
+  where
+    by : (b : Bool) → (k == tap) ≡ b → least ≤ get_or xs k 0
+    by true is = subst (λ (n : ℕ). least ≤ get_or xs n 0) (sym (eqb-true k tap is)) here
+    by false other =
+        let apart = eqb-false k tap other in
+        omega (arith, less, all k (omega (arith, there, apart)))
 
 -- ---- time-outs
 

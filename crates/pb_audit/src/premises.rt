@@ -122,8 +122,8 @@ impl Watch {
         let waiting = waiting_now(bus, &self.quiet, self.oldest);
         let met = is_met(bus.params.ttd(), waiting, bus.now, self.waited);
         let premise = first_premise(self.namesakes, foresight, met);
-        self.waited = last_waiting(waiting, bus.now, self.waited);
-        self.broken = broken_or(self.broken, bus.now, premise);
+        note_waiting(&mut self.waited, waiting, bus.now);
+        note_breach(&mut self.broken, premise, bus.now);
     }
 }
 
@@ -154,7 +154,7 @@ pub(crate) fn follow(
 }
 
 /// An event is about to happen: while time passes in it, those taps at which something is active are no longer in
-/// silence. Answers a moment since before which none has been.
+/// silence; there are none where nothing is recent. Answers a moment since before which none has been.
 fn listen(quiet: &mut [u64; TAP_LIMIT], oldest: u64, bus: &Bus, event: &Event) -> u64
     requires kept { IsKept bus.now }
     requires silent { IsQuiet (world_of bus.now) quiet.old }
@@ -162,25 +162,13 @@ fn listen(quiet: &mut [u64; TAP_LIMIT], oldest: u64, bus: &Bus, event: &Event) -
     ensures listens { Listens (world_of bus.entry.now) (event_of event.now) quiet.new }
     ensures oldest { IsOldest result (length bus.entry.now.taps.items) quiet.new }
 {
-    match time_in(event) {
-        Some(bits) => {
-            listen_to(quiet, bus, bus.now.get().saturating_add(bits));
-            oldest_of(quiet, bus.taps.len())
-        }
-        None => oldest,
+    let Some(bits) = time_in(event) else {
+        return oldest;
+    };
+    if bus.trace.recent().is_empty() {
+        return oldest;
     }
-}
-
-/// The least of the first of some moments.
-fn oldest_of(quiet: &[u64; TAP_LIMIT], taps: usize) -> u64
-    requires { taps ≤ 127 }
-    ensures { IsOldest result taps quiet.now }
-{
-    let mut oldest = u64::MAX;
-    for tap in 0..taps {
-        oldest = oldest.min(quiet[tap]);
-    }
-    oldest
+    listen_to(quiet, bus, bus.now.get().saturating_add(bits))
 }
 
 /// How much time passes in an event, if it does.
@@ -193,16 +181,21 @@ fn time_in(event: &Event) -> Option<u64>
     }
 }
 
-/// Taps at which something is active before a moment are no longer in silence.
-fn listen_to(quiet: &mut [u64; TAP_LIMIT], bus: &Bus, to: u64)
+/// Taps at which something is active before a moment are no longer in silence. Answers a moment since before which none
+/// has been.
+fn listen_to(quiet: &mut [u64; TAP_LIMIT], bus: &Bus, to: u64) -> u64
     requires { IsKept bus.now }
-    ensures { HaveHeard (world_of bus.entry.now) to quiet.old quiet.new }
+    ensures heard { HaveHeard (world_of bus.entry.now) to quiet.old quiet.new }
+    ensures oldest { IsOldest result (length bus.entry.now.taps.items) quiet.new }
 {
+    let mut oldest = u64::MAX;
     for tap in 0..bus.taps.len() {
         if is_heard(bus, tap, to) {
             quiet[tap] = to;
         }
+        oldest = oldest.min(quiet[tap]);
     }
+    oldest
 }
 
 /// Whether something is active at a tap from the clock on, before a moment.
@@ -404,13 +397,13 @@ fn is_met(delay: u32, waiting: Waiting, now: Moment, last: Option<Waited>) -> bo
     }
 }
 
-/// The last tap that has waited out its time-out, and when.
-fn last_waiting(waiting: Waiting, now: Moment, last: Option<Waited>) -> Option<Waited>
-    ensures { option_map waited_of result ≡ last_by now waiting (option_map waited_of last) }
+/// Notes the tap that has waited out its time-out now, if one has, as the last that did.
+fn note_waiting(last: &mut Option<Waited>, waiting: Waiting, now: Moment)
+    ensures { option_map waited_of last.new ≡ last_by now waiting (option_map waited_of last.old) }
 {
     match waiting {
-        Waiting::Nobody => last,
-        Waiting::One(tap) | Waiting::Several(tap) => Some(Waited { tap, moment: now }),
+        Waiting::Nobody => {}
+        Waiting::One(tap) | Waiting::Several(tap) => *last = Some(Waited { tap, moment: now }),
     }
 }
 
@@ -434,19 +427,15 @@ fn first_premise(namesakes: bool, foresight: Foresight, met: bool) -> Option<Pre
     None
 }
 
-/// The first premise that broke: the one before, else one that breaks now.
-fn broken_or(before: Option<Breach>, now: Moment, premise: Option<Premise>) -> Option<Breach>
-    ensures { option_map broken_of result
-        ≡ premises.broken_or (option_map broken_of before) now (option_map number_of premise) }
+/// Notes the premise that breaks now, if one does and none broke before.
+fn note_breach(first: &mut Option<Breach>, premise: Option<Premise>, clock: Moment)
+    ensures { option_map broken_of first.new
+        ≡ premises.broken_or (option_map broken_of first.old) clock (option_map number_of premise) }
 {
-    match before {
-        Some(first) => Some(first),
-        None => match premise {
-            Some(premise) => Some(Breach {
-                premise,
-                clock: now,
-            }),
-            None => None,
-        },
+    let Some(premise) = premise else {
+        return;
+    };
+    if first.is_none() {
+        *first = Some(Breach { premise, clock });
     }
 }

@@ -1,6 +1,7 @@
 -- Time passes.
-use Rattle.std.proofs.Common.{◌≡◌, ◌∙◌, ap, sym, refl, ℕ, ◌+◌, ◌++◌, List, [], ◌∷◌, map, Bool, true, false, if◌then◌else◌, Option, Some, None, Err}
+use Rattle.std.proofs.Common.{◌≡◌, ◌∙◌, ap, sym, refl, ℕ, ◌+◌, ◌++◌, List, [], ◌∷◌, map, Bool, true, false, if◌then◌else◌, Option, Some, None, Result, Ok, Err}
 use Rattle.std.specs.Prelude.{is_some, unwrap_or}
+use Rattle.std.specs.Result.{IfOk, IfErr}
 use Rattle.pb_refusals.specs.FirstFault.{first_fault}
 use Rattle.pb_refusals.proofs.FirstFaults.{none_holds, first_fault-append}
 use Rattle.pb_model.specs.Trace.{Heard, Record, Entry, Sent, Noise}
@@ -8,6 +9,7 @@ use Rattle.pb_model.specs.Medium.{Tap, heard_by, entry_at, reaches, ends_between
 use Rattle.pb_model.specs.World.{World, Reply, Fault, InboxFull, next_end_of, unless_fault}
 use Rattle.pb_model.specs.Step.{told, first_full, step_pass}
 use Rattle.pb_bus.specs.Clocks.{time_faults}
+use Rattle.pb_bus.proofs.Passing.{nobody-told}
 
 -- ---- what the taps are told
 
@@ -67,3 +69,25 @@ pass-by w d o e full =
     ∙ ap (λ (x : Option ℕ). unless_fault (first_fault ((is_some x, InboxFull (unwrap_or x 0)) ∷ [])) (record w { now = now; taps = taps; trace = entries }, reply)) full
     ∙ ap (λ (es : List Entry). unless_fault (first_fault ((is_some o, InboxFull (unwrap_or o 0)) ∷ [])) (record w { now = now; taps = taps; trace = es }, reply))
     (sym (entries-told delay w.trace w.trace w.now now w.taps w.trace))
+
+-- ---- where nothing is recent
+
+pub if-ok : {X E : Type 0} (r : Result X E) {P Q : X → Type 0} → ((x : X) → P x → Q x) → IfOk r P → IfOk r Q
+if-ok (Ok x) f h = f x h
+if-ok (Err e) f h = h
+
+pub if-err : {X E : Type 0} (r : Result X E) {P Q : E → Type 0} → ((e : E) → P e → Q e) → IfErr r P → IfErr r Q
+if-err (Ok x) f h = h
+if-err (Err e) f h = f e h
+
+-- nothing changes but the clock
+pub silent-pass : (w : World) (d : ℕ) → w.trace ≡ [] → first_fault (time_faults w.now d (next_end_of w.params.ttd w.now w.trace)) ≡ None
+    → first_full 0 (told w.params.ttd w.trace w.now (w.now + d) 0 w.taps) ≡ None → step_pass w d ≡ Ok (record w { now = w.now + d }, record { now = w.now + d; spoke = None })
+silent-pass w d silent e full =
+    let delay = w.params.ttd in
+    let now = w.now + d in
+    let reply : Reply = record { now = now; spoke = None } in
+    pass-by w d None e full
+    ∙ ap (λ (es : List Entry). Ok (record w { now = now; taps = told delay es w.now now 0 w.taps; trace = map (entry_at delay (told delay es w.now now 0 w.taps) es w.now now) es }, reply)) silent
+    ∙ ap (λ (ts : List Tap). Ok (record w { now = now; taps = ts; trace = [] }, reply)) (nobody-told delay w.now now 0 w.taps)
+    ∙ ap (λ (es : List Entry). Ok (record w { now = now; trace = es }, reply)) (sym silent)

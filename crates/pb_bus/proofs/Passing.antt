@@ -1,9 +1,10 @@
 -- What a pass tells the taps.
-use Rattle.std.proofs.Common.{◌≡◌, ℕ, zero, suc, ◌+◌, ◌<◌, ◌≤◌, List, [], ◌∷◌, ◌++◌, Bool, true, false, if◌then◌else◌, length, map, get_or, drop, refl, ap, sym, ◌∙◌, subst, arith, length-append, Option, Some, None}
+use Rattle.std.proofs.Common.{◌≡◌, ℕ, zero, suc, ◌+◌, ◌<◌, ◌≤◌, List, [], ◌∷◌, ◌++◌, Bool, true, false, if◌then◌else◌, length, map, get_or, set, take, drop, refl, ap, sym, ◌∙◌, subst, arith, length-append, Option, Some, None}
 use Rattle.std.specs.Prelude.{nat_lt, nat_le, ◌&&◌, find, is_some, IfSome}
 use Rattle.std.specs.Option.{option_map}
 use Rattle.std.proofs.lemmas.Bool.{ltb-true, ltb-false, leb-true, lt-ltb, le-ltb, and_parts}
-use Rattle.std.proofs.lemmas.List.{append-nil, at_drop_more}
+use Rattle.std.proofs.lemmas.List.{append-nil, at_drop_more, length-map}
+use Rattle.std.proofs.Math.Seq.{map-set_same}
 use Rattle.pb_turn.specs.Spans.{Span}
 use Rattle.pb_turn.specs.Marks.{Mark, End}
 use Rattle.pb_model.specs.Trace.{Entry, Sent, Noise}
@@ -14,7 +15,10 @@ use Rattle.pb_model.specs.Step.{told, first_full}
 use Rattle.pb_model.proofs.Cases.{by_test}
 use Rattle.pb_model.proofs.Past.{find-same, passes_found}
 use Rattle.pb_medium.specs.Senses.{begin_between, end_between}
-use Rattle.pb_bus.specs.Passes.{with_news, end_of}
+use Rattle.pb_taps.specs.declared.taps.Tap as declared
+use Rattle.pb_taps.specs.Taps.{seat_of, tap_of}
+use Rattle.pb_taps.proofs.Replacing.{changed-more, changed-at, changed-all}
+use Rattle.pb_bus.specs.Passes.{with_news, unread_after, end_of}
 
 -- ---- what a pass tells
 
@@ -72,6 +76,45 @@ pub from-position : {X : Type 0} (f : X → Tap) (delay : ℕ) (trace : List Ent
 from-position {X} f delay trace from to xs i x within is =
     at_drop_more (λ (ys : List X). told delay trace from to i (map f ys)) xs i x within
     ∙ ap (λ (y : X). with_news delay i (f y) trace from to ∷ told delay trace from to (i + 1) (map f (drop (i + 1) xs))) (sym is)
+
+-- ---- the taps are told one after another
+
+-- the taps before a position have been told; each station is where it was
+pub record ToldTo (delay : ℕ) (trace : List Entry) (from to : ℕ) (old now : List declared.Tap) (i : ℕ) : Type 0 where
+  pub told : map tap_of now ≡ take i (told delay trace from to 0 (map tap_of old)) ++ drop i (map tap_of old)
+  pub seats : map seat_of now ≡ map seat_of old
+
+told-long : (delay : ℕ) (trace : List Entry) (from to : ℕ) (old : List declared.Tap) → length (told delay trace from to 0 (map tap_of old)) ≡ length old
+told-long delay trace from to old = told-length delay trace from to 0 (map tap_of old) ∙ length-map old tap_of
+
+-- the one at the position is as it was
+still-old : (delay : ℕ) (trace : List Entry) (from to : ℕ) (old now : List declared.Tap) (i : ℕ) (x : declared.Tap) → ToldTo delay trace from to old now i → i < length old
+    → tap_of (get_or now i x) ≡ get_or (map tap_of old) i (tap_of x)
+still-old delay trace from to old now i x so_far within =
+    changed-at tap_of (told delay trace from to 0 (map tap_of old)) old now i x so_far.told (told-long delay trace from to old) within
+
+-- it has room for its news
+pub room-at : (delay : ℕ) (trace : List Entry) (from to : ℕ) (old now : List declared.Tap) (i : ℕ) (x : declared.Tap) → ToldTo delay trace from to old now i
+    → first_full 0 (told delay trace from to 0 (map tap_of old)) ≡ None → i < length old → unread_after delay i (tap_of (get_or now i x)) trace from to ≤ mark_limit
+room-at delay trace from to old now i x so_far none within =
+    subst (λ (t : Tap). unread_after delay i t trace from to ≤ mark_limit) (sym (still-old delay trace from to old now i x so_far within))
+    (room-for-news delay trace from to (map tap_of old) i (tap_of x) none (omega (arith, length-map old tap_of, within)))
+
+-- it is told too
+pub told-more : (delay : ℕ) (trace : List Entry) (from to : ℕ) (old now : List declared.Tap) (i : ℕ) (x new : declared.Tap) → ToldTo delay trace from to old now i → i < length old
+    → tap_of new ≡ with_news delay i (tap_of (get_or now i x)) trace from to → seat_of new ≡ seat_of (get_or now i x) → ToldTo delay trace from to old (set now i new) (i + 1)
+told-more delay trace from to old now i x new so_far within is seat = record {
+  told = changed-more tap_of (told delay trace from to 0 (map tap_of old)) old now i new (tap_of x) so_far.told (told-long delay trace from to old) within
+      (is ∙ ap (λ (t : Tap). with_news delay i t trace from to) (still-old delay trace from to old now i x so_far within)
+      ∙ sym (told-at delay trace from to 0 (map tap_of old) i i (tap_of x) (let none : 0 + i ≡ i = omega arith in none) (omega (arith, length-map old tap_of, within))));
+  seats = map-set_same seat_of now i new x seat ∙ so_far.seats;
+}
+
+-- all have been told
+pub told-all : (delay : ℕ) (trace : List Entry) (from to : ℕ) (old now : List declared.Tap) (i : ℕ) → ToldTo delay trace from to old now i → length old ≤ i
+    → map tap_of now ≡ told delay trace from to 0 (map tap_of old)
+told-all delay trace from to old now i so_far over =
+    changed-all tap_of (told delay trace from to 0 (map tap_of old)) old now i so_far.told (told-long delay trace from to old) over
 
 -- ---- what one tap is told
 

@@ -4,12 +4,17 @@ use Rattle.pb_turn.specs.Marks.{Mark, End}
 use Rattle.pb_model.specs.Trace.{Entry}
 use Rattle.pb_model.specs.Medium.{Tap, burst_characters, new_marks}
 use Rattle.pb_model.specs.Laws.{begin_of}
+use Rattle.pb_medium.specs.Lone.{Lone, lone_marks}
 use Rattle.pb_taps.specs.declared.taps.Tap as declared
 use Rattle.pb_taps.specs.Taps.{tap_of}
 
 -- the tap with what a pass tells it behind its unread marks
 abbrev pub with_news : ℕ → ℕ → Tap → List Entry → ℕ → ℕ → Tap
 with_news delay tap t trace from to = record t { marks = t.marks ++ new_marks delay tap t trace from to }
+
+-- the tap with what a pass tells it of what is alone on the bus
+abbrev pub with_lone : Lone → ℕ → Tap → ℕ → ℕ → Tap
+with_lone l tap t from to = record t { marks = t.marks ++ lone_marks l tap t from to }
 
 -- how many marks a tap has unread after a pass
 abbrev pub unread_after : ℕ → ℕ → Tap → List Entry → ℕ → ℕ → ℕ

@@ -34,6 +34,9 @@ pub(crate) fn pass(
     ensures err { OnErr result ((trace.new ≡ trace.old) × (taps.new ≡ taps.old)) }
     ensures fault { IfErr result (IsFault (step_pass (air delay now (recent_of trace.old) taps.old) bits)) }
 {
+    if trace.recent().is_empty() {
+        return passes_to(&[], delay, taps, now, bits);
+    }
     let to = passes_to(trace.recent(), delay, taps, now, bits)?;
     tell_all(trace.recent(), delay, taps, now, to);
     trace.settle(delay, taps, now, to);
@@ -42,6 +45,7 @@ pub(crate) fn pass(
 
 /// The clock after some time, of which each tap can be told. Faults, the first that applies: `ZeroTime`; `TooFar`;
 /// `ClockFull`; `InboxFull`.
+#[inline(always)]
 pub(crate) fn passes_to(
     entries: &[Entry],
     delay: u32,
@@ -74,8 +78,8 @@ fn later(end: Option<u64>, now: Moment, bits: u64) -> Result<Moment, WorldFault>
     {
         return Err(WorldFault::TooFar(end));
     }
-    now.add(bits)
-        .ok()
-        .filter(|to| to.get() <= CLOCK_LIMIT)
-        .ok_or(WorldFault::ClockFull)
+    if CLOCK_LIMIT.saturating_sub(now.get()) < bits {
+        return Err(WorldFault::ClockFull);
+    }
+    Ok(Moment::at(now.get() + bits))
 }

@@ -7,16 +7,16 @@ ghost use Rattle.pb_model.specs.World.{mark_limit};
 ghost use Rattle.pb_turn.specs.Marks.{End};
 ghost use Rattle.pb_model.specs.Trace.{characters_at};
 ghost use Rattle.pb_medium.specs.Entries.{entry_of, record_of};
+ghost use Rattle.pb_medium.specs.Lone.{lone_of, lone_begin, lone_end, lone_marks};
 ghost use Rattle.pb_medium.specs.Senses.{begin_between, end_between};
-ghost use Rattle.pb_bus.specs.Passes.{end_of, unread_after, with_begin, with_end, with_news};
+ghost use Rattle.pb_bus.specs.Passes.{end_of, unread_after, with_begin, with_end, with_lone, with_news};
 ghost use Rattle.pb_taps.specs.Taps.{seat_of, tap_of};
 
 use pb_medium::{
-    Entry, Record, begin_between, burst_octets, end_between, filling_telegram, telegram_characters,
+    Entry, Lone, Record, begin_between, end_between, filling_telegram, lone_in, telegram_characters,
 };
 use pb_station::MARK_LIMIT;
 use pb_taps::Tap;
-use pb_telegram::RxChar;
 use pb_timers::Moment;
 
 /// How many marks a pass tells a tap at most.
@@ -33,6 +33,10 @@ pub(crate) fn first_full(
     ensures { result
         ≡ step.first_full 0 (step.told delay (map entry_of entries.now) from to 0 (map tap_of taps.now)) }
 {
+    if entries.is_empty() {
+        inboxes_hold_few(taps);
+        return None;
+    }
     for (position, tap) in taps.iter().enumerate() {
         if overflows(entries, delay, position, tap, from, to) {
             return Some(position);
@@ -49,11 +53,23 @@ pub(crate) fn tell_all(entries: &[Entry], delay: u32, taps: &mut [Tap], from: Mo
     ensures told { map tap_of taps.new
         ≡ step.told delay (map entry_of entries.now) from to 0 (map tap_of taps.old) }
 {
-    if entries.is_empty() {
+    if let Some(lone) = lone_in(entries, delay) {
+        for (position, tap) in taps.iter_mut().enumerate() {
+            tell_of(&lone, position, tap, from, to);
+        }
         return;
     }
     for (position, tap) in taps.iter_mut().enumerate() {
         tell(entries, delay, position, tap, from, to);
+    }
+}
+
+/// No tap has more unread marks than it may have, since an inbox holds no more. The loop is for the proof: it does nothing.
+fn inboxes_hold_few(taps: &[Tap])
+    ensures { step.first_full 0 (map tap_of taps.now) ≡ None }
+{
+    for (position, tap) in taps.iter().enumerate() {
+        let _ = (position, tap.marks.len());
     }
 }
 
@@ -76,8 +92,58 @@ fn overflows(
         && unread + news_count(entries, delay, position, tap, from, to) > MARK_LIMIT
 }
 
-/// A pass tells the tap at a position.
+/// A pass tells the tap at a position of what is alone on the bus.
 #[inline(always)]
+fn tell_of(lone: &Lone<'_>, position: usize, tap: &mut Tap, from: Moment, to: Moment)
+    requires room { length tap.old.marks
+        + length (lone_marks (lone_of lone.now) position (tap_of tap.old) from to) ≤ mark_limit }
+    requires few { IfSome (lone_of lone.now).octets (λ octets. length octets ≤ 255) }
+    ensures told { tap_of tap.new ≡ with_lone (lone_of lone.now) position (tap_of tap.old) from to }
+    ensures seat { seat_of tap.new ≡ seat_of tap.old }
+{
+    if !lone.is_sensed_by(position, tap) {
+        return;
+    }
+    tell_lone_begin(lone, tap, from, to);
+    tell_lone_end(lone, tap, from, to);
+}
+
+/// A pass tells a tap that what is alone on the bus began for it, if it did.
+#[inline(always)]
+fn tell_lone_begin(lone: &Lone<'_>, tap: &mut Tap, from: Moment, to: Moment)
+    requires { length tap.old.marks
+        + length (lone_begin (lone_of lone.now) (tap_of tap.old) from to) ≤ mark_limit }
+    ensures { tap.new ≡ record tap.old
+        { marks = tap.old.marks ++ lone_begin (lone_of lone.now) (tap_of tap.old) from to } }
+{
+    let begin = lone.span.begin().max(tap.since);
+    if from.get() <= begin && begin < to.get() {
+        tap.marks.push_begin(Moment::at(begin), to);
+    }
+}
+
+/// A pass tells a tap that what is alone on the bus ended, if it did. One that started amid it got no octets.
+#[inline(always)]
+fn tell_lone_end(lone: &Lone<'_>, tap: &mut Tap, from: Moment, to: Moment)
+    requires room { length tap.old.marks
+        + length (lone_end (lone_of lone.now) (tap_of tap.old) from to) ≤ mark_limit }
+    requires few { IfSome (lone_of lone.now).octets (λ octets. length octets ≤ 255) }
+    ensures { tap.new ≡ record tap.old
+        { marks = tap.old.marks ++ lone_end (lone_of lone.now) (tap_of tap.old) from to } }
+{
+    let end = lone.span.end();
+    if end <= from.get() || to.get() < end {
+        return;
+    }
+    match lone.octets {
+        Some(octets) if tap.hears_from(lone.span.begin()) => {
+            tap.marks.push_good_end(Moment::at(end), to, octets);
+        }
+        _ => tap.marks.push_noise(Moment::at(end), to),
+    }
+}
+
+/// A pass tells the tap at a position.
 fn tell(entries: &[Entry], delay: u32, position: usize, tap: &mut Tap, from: Moment, to: Moment)
     requires { unread_after delay position (tap_of tap.old) (map entry_of entries.now) from to ≤ mark_limit }
     ensures told { tap_of tap.new
@@ -114,7 +180,6 @@ fn news_count(
 }
 
 /// When a burst begins at the tap at a position in a pass, if one does.
-#[inline(always)]
 fn begin_in(
     entries: &[Entry],
     delay: u32,
@@ -130,7 +195,6 @@ fn begin_in(
 }
 
 /// When a burst ends at the tap at a position in a pass, if one does.
-#[inline(always)]
 fn end_in(
     entries: &[Entry],
     delay: u32,
@@ -144,13 +208,13 @@ fn end_in(
     moment_of(end_between(entries, delay, position, tap.since, from.get(), to.get()))
 }
 
-/// Bit times that are few enough as a moment.
+/// Bit times, if there are any, as a moment.
 pub(crate) fn moment_of(bits: Option<u64>) -> Option<Moment>
     requires { IfSome bits (λ n. n ≤ last_moment) }
     ensures { result ≡ bits }
 {
     match bits {
-        Some(bits) => Some(Moment::new(bits).unwrap()),
+        Some(bits) => Some(Moment::at(bits)),
         None => None,
     }
 }
@@ -166,7 +230,6 @@ fn tell_begin(tap: &mut Tap, begin: Option<Moment>, to: Moment)
 }
 
 /// A pass tells the tap at a position that a burst ended, if one did.
-#[inline(always)]
 fn tell_end(
     entries: &[Entry],
     delay: u32,
@@ -179,16 +242,13 @@ fn tell_end(
         (end_of delay position (tap_of tap.old) (map entry_of entries.now) to end) ≤ mark_limit }
     ensures { tap.new ≡ with_end delay position tap.old (map entry_of entries.now) to end }
 {
-    let Some(at) = end else { return };
-    match burst_octets(entries, delay, position, tap, at.get()) {
-        Some(octets) => tap.marks.push_good_end(at, to, octets),
-        None => tell_any_end(entries, delay, position, tap, at, to),
+    if let Some(at) = end {
+        tell_end_at(entries, delay, position, tap, at, to);
     }
 }
 
-/// A pass tells the tap at a position that a burst ended at a moment, whatever it brings.
-#[inline(never)]
-fn tell_any_end(
+/// A pass tells the tap at a position that a burst ended at a moment.
+fn tell_end_at(
     entries: &[Entry],
     delay: u32,
     position: usize,
@@ -201,7 +261,7 @@ fn tell_any_end(
 {
     match filling_telegram(entries, delay, position, tap, at.get()) {
         Some(telegram) => tell_characters(telegram, position, tap, at, to),
-        None => tap.marks.push_end(at, to, &[RxChar::Bad]),
+        None => tap.marks.push_noise(at, to),
     }
 }
 

@@ -16,7 +16,7 @@ use Rattle.pb_cycles.specs.Responding.{reply_to_message, after_message, reply_to
 use Rattle.pb_cycles.specs.Tables.{ResponderTable}
 use Rattle.pb_telegram.specs.declared.telegrams.Telegram.{Telegram}
 use Rattle.pb_telegram.specs.declared.telegrams.Telegram.TheVariants.{Short, Var, Fixed8, Token, Ack}
-use Rattle.pb_turn.specs.Hearing.{in_ring, passive, idle_hears, passive_hears}
+use Rattle.pb_turn.specs.Hearing.{in_ring, passive, answering, idle_hears, passive_hears}
 use Rattle.pb_turn.specs.Stations as turn
 use Rattle.pb_turn.specs.Stations.{Station}
 use Rattle.pb_core.specs.Arrivals.{telegram_brings, is_framed}
@@ -128,3 +128,12 @@ not_asked p s at code m e =
       cycles = record s.cycles { responder = after_message t s.address code (message_of m) };
     }) (message-none t s.address code m e)
     ∙ ap (λ (x : ResponderTable). record s { reply = s.reply; cycles = record s.cycles { responder = x } }) (message-same t s.address code m e))
+
+pub not_answered : (p : Params) (s : Station) (at code : ℕ) (f : Fields) → is_for s.address f.da ≡ false → answering p s at f code ≡ s
+not_answered p s at code f e =
+    let t = s.cycles.responder in
+    ap (λ (r : Option Reply). record s {
+      reply = option_or (option_map (λ (a : Reply). record { ready = at + p.tsdr; octets = reply_octets a; joins = false }) r) s.reply;
+      cycles = record s.cycles { responder = after_framed t s.address code f };
+    }) (framed-none t s.address code f e)
+    ∙ ap (λ (x : ResponderTable). record s { reply = s.reply; cycles = record s.cycles { responder = x } }) (framed-same t s.address code f e)

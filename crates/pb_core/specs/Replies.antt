@@ -1,6 +1,6 @@
 -- A reply that is not sent yet, and the type of a station in it.
 use Rattle.std.specs.Option.{option_map, option_or}
-use Rattle.std.specs.Prelude.{ℕ, ◌+◌, ◌==◌, ◌||◌, Bool, true, false, if◌then◌else◌, [], Option, Some, None}
+use Rattle.std.specs.Prelude.{ℕ, ◌+◌, ◌==◌, ◌||◌, Bool, true, false, not, if◌then◌else◌, [], Option, Some, None}
 use Rattle.pb_timers.specs.Timers.{Params}
 use Rattle.pb_telegram.specs.declared.heads.Head.{Head}
 use Rattle.pb_telegram.specs.declared.telegrams.Telegram.{Telegram}
@@ -9,6 +9,7 @@ use Rattle.pb_messages.specs.Fields.{Fields}
 use Rattle.pb_messages.specs.Messages.{address_in, reply_octets}
 use Rattle.pb_messages.specs.declared.messages.Message.{Message}
 use Rattle.pb_cycles.specs.Responding.{reply_frame, reply_to_message, after_message}
+use Rattle.pb_turn.specs.Arrivals.{Arrival, Token, Framed, Acknowledgement, NoTelegram}
 use Rattle.pb_turn.specs.Stations as turn
 use Rattle.pb_turn.specs.Hearing.{asks_status, passive, not_ready, ready_for_ring, in_ring}
 use Rattle.pb_core.specs.declared.replies.Reply.{Reply}
@@ -45,6 +46,13 @@ answer_to p ts at f station_type =
 -- an address octet is a station's, or that of all
 abbrev pub is_for : (ts da : ℕ) → Bool
 is_for ts da = address_in da == ts || address_in da == 127
+
+-- what arrives is for neither a station nor all, and no token
+abbrev pub is_for_others : ℕ → Arrival → Bool
+is_for_others ts (Token da sa) = false
+is_for_others ts (Framed f) = not (is_for ts f.da)
+is_for_others ts Acknowledgement = true
+is_for_others ts NoTelegram = true
 
 -- a telegram goes to a station, or to all
 abbrev pub goes_to : ℕ → Telegram → Bool

@@ -1,17 +1,20 @@
-ghost use Rattle.std.specs.Prelude.{◌≡◌, ◌+◌, ◌∷◌, ◌++◌, [], List, length, map, IfSome};
+ghost use Rattle.std.specs.Prelude.{◌≡◌, ◌+◌, ◌∷◌, ◌++◌, [], List, true, false, length, map, slice_index, IfSome};
 ghost use Rattle.pb_turn.specs.Arrivals as turn;
+ghost use Rattle.pb_telegram.specs.Faults.{is_token, da_place};
 ghost use Rattle.pb_telegram.specs.Grammar.{sd1, sd2, ed, spelling};
 ghost use Rattle.pb_telegram.specs.Receiving.{StandsFor};
 ghost use Rattle.pb_telegram.specs.declared.chars.RxChar.{RxChar};
 ghost use Rattle.pb_telegram.specs.declared.chars.RxChar.TheVariants.{Good};
 ghost use Rattle.pb_telegram.specs.declared.telegrams.Telegram.TheVariants.{Short, Var};
 ghost use Rattle.pb_core.specs.Arrivals.{brings};
+ghost use Rattle.pb_core.specs.Replies.{is_for_others};
 
+use crate::replies::is_for;
 use arrayvec::ArrayVec;
 use pb_telegram::{
-    ACKNOWLEDGEMENT, END, Receiver, RxChar, SHORT_START, ShortTelegram, TOKEN_START, Telegram,
-    TokenTelegram, VAR_START, VarTelegram, copy_octets, fcs, spelled_unit_is_the_telegrams,
-    what_is_spelled_has_no_fault,
+    ACKNOWLEDGEMENT, END, FIXED_START, Receiver, RxChar, SHORT_START, ShortTelegram, TOKEN_START,
+    Telegram, TokenTelegram, VAR_START, VarTelegram, copy_octets, fcs,
+    spelled_unit_is_the_telegrams, what_is_spelled_has_no_fault,
 };
 
 /// The telegram that the characters of a burst bring; none where they are not one that is whole.
@@ -60,6 +63,30 @@ pub fn spelled_telegram(octets: &[u8]) -> Option<Telegram>
         return Some(Telegram::Var(var));
     }
     received_octets(octets)
+}
+
+/// Whether octets that all came good are for neither the station `ts` nor all, and no token: by their destination, with
+/// nothing else read of them. Where it can't tell it says no.
+#[tactic(auto, using(crate::proofs::Arriving::arrives_for_others))]
+pub fn is_for_others(octets: &[u8], ts: u8) -> bool
+    ensures { result ≡ true → is_for_others ts (turn.arrival_of (map Good octets.now)) ≡ true }
+{
+    match destination(octets) {
+        Some(da) => !is_for(ts, da),
+        None => false,
+    }
+}
+
+/// The destination of octets that begin as those of a telegram with a control octet, and go on so far.
+fn destination(octets: &[u8]) -> Option<u8>
+    ensures { IfSome result (λ da. (is_token octets.now ≡ false)
+        × (da ≡ slice_index octets.now (da_place octets.now))) }
+{
+    match octets {
+        [VAR_START, _, _, _, da, ..] => Some(*da),
+        [SHORT_START | FIXED_START, da, ..] => Some(*da),
+        _ => None,
+    }
 }
 
 /// The token that characters spell, read at once: most telegrams are tokens.

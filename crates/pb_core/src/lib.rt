@@ -16,7 +16,7 @@ mod sending;
 mod waiting;
 
 pub use addresses::Address;
-pub use arrivals::{spelled_telegram, spelled_token, token_in, whole_telegram};
+pub use arrivals::{is_for_others, spelled_telegram, spelled_token, token_in, whole_telegram};
 pub use cores::{Core, Kept};
 pub use cycles::{Cycles, copy_outcome, give_up};
 pub use lists::{entered, hear, readied, removed};

@@ -73,7 +73,7 @@ impl PastMoment {
 pub fn beginning() -> Moment
     ensures { result ≡ 0 }
 {
-    Moment::new(0).unwrap()
+    Moment::at(0)
 }
 
 /// The earlier of two moments, of which either may be missing.
@@ -91,5 +91,5 @@ pub fn after(moment: Moment, bits: u64) -> Moment
     requires { moment + bits ≤ last_moment }
     ensures { result ≡ moment + bits }
 {
-    moment.add(bits).unwrap()
+    Moment::at(moment.get() + bits)
 }

@@ -7,7 +7,7 @@ ghost use Rattle.pb_core.specs.Arrivals.{is_request};
 ghost use Rattle.pb_core.specs.Clocks.{last_turn};
 ghost use Rattle.pb_turn.specs.Phases.{Phase};
 ghost use Rattle.pb_core.specs.Cores.{Becomes};
-ghost use Rattle.pb_core.specs.Replies.{reply_of, code_of, joins, fields_of, answer_to, answers, goes_to};
+ghost use Rattle.pb_core.specs.Replies.{reply_of, code_of, joins, fields_of, answer_to, answers, is_for, goes_to};
 
 use crate::cores::Kept;
 use crate::moments::after;
@@ -124,9 +124,16 @@ fn goes_to(telegram: &Telegram, ts: u8) -> bool
     ensures { result ≡ goes_to ts telegram.now }
 {
     match telegram.head() {
-        Some(head) => head.da % 128 == ts || head.da % 128 == ALL,
+        Some(head) => is_for(ts, head.da),
         None => false,
     }
+}
+
+/// Whether a destination is the station `ts`, or all.
+pub(crate) fn is_for(ts: u8, da: u8) -> bool
+    ensures { result ≡ is_for ts da }
+{
+    da % 128 == ts || da % 128 == ALL
 }
 
 /// Whether a telegram with this head is a request for the status of the station `ts`.

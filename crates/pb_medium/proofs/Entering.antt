@@ -1,28 +1,47 @@
 -- A new entry goes into the trace.
 use Rattle.std.proofs.Common.{◌≡◌, ◌∙◌, ap, sym, refl, arith, ℕ, ◌<◌, ◌≤◌, ◌+◌, ◌==◌, ◌++◌, List, [], ◌∷◌, length, map, Bool, true, false, if◌then◌else◌, nat_lt, ◌||◌, ◌&&◌, append_assoc}
-use Rattle.std.specs.Prelude.{take, drop, get_or}
+use Rattle.std.specs.Prelude.{take, drop, get_or, slice_index_or}
 use Rattle.std.specs.List.{insert}
+use Rattle.std.proofs.Math.ListN.{set, get_or-map}
 use Rattle.std.proofs.lemmas.Bool.{le-ltb, ne_eqb}
-use Rattle.std.proofs.lemmas.List.{take_more, drop-map, drop-drop, take-map, map-append, length-take-le}
-use Rattle.std.proofs.Math.Seq.{take-add}
-use Rattle.pb_model.specs.Trace.{Own, Pending, Entry, entry_begin, rank, goes_before, with_entry, heard_at_first}
+use Rattle.std.proofs.lemmas.List.{take_more, drop-map, drop-drop, take-map, map-append, map-set, length-take-le}
+use Rattle.std.proofs.lemmas.List.Edits.{get_or-insert_at}
+use Rattle.std.proofs.Math.Seq.{take-add, set-append_seam}
+use Rattle.pb_model.specs.Trace.{Own, Pending, Entry, Sent, Noise, entry_begin, rank, goes_before, with_entry, heard_at_first}
 use Rattle.pb_model.specs.Laws.{AllOver}
 use Rattle.pb_model.proofs.Past.{ended-by}
+use Rattle.pb_medium.specs.Speaking.{with_octets}
+use Rattle.pb_medium.specs.Traces.{place_of}
+use Rattle.pb_medium.proofs.Hitting.{place-at}
 
 -- ---- its place
 
--- it stands before the first that it goes before
-pub stands-before : (e x : Entry) (xs : List Entry) (i : ℕ) → with_entry e xs ≡ take i xs ++ with_entry e (drop i xs) → drop i xs ≡ x ∷ drop (i + 1) xs
-    → goes_before e x ≡ true → with_entry e xs ≡ insert xs i e
-stands-before e x xs i passed left before =
-    passed ∙ ap (λ ys. take i xs ++ ys) (ap (with_entry e) left ∙ ap (λ (b : Bool). if b then e ∷ x ∷ drop (i + 1) xs else x ∷ with_entry e (drop (i + 1) xs)) before ∙ ap (λ ys. e ∷ ys) (sym left))
+-- one more has been passed, or it goes before that one
+pub passed : (e x : Entry) (xs : List Entry) (i : ℕ) → place_of e xs ≡ i + place_of e (drop i xs) → drop i xs ≡ x ∷ drop (i + 1) xs
+    → (before : Bool) → goes_before e x ≡ before → place_of e xs ≡ (if before then i else (i + 1) + place_of e (drop (i + 1) xs))
+passed e x xs i so_far left true before = so_far ∙ ap (λ ys. i + place_of e ys) left ∙ ap (λ n. i + n) (place-at (goes_before e) true x (drop (i + 1) xs) before) ∙ omega arith
+passed e x xs i so_far left false behind = so_far ∙ ap (λ ys. i + place_of e ys) left ∙ ap (λ n. i + n) (place-at (goes_before e) false x (drop (i + 1) xs) behind) ∙ omega arith
 
--- it stands behind one that it doesn't go before
-pub stands-behind : (e x : Entry) (xs : List Entry) (i : ℕ) → with_entry e xs ≡ take i xs ++ with_entry e (drop i xs) → drop i xs ≡ x ∷ drop (i + 1) xs
-    → take (i + 1) xs ≡ take i xs ++ x ∷ [] → goes_before e x ≡ false → with_entry e xs ≡ take (i + 1) xs ++ with_entry e (drop (i + 1) xs)
-stands-behind e x xs i passed left more behind =
-    passed ∙ ap (λ ys. take i xs ++ ys) (ap (with_entry e) left ∙ ap (λ (b : Bool). if b then e ∷ x ∷ drop (i + 1) xs else x ∷ with_entry e (drop (i + 1) xs)) behind)
-    ∙ sym (append_assoc (take i xs) (x ∷ []) (with_entry e (drop (i + 1) xs))) ∙ ap (λ ys. ys ++ with_entry e (drop (i + 1) xs)) (sym more)
+-- it stands at its place
+stands-at : (e : Entry) (xs : List Entry) → insert xs (place_of e xs) e ≡ with_entry e xs
+stands-at e [] = refl
+stands-at e (x ∷ xs) = by (stands-at e xs) (goes_before e x) refl
+  where
+    by : insert xs (place_of e xs) e ≡ with_entry e xs → (b : Bool) → goes_before e x ≡ b → insert (x ∷ xs) (place_of e (x ∷ xs)) e ≡ with_entry e (x ∷ xs)
+    by rest true before = ap (λ n. insert (x ∷ xs) n e) (place-at (goes_before e) true x xs before) ∙ sym (ap (λ (b : Bool). if b then e ∷ x ∷ xs else x ∷ with_entry e xs) before)
+    by rest false behind =
+        ap (λ n. insert (x ∷ xs) n e) (place-at (goes_before e) false x xs behind) ∙ ap (λ ys. x ∷ ys) rest
+        ∙ sym (ap (λ (b : Bool). if b then e ∷ x ∷ xs else x ∷ with_entry e xs) behind)
+
+-- so it does behind what is over
+pub stands-behind : (e : Entry) (over : ℕ) (xs : List Entry) → insert xs (over + place_of e (drop over xs)) e ≡ take over xs ++ with_entry e (drop over xs)
+stands-behind e over xs =
+    let rest = drop over xs in
+    let place = place_of e rest in
+    ap (λ ys. ys ++ e ∷ drop (over + place) xs) (take-add over place xs)
+    ∙ append_assoc (take over xs) (take place rest) (e ∷ drop (over + place) xs)
+    ∙ ap (λ ys. take over xs ++ (take place rest ++ e ∷ ys)) (sym (drop-drop place over xs))
+    ∙ ap (λ ys. take over xs ++ ys) (stands-at e rest)
 
 -- ---- it goes before nothing that is over
 
@@ -53,14 +72,30 @@ heard-more speaker i (t ∷ ts) there =
     ∙ ap (λ n. heard_at_first speaker 0 (take i (t ∷ ts)) ++ (if n == speaker then Own else Pending) ∷ [])
     (let count : length (take i (t ∷ ts)) ≡ i = length-take-le i (t ∷ ts) (omega (arith, there)) in let same : 0 + length (take i (t ∷ ts)) ≡ i = omega (arith, count) in same)
 
--- ---- it is put among what is not over
+-- ---- it is put among others, and written where it stays
 
-pub inserted-behind : {X Y : Type 0} (f : X → Y) (xs : List X) (over place : ℕ) (x : X)
-    → map f (insert xs (over + place) x) ≡ take over (map f xs) ++ insert (map f (drop over xs)) place (f x)
-inserted-behind f xs over place x =
-    map-append f (take (over + place) xs) (x ∷ drop (over + place) xs)
-    ∙ ap (λ ys. ys ++ f x ∷ map f (drop (over + place) xs)) (ap (map f) (take-add over place xs) ∙ map-append f (take over xs) (take place (drop over xs)))
-    ∙ append_assoc (map f (take over xs)) (map f (take place (drop over xs))) (f x ∷ map f (drop (over + place) xs))
-    ∙ ap (λ ys. ys ++ (map f (take place (drop over xs)) ++ f x ∷ map f (drop (over + place) xs))) (sym (take-map f over xs))
-    ∙ ap (λ ys. take over (map f xs) ++ (ys ++ f x ∷ map f (drop (over + place) xs))) (sym (take-map f place (drop over xs)))
-    ∙ ap (λ ys. take over (map f xs) ++ (take place (map f (drop over xs)) ++ f x ∷ ys)) (ap (map f) (sym (drop-drop place over xs)) ∙ sym (drop-map f place (drop over xs)))
+pub inserted : {X Y : Type 0} (f : X → Y) (xs : List X) (i : ℕ) (x : X) → map f (insert xs i x) ≡ insert (map f xs) i (f x)
+inserted f xs i x =
+    map-append f (take i xs) (x ∷ drop i xs)
+    ∙ ap (λ ys. ys ++ f x ∷ map f (drop i xs)) (sym (take-map f i xs))
+    ∙ ap (λ ys. take i (map f xs) ++ f x ∷ ys) (sym (drop-map f i xs))
+
+-- its octets don't change its place
+same-place : (octets : List ℕ) (e : Entry) (xs : List Entry) → place_of e xs ≡ place_of (with_octets octets e) xs
+same-place octets (Noise span) xs = refl
+same-place octets (Sent r) xs = refl
+
+set-inserted : (xs : List Entry) (i : ℕ) (e x : Entry) → i ≤ length xs → set (insert xs i e) i x ≡ insert xs i x
+set-inserted xs i e x some = ap (λ n. set (insert xs i e) n x) (sym (length-take-le i xs some)) ∙ set-append_seam (take i xs) e (drop i xs) x
+
+pub spelt-behind : {X : Type 0} (f : X → Entry) (octets : List ℕ) (e : Entry) (over : ℕ) (xs : List Entry) (i : ℕ) (ys : List X) (x y : X)
+    → i ≡ over + place_of e (drop over xs) → i ≤ length xs → map f ys ≡ insert xs i e → x ≡ slice_index_or ys i x → f y ≡ with_octets octets (f x)
+    → map f (set ys i y) ≡ take over xs ++ with_entry (with_octets octets e) (drop over xs)
+spelt-behind f octets e over xs i ys x y place some is here spelt =
+    let same : f x ≡ e = ap f here ∙ sym (get_or-map f ys i x) ∙ ap (λ zs. get_or zs i (f x)) is ∙ get_or-insert_at xs i e (f x) some in
+    map-set f ys i y
+    ∙ ap (λ zs. set zs i (f y)) is
+    ∙ ap (set (insert xs i e) i) (spelt ∙ ap (with_octets octets) same)
+    ∙ set-inserted xs i e (with_octets octets e) some
+    ∙ ap (λ n. insert xs n (with_octets octets e)) (place ∙ ap (λ n. over + n) (same-place octets e (drop over xs)))
+    ∙ stands-behind (with_octets octets e) over xs

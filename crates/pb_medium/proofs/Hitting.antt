@@ -63,7 +63,7 @@ set-at f xs i x there =
 
 -- ---- the place that a search finds
 
-place-at : (test : Entry → Bool) (b : Bool) (x : Entry) (xs : List Entry) → test x ≡ b → position_or_len test (x ∷ xs) ≡ (if b then 0 else suc (position_or_len test xs))
+pub place-at : (test : Entry → Bool) (b : Bool) (x : Entry) (xs : List Entry) → test x ≡ b → position_or_len test (x ∷ xs) ≡ (if b then 0 else suc (position_or_len test xs))
 place-at test true x xs passes = ap (λ (b : Bool). cond (not b) (1 + position_or_len test xs) 0) passes
 place-at test false x xs fails = ap (λ (b : Bool). cond (not b) (1 + position_or_len test xs) 0) fails ∙ omega arith
 

@@ -1,3 +1,4 @@
+pub mod Alone
 pub mod Closing
 pub mod Entering
 pub mod Hitting

@@ -1,10 +1,11 @@
 -- How a telegram reached the taps: one tap more in a set of taps.
-use Rattle.std.proofs.Common.{◌≡◌, ◌≢◌, ◌∙◌, ℕ, zero, suc, ◌+◌, ◌<◌, ◌≤◌, List, [], ◌∷◌, length, set, get_or, take, drop, ◌++◌, refl, ap, sym, arith, Some, None, Bool, true, false, if◌then◌else◌, ◌==◌}
-use Rattle.std.specs.Prelude.{slice_get}
+use Rattle.std.proofs.Common.{◌≡◌, ◌≢◌, ◌∙◌, ℕ, zero, suc, ◌+◌, ◌<◌, ◌≤◌, List, [], ◌∷◌, length, set, get_or, take, drop, ◌++◌, refl, ap, sym, arith, Some, None, Bool, true, false, if◌then◌else◌, ◌==◌, inl, inr}
+use Rattle.std.specs.Prelude.{slice_get, nat_lt}
+use Rattle.std.proofs.lemmas.Bool.{ltb-true, ltb-false, cases_Bool}
 use Rattle.pb_model.specs.Trace.{Heard, Own, Pending, heard_at_first}
 use Rattle.pb_model.specs.Medium.{is_unheard, heard_in_the_end}
 use Rattle.pb_medium.specs.declared.receptions.Reception.TheInside.{Inside}
-use Rattle.pb_medium.specs.Receptions.{listed, heard_as, heard_by_tap, heard_list}
+use Rattle.pb_medium.specs.Receptions.{holds, listed, heard_as, heard_by_tap, heard_list}
 
 -- ---- lists of what a function says of each tap
 
@@ -94,6 +95,15 @@ as-unheard false true whole damaged = refl
 as-unheard false false true damaged = refl
 as-unheard false false false true = refl
 as-unheard false false false false = refl
+
+-- nothing is lost at any tap
+pub heard-by-all : (r : Inside) (hs : List Heard) → heard_list r ≡ hs → ((tap : ℕ) → holds r.unheard tap ≡ false) → (tap : ℕ) → is_unheard (slice_get hs tap) ≡ false
+heard-by-all r hs seen none tap =
+    elim (cases_Bool (nat_lt tap r.taps)) [
+      | inl e ↦ ap is_unheard (list-at r hs tap seen (ltb-true tap r.taps e))
+          ∙ sym (as-unheard (holds r.unheard tap) (tap == r.speaker) (holds r.whole tap) (holds r.damaged tap)) ∙ none tap
+      | inr e ↦ ap is_unheard (list-none r hs tap seen (ltb-false tap r.taps e))
+    ]
 
 pub came-damaged : (unheard own whole damaged : Bool) → heard_as unheard own whole true ≡ heard_in_the_end false (heard_as unheard own whole damaged)
 came-damaged true own whole damaged = refl

@@ -4,20 +4,18 @@ use Rattle.std.proofs.Math.Bool.{and-true}
 use Rattle.std.proofs.lemmas.Bool.Decides.{nat_tests}
 use Rattle.std.proofs.lemmas.List.{length-take-le}
 use Rattle.pb_timers.specs.Timers.{bits}
-use Rattle.std.specs.Prelude.{◌-◌, ◌/◌, ◌≤◌, take, nat_lt, nat_le, min, max, filter, filter_map, find, fold, count_by, slice_get}
+use Rattle.std.specs.Prelude.{◌-◌, ◌/◌, ◌≤◌, take, nat_lt, nat_le, min, filter, filter_map, find, fold, count_by, slice_get}
 use Rattle.std.specs.List.{list_any, list_all, cons_option, reduce}
-use Rattle.std.specs.Option.{option_and_then, option_map}
+use Rattle.std.specs.Option.{option_map}
 use Rattle.pb_telegram.specs.Faults.{is_bad}
 use Rattle.pb_telegram.specs.declared.chars.RxChar.{RxChar}
 use Rattle.pb_telegram.specs.declared.chars.RxChar.TheVariants.{Good, Bad}
-use Rattle.pb_model.specs.Medium.{Tap, reaches, reaches_taps, at_tap, part_after, is_unheard, sensed, begins_in, ends_in, hears_from, overlaps, sends_during, fills_burst, fills_burst_to, entry_characters, burst_characters, is_whole_at}
-use Rattle.pb_turn.specs.Spans.{Span}
+use Rattle.pb_model.specs.Medium.{Tap, reaches, reaches_taps, is_unheard, sensed, hears_from, overlaps, sends_during, fills_burst, is_whole_at}
 use Rattle.pb_turn.specs.Stations.{earlier}
-use Rattle.pb_model.specs.Trace.{Hit, Record, Entry, Noise, Sent, hits_place, characters_from, characters_at}
+use Rattle.pb_model.specs.Trace.{Hit, Record, Entry, hits_place, characters_from, characters_at}
 use Rattle.pb_model.specs.World.{later_end, entry_next_end, next_end_of}
 use Rattle.pb_runs.specs.Bus.{next_known}
-use Rattle.pb_model.proofs.Cases.{by_test}
-use Rattle.pb_medium.specs.Senses.{begin_between, end_between, is_alone, is_undamaged}
+use Rattle.pb_medium.specs.Senses.{is_alone, is_undamaged}
 
 pub list_any-map : {X Y : Type 0} (test : Y → Bool) (f : X → Y) (xs : List X) → list_any test (map f xs) ≡ list_any (λ x. test (f x)) xs
 list_any-map test f [] = refl
@@ -114,83 +112,6 @@ whole-filled delay tap t trace r fills undamaged runs f u =
     ap (λ (b : Bool). b && undamaged) f ∙ ap (λ (b : Bool). fills_burst delay tap t trace r && b) u
     ∙ whole-parts t.running (fills_burst delay tap t trace r) (length (characters_at tap r) == length r.octets) (list_all (λ char. not (is_bad char)) (characters_at tap r)) runs
 
--- ---- where one entry is all that there is
-
-begins-alone : (span : Span) (from to : ℕ) → begins_in (span ∷ []) from to span ≡ (nat_le from span.begin && nat_lt span.begin to)
-begins-alone span from to = grind (arith, nat_tests)
-
-ends-alone : (span : Span) (from to : ℕ) → ends_in (span ∷ []) from to span ≡ (nat_lt from span.end && nat_le span.end to)
-ends-alone span from to = grind (arith, nat_tests)
-
--- what is found where there is one element
-find-only : {X Y : Type 0} (f : X → Y) (test : X → Bool) (x : X) (b : Bool) → test x ≡ b → option_map f (find test (x ∷ [])) ≡ (if b then Some (f x) else None)
-find-only f test x true t = ap (λ (c : Bool). option_map f (cond c (Some x) None)) t
-find-only f test x false t = ap (λ (c : Bool). option_map f (cond c (Some x) None)) t
-
-begin-between-alone : (span : Span) (from to : ℕ) → begin_between (span ∷ []) from to ≡ (if nat_le from span.begin && nat_lt span.begin to then Some span.begin else None)
-begin-between-alone span from to =
-    find-only (λ (x : Span). x.begin) (begins_in (span ∷ []) from to) span (nat_le from span.begin && nat_lt span.begin to) (begins-alone span from to)
-
-end-between-alone : (span : Span) (from to : ℕ) → end_between (span ∷ []) from to ≡ (if nat_lt from span.end && nat_le span.end to then Some span.end else None)
-end-between-alone span from to =
-    find-only (λ (x : Span). x.end) (ends_in (span ∷ []) from to) span (nat_lt from span.end && nat_le span.end to) (ends-alone span from to)
-
-part-begin : (since : ℕ) (span part : Span) → part_after since span ≡ Some part → part.begin ≡ max span.begin since
-part-begin since span part =
-    by_test (λ (o : Option Span). o ≡ Some part → part.begin ≡ max span.begin since) (nat_lt since span.end) (Some (record { begin = max span.begin since; end = span.end })) None
-    (λ _ is. cc) (λ _ is. absurd cc)
-
-part-end : (since : ℕ) (span part : Span) → part_after since span ≡ Some part → part.end ≡ span.end
-part-end since span part =
-    by_test (λ (o : Option Span). o ≡ Some part → part.end ≡ span.end) (nat_lt since span.end) (Some (record { begin = max span.begin since; end = span.end })) None
-    (λ _ is. cc) (λ _ is. absurd cc)
-
--- what a tap has sensed of an entry begins with it, or with the tap
-pub sensed-begin : (delay tap since : ℕ) (e : Entry) (part : Span) → option_and_then (part_after since) (at_tap delay tap e) ≡ Some part → part.begin ≡ max (reaches_taps delay e).begin since
-sensed-begin delay tap since (Noise span) part is = part-begin since span part is
-sensed-begin delay tap since (Sent r) part is =
-    by_test (λ (o : Option Span). option_and_then (part_after since) o ≡ Some part → part.begin ≡ max (reaches delay r).begin since)
-    (r.tap == tap || is_unheard (slice_get r.heard tap)) None (Some (reaches delay r)) (λ _ none. absurd cc) (λ _ some. part-begin since (reaches delay r) part some) is
-
--- it ends with it
-pub sensed-end : (delay tap since : ℕ) (e : Entry) (part : Span) → option_and_then (part_after since) (at_tap delay tap e) ≡ Some part → part.end ≡ (reaches_taps delay e).end
-sensed-end delay tap since (Noise span) part is = part-end since span part is
-sensed-end delay tap since (Sent r) part is =
-    by_test (λ (o : Option Span). option_and_then (part_after since) o ≡ Some part → part.end ≡ (reaches delay r).end)
-    (r.tap == tap || is_unheard (slice_get r.heard tap)) None (Some (reaches delay r)) (λ _ none. absurd cc) (λ _ some. part-end since (reaches delay r) part some) is
-
-none-either : {X : Type 0} (b : Bool) → (let none : Option X = None in none) ≡ (if b then None else None)
-none-either true = refl
-none-either false = refl
-
--- when a burst begins where there is one stretch at most
-pub begin-of-part : (o : Option Span) (begin from to : ℕ) → ((part : Span) → o ≡ Some part → part.begin ≡ begin)
-    → begin_between (cons_option o []) from to ≡ (if nat_le from begin && nat_lt begin to then option_map (λ (span : Span). span.begin) o else None)
-begin-of-part None begin from to is = none-either (nat_le from begin && nat_lt begin to)
-begin-of-part (Some part) begin from to is =
-    begin-between-alone part from to ∙ ap (λ (m : ℕ). if nat_le from m && nat_lt m to then Some part.begin else None) (is part refl)
-
--- when one ends
-pub end-of-part : (o : Option Span) (end from to : ℕ) → ((part : Span) → o ≡ Some part → part.end ≡ end)
-    → end_between (cons_option o []) from to ≡ (if nat_lt from end && nat_le end to then option_map (λ (span : Span). span.end) o else None)
-end-of-part None end from to is = none-either (nat_lt from end && nat_le end to)
-end-of-part (Some part) end from to is =
-    end-between-alone part from to ∙ ap (λ (m : ℕ). if nat_lt from m && nat_le m to then Some part.end else None) (is part refl)
-
-pub only_begins : (delay tap since from to : ℕ) (e : Entry)
-    → begin_between (sensed delay tap since (e ∷ [])) from to
-    ≡ (if nat_le from (max (reaches_taps delay e).begin since) && nat_lt (max (reaches_taps delay e).begin since) to
-    then option_map (λ (span : Span). span.begin) (option_and_then (part_after since) (at_tap delay tap e)) else None)
-only_begins delay tap since from to e =
-    begin-of-part (option_and_then (part_after since) (at_tap delay tap e)) (max (reaches_taps delay e).begin since) from to (sensed-begin delay tap since e)
-
-pub only_ends : (delay tap since from to : ℕ) (e : Entry)
-    → end_between (sensed delay tap since (e ∷ [])) from to
-    ≡ (if nat_lt from (reaches_taps delay e).end && nat_le (reaches_taps delay e).end to
-    then option_map (λ (span : Span). span.end) (option_and_then (part_after since) (at_tap delay tap e)) else None)
-only_ends delay tap since from to e =
-    end-of-part (option_and_then (part_after since) (at_tap delay tap e)) (reaches_taps delay e).end from to (sensed-end delay tap since e)
-
 -- ---- characters
 
 pub characters-step : (tap : ℕ) (hits : List Hit) (place : ℕ) (octets : List ℕ) (chars : List RxChar) (char : RxChar) → place < length octets
@@ -219,17 +140,6 @@ pub unhit-characters : (tap : ℕ) (r : Record) (sent : ℕ) → r.hits ≡ [] �
 unhit-characters tap r sent none taken =
     unhit-anywhere 0 tap 0 (take sent r.octets) ∙ ap (characters_from tap [] 0) taken
     ∙ sym (ap (λ (hits : List Hit). characters_from tap hits 0 (take ((r.end - r.begin) / bits 1) r.octets)) none)
-
-good-characters : (tap place : ℕ) (octets : List ℕ) → characters_from tap [] place octets ≡ map Good octets
-good-characters tap place [] = refl
-good-characters tap place (octet ∷ octets) = ap (λ (chars : List RxChar). Good octet ∷ chars) (good-characters tap (place + 1) octets)
-
--- the burst that a telegram without a hit fills alone, where it is all that there is
-pub only-filled : (delay tap : ℕ) (t : Tap) (r : Record) (m sent : ℕ) → fills_burst_to delay tap t (Sent r ∷ []) m (Sent r) ≡ true → r.hits ≡ []
-    → take sent r.octets ≡ take ((r.end - r.begin) / bits 1) r.octets → map Good (take sent r.octets) ≡ burst_characters delay tap t (Sent r ∷ []) m
-only-filled delay tap t r m sent fills none taken =
-    sym (good-characters 0 0 (take sent r.octets)) ∙ unhit-characters tap r sent none taken
-    ∙ sym (ap (λ (b : Bool). entry_characters tap (cond b (Some (Sent r)) None)) fills)
 
 -- a telegram without a hit comes undamaged where all its octets went out
 pub unhit-undamaged : (tap : ℕ) (r : Record) (sent : ℕ) → r.hits ≡ [] → take sent r.octets ≡ take ((r.end - r.begin) / bits 1) r.octets → sent ≤ length r.octets

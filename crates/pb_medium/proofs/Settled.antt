@@ -1,15 +1,18 @@
 -- How a pass settles what was in the air.
-use Rattle.std.proofs.Common.{◌≡◌, ℕ, zero, suc, ◌+◌, ◌<◌, List, [], ◌∷◌, ◌++◌, Bool, true, false, if◌then◌else◌, not, length, map, get_or, take, drop, ◌&&◌, ◌||◌, ◌==◌, refl, ap, sym, ◌∙◌, arith, Option, Some, None}
+use Rattle.std.proofs.Common.{◌≡◌, ℕ, zero, suc, ◌+◌, ◌<◌, ◌≤◌, List, [], ◌∷◌, ◌++◌, Bool, true, false, if◌then◌else◌, not, length, map, get_or, set, take, drop, ◌&&◌, ◌||◌, ◌==◌, refl, ap, sym, ◌∙◌, arith, Option, Some, None}
 use Rattle.std.specs.Prelude.{slice_get, count_by}
 use Rattle.std.specs.List.{list_any, list_all, cons_option}
 use Rattle.std.specs.Option.{option_and_then, option_map}
-use Rattle.std.proofs.lemmas.Option.{slice_get-map, slice_get_read}
+use Rattle.std.proofs.lemmas.Option.{slice_get-map, slice_get_read, slice_get_past}
+use Rattle.std.proofs.lemmas.List.{length-map, set-get_or}
 use Rattle.pb_telegram.specs.Faults.{is_bad}
 use Rattle.pb_turn.specs.Spans.{Span}
 use Rattle.pb_model.specs.Trace.{Heard, Own, Whole, Damaged, Unheard, Pending, Record, Entry, Sent, Noise, characters_at}
 use Rattle.pb_model.specs.Medium.{Tap, overlaps, part_after, reaches, is_unheard, at_tap, sensed, hears_from, sends_during, fills_burst, is_whole_at, heard_in_the_end, heard_by, ends_between, entry_at}
 use Rattle.pb_model.proofs.Cases.{by_test}
+use Rattle.pb_taps.proofs.Replacing.{replaced-more, replaced-all, replaced-at}
 use Rattle.pb_medium.specs.Settling.{heard_with}
+use Rattle.pb_medium.proofs.Receiving.{replaced-length}
 
 -- ---- entries that look the same
 
@@ -123,6 +126,39 @@ heard_by-at delay es r tap (t ∷ ts) [] i n d same within = absurd (omega arith
 heard_by-at delay es r tap (t ∷ ts) (h ∷ hs) zero n d same within =
     ap (λ (m : ℕ). heard_in_the_end (is_whole_at delay m t es r) h) (let e : tap ≡ n = omega arith in e)
 heard_by-at delay es r tap (t ∷ ts) (h ∷ hs) (suc i) n d same within = heard_by-at delay es r (tap + 1) ts hs i n d (omega arith) (omega arith)
+
+-- nothing settles where there is no tap
+pub none-settles : {X : Type 0} (f : X → Tap) (delay : ℕ) (es : List Entry) (r : Record) (xs : List X) (hs : List Heard) (tap : ℕ) → length xs ≤ tap
+    → hs ≡ set hs tap (heard_with delay es r tap (slice_get (map f xs) tap) (get_or hs tap Pending))
+none-settles f delay es r xs hs tap past =
+    sym (set-get_or hs tap Pending)
+    ∙ ap (λ (o : Option Tap). set hs tap (heard_with delay es r tap o (get_or hs tap Pending))) (sym (slice_get_past (map f xs) tap (omega (arith, length-map xs f, past))))
+
+-- what is known while the telegram has settled at the taps before one
+pub settles-length : (delay : ℕ) (es : List Entry) (r : Record) (ts : List Tap) (before now : List Heard) (tap : ℕ)
+    → now ≡ take tap (heard_by delay es r 0 ts before) ++ drop tap before → length now ≡ length before
+settles-length delay es r ts before now tap front =
+    ap (λ (hs : List Heard). length hs) front ∙ replaced-length (heard_by delay es r 0 ts before) before tap (heard_by-length delay es r 0 ts before)
+
+-- it settles at that tap too
+pub settles-more : (delay : ℕ) (es : List Entry) (r : Record) (ts : List Tap) (before now : List Heard) (tap : ℕ)
+    → now ≡ take tap (heard_by delay es r 0 ts before) ++ drop tap before → tap < length before
+    → set now tap (heard_with delay es r tap (slice_get ts tap) (get_or now tap Pending)) ≡ take (tap + 1) (heard_by delay es r 0 ts before) ++ drop (tap + 1) before
+settles-more delay es r ts before now tap front within =
+    let all = heard_by delay es r 0 ts before in
+    let same : length all ≡ length before = heard_by-length delay es r 0 ts before in
+    let none : 0 + tap ≡ tap = omega arith in
+    let settled : Heard → Heard = heard_with delay es r tap (slice_get ts tap) in
+    let is : settled (get_or now tap Pending) ≡ get_or all tap Pending =
+    ap (λ (hs : List Heard). settled (get_or hs tap Pending)) front ∙ ap settled (replaced-at all before tap Pending same within)
+    ∙ sym (heard_by-at delay es r 0 ts before tap tap Pending none within) in
+    ap (λ (hs : List Heard). set hs tap (settled (get_or now tap Pending))) front ∙ replaced-more all before tap (settled (get_or now tap Pending)) Pending same within is
+
+-- it has settled at all of them
+pub settles-all : (delay : ℕ) (es : List Entry) (r : Record) (ts : List Tap) (before now : List Heard) (tap : ℕ)
+    → now ≡ take tap (heard_by delay es r 0 ts before) ++ drop tap before → length before ≤ tap → now ≡ heard_by delay es r 0 ts before
+settles-all delay es r ts before now tap front over =
+    front ∙ replaced-all (heard_by delay es r 0 ts before) before tap (heard_by-length delay es r 0 ts before) over
 
 -- what a telegram in the air was to a tap
 pub pending-heard : {X : Type 0} (f : X → Tap) (delay : ℕ) (es : List Entry) (r : Record) (xs : List X) (tap : ℕ) (x : X) (h : Heard) (whole : Bool) → tap < length xs

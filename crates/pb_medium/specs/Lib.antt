@@ -2,6 +2,7 @@ pub mod Receptions
 pub mod Entries
 pub mod Traces
 pub mod Senses
+pub mod Lone
 pub mod Airs
 pub mod Speaking
 pub mod Damaging

@@ -1,8 +1,17 @@
 -- What a pass does to the entries of the trace.
-use Rattle.std.specs.Prelude.{ℕ, List, length, map, drop, is_some, if◌then◌else◌, Option, Some, None}
+use Rattle.std.specs.Prelude.{ℕ, Bool, not, ◌==◌, nat_lt, ◌&&◌, List, length, map, drop, slice_get, is_some, if◌then◌else◌, Option, Some, None}
 use Rattle.pb_model.specs.Trace.{Heard, Record, Entry, Sent, Noise}
-use Rattle.pb_model.specs.Medium.{Tap, entry_at, is_whole_at, heard_in_the_end}
+use Rattle.pb_model.specs.Medium.{Tap, reaches, is_unheard, hears_from, entry_at, is_whole_at, heard_in_the_end}
 use Rattle.pb_model.specs.World.{next_end_of}
+use Rattle.pb_medium.specs.Senses.{is_undamaged}
+
+-- a tap runs, has heard a telegram from its beginning, and is not its speaker
+abbrev pub hears_all : ℕ → ℕ → Tap → Record → Bool
+hears_all delay tap t r = t.running && hears_from t (reaches delay r).begin && not (r.tap == tap)
+
+-- a telegram lasts, is not lost at a tap, and comes there undamaged: it is whole to a tap that hears it from its beginning, with nothing else
+abbrev pub comes_whole : ℕ → Record → Bool
+comes_whole tap r = nat_lt r.begin r.end && not (is_unheard (slice_get r.heard tap)) && is_undamaged tap r
 
 -- what a telegram that has ended was to the tap at a position, if there is one
 abbrev pub heard_with : ℕ → List Entry → Record → ℕ → Option Tap → Heard → Heard

@@ -1,5 +1,6 @@
 -- What a tap says goes into the trace.
 use Rattle.std.specs.Prelude.{◌≡◌, ℕ, Bool, true, false, List, Option, is_some, nat_le, ◌&&◌}
+use Rattle.pb_model.specs.Trace.{Entry, Sent, Noise}
 use Rattle.pb_model.specs.World.{trace_limit}
 use Rattle.pb_taps.specs.declared.faults.WorldFault.{WorldFault}
 use Rattle.pb_taps.specs.declared.faults.WorldFault.TheVariants as fault
@@ -13,3 +14,8 @@ abbrev pub RefusesSaid : Option (List ℕ) → ℕ → WorldFault → Type 0
 RefusesSaid said entries fault.TraceFull = is_full said entries ≡ true
 RefusesSaid said entries fault.NoMemory = (is_full said entries ≡ false) × (is_some said ≡ true)
 RefusesSaid said entries other = ⊥
+
+-- an entry whose telegram, if it is one, has these octets
+abbrev pub with_octets : List ℕ → Entry → Entry
+with_octets octets (Noise span) = Noise span
+with_octets octets (Sent r) = Sent (record r { octets = octets })

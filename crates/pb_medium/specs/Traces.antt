@@ -1,5 +1,6 @@
 -- The trace of a medium: what had ended before all else began, and the recent entries.
 use Rattle.std.specs.Prelude.{◌≡◌, ◌≤◌, ◌<◌, ℕ, List, length, map, take, drop, ◌++◌, vec_capacity}
+use Rattle.std.specs.List.{position_or_len}
 use Rattle.pb_model.specs.Trace as model
 use Rattle.pb_model.specs.World.{trace_limit}
 use Rattle.pb_medium.specs.Entries.{entry_of}
@@ -18,6 +19,10 @@ over_of t = t.over
 -- the others
 abbrev pub recent_of : Trace → List model.Entry
 recent_of t = drop t.over (entries_of t)
+
+-- the place of an entry among others: right before the first that it goes before, or behind them all
+abbrev pub place_of : model.Entry → List model.Entry → ℕ
+place_of e entries = position_or_len (model.goes_before e) entries
 
 -- the recent entries change, and nothing else
 pub record RecentBecomes (change : List model.Entry → List model.Entry) (before after : Trace) : Type 0 where

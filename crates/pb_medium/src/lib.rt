@@ -6,6 +6,7 @@ mod changing;
 mod cutting;
 mod damaging;
 mod entries;
+mod lone;
 mod losing;
 mod noising;
 mod placing;
@@ -19,9 +20,10 @@ mod traces;
 
 pub use changing::{next_begin, something_lasts};
 pub use entries::{Entry, Heard, Hit, Record};
+pub use lone::{Lone, lone_in};
 pub use receptions::Reception;
 pub use senses::{
-    begin_between, burst_octets, end_between, filling_telegram, is_in_air_by, is_reached, next_end,
+    begin_between, end_between, filling_telegram, is_in_air_by, is_reached, next_end,
     telegram_characters,
 };
 pub use spans::Span;

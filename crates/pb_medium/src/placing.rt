@@ -1,15 +1,13 @@
 ghost use Rattle.std.specs.Prelude.{◌≡◌, ◌≤◌, length, map};
-ghost use Rattle.std.specs.List.{insert};
-ghost use Rattle.pb_model.specs.Trace.{with_entry};
 ghost use Rattle.pb_medium.specs.Entries.{entry_of};
+ghost use Rattle.pb_medium.specs.Traces.{place_of};
 
 use crate::entries::Entry;
 
 /// Before how many of some entries an entry does not go: it stands right behind them.
 pub(crate) fn place_among(others: &[Entry], entry: &Entry) -> usize
     ensures bound { result ≤ length others.now }
-    ensures place { with_entry (entry_of entry.now) (map entry_of others.now)
-        ≡ insert (map entry_of others.now) result (entry_of entry.now) }
+    ensures place { result ≡ place_of (entry_of entry.now) (map entry_of others.now) }
 {
     for (place, other) in others.iter().enumerate() {
         if entry.goes_before(other) {

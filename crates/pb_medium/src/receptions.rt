@@ -31,7 +31,7 @@ impl Model for Reception {
 }
 
 impl Reception {
-    ghost use Rattle.std.specs.Prelude.{◌≡◌, ◌≤◌, ◌<◌, List, get_or, length, slice_get, slice_set, Some};
+    ghost use Rattle.std.specs.Prelude.{◌≡◌, ◌≤◌, ◌<◌, ℕ, IsTrue, List, false, get_or, length, slice_get, slice_set, Some};
     ghost use Rattle.std.specs.Option.{option_map};
     ghost use Rattle.pb_model.specs.Medium as model;
     ghost use Rattle.pb_model.specs.Trace as trace;
@@ -96,6 +96,13 @@ impl Reception {
             return false;
         }
         tap < self.taps && self.unheard.contains(tap)
+    }
+
+    /// Whether there is no tap to which it never comes.
+    pub(crate) fn is_heard_by_all(&self) -> bool
+        ensures { IsTrue result → (tap : ℕ) → model.is_unheard (slice_get self.now tap) ≡ false }
+    {
+        self.unheard.is_empty()
     }
 
     /// It never comes to a tap, if there is one.

@@ -1,4 +1,4 @@
-ghost use Rattle.std.specs.Prelude.{◌≡◌, ◌∷◌, [], ℕ, ◌-◌, ◌/◌, ◌≤◌, IfSome, List, map, count_by, length, not, take, if◌then◌else◌};
+ghost use Rattle.std.specs.Prelude.{◌≡◌, [], ℕ, ◌-◌, ◌/◌, ◌≤◌, List, map, count_by, length, not, take, if◌then◌else◌};
 ghost use Rattle.std.specs.List.{list_any, list_all};
 ghost use Rattle.std.specs.Option.{option_and_then, option_map};
 ghost use Rattle.pb_timers.specs.Timers as timers;
@@ -21,7 +21,6 @@ use pb_telegram::RxChar;
 use pb_timers::CHARACTER_BITS;
 
 /// When a burst begins at a tap, which has sensed since a moment, from one moment on and before another.
-#[inline(always)]
 pub fn begin_between(
     entries: &[Entry],
     delay: u32,
@@ -32,14 +31,18 @@ pub fn begin_between(
 ) -> Option<u64>
     ensures { result ≡ begin_between (sensed delay tap since (map entry_of entries.now)) from to }
 {
-    if let [only] = entries {
-        return only_begin(only, delay, tap, since, from, to);
-    }
-    first_begin(entries, delay, tap, since, from, to)
+    let first = entries
+        .iter()
+        .filter_map(|entry| sensed(entry, delay, tap, since))
+        .find(|span| {
+            from <= span.begin()
+                && span.begin() < to
+                && burst_begins(entries, delay, tap, since, span.begin())
+        })?;
+    Some(first.begin())
 }
 
 /// When a burst ends at a tap, which has sensed since a moment, after one moment, at another at the latest.
-#[inline(always)]
 pub fn end_between(
     entries: &[Entry],
     delay: u32,
@@ -50,10 +53,15 @@ pub fn end_between(
 ) -> Option<u64>
     ensures { result ≡ end_between (sensed delay tap since (map entry_of entries.now)) from to }
 {
-    if let [only] = entries {
-        return only_end(only, delay, tap, since, from, to);
-    }
-    first_end(entries, delay, tap, since, from, to)
+    let first = entries
+        .iter()
+        .filter_map(|entry| sensed(entry, delay, tap, since))
+        .find(|span| {
+            from < span.end()
+                && span.end() <= to
+                && burst_ends(entries, delay, tap, since, span.end())
+        })?;
+    Some(first.end())
 }
 
 /// Whether a telegram fills a burst of the tap at a position alone.
@@ -71,32 +79,6 @@ pub(crate) fn fills_burst(
 {
     tap.hears_from(telegram.reaches(delay).begin())
         && is_alone(entries, delay, position, tap.since, telegram)
-}
-
-/// The octets that the burst of a tap which ends at a moment brings, where it is one telegram that nothing hits.
-#[inline(always)]
-pub fn burst_octets<'a>(
-    entries: &'a [Entry],
-    delay: u32,
-    position: usize,
-    tap: &Tap,
-    moment: u64,
-) -> Option<&'a [u8]>
-    ensures characters { IfSome result (λ octets. map Good octets.now
-        ≡ model.burst_characters delay position (tap_of tap.now) (map entry_of entries.now) moment) }
-    ensures fits { IfSome result (λ octets. length octets.now ≤ 255) }
-{
-    let [only] = entries else {
-        return None;
-    };
-    match only {
-        Entry::Sent(telegram)
-            if telegram.hits.is_empty()
-                && fills_burst_to(entries, delay, position, tap, moment, only) => {
-            Some(&telegram.octets[..sent_octets(telegram)])
-        }
-        _ => None,
-    }
 }
 
 /// The telegram that fills the burst of a tap which ends at a moment, alone: the burst brings its characters. Where
@@ -198,80 +180,6 @@ fn later_end(now: u64, end: u64) -> Option<u64>
     (now < end).then_some(end)
 }
 
-/// When a burst begins at a tap, whatever overlaps there.
-#[inline(never)]
-fn first_begin(
-    entries: &[Entry],
-    delay: u32,
-    tap: usize,
-    since: u64,
-    from: u64,
-    to: u64,
-) -> Option<u64>
-    ensures { result ≡ begin_between (sensed delay tap since (map entry_of entries.now)) from to }
-{
-    let first = entries
-        .iter()
-        .filter_map(|entry| sensed(entry, delay, tap, since))
-        .find(|span| {
-            from <= span.begin()
-                && span.begin() < to
-                && burst_begins(entries, delay, tap, since, span.begin())
-        })?;
-    Some(first.begin())
-}
-
-/// When a burst ends at a tap, whatever overlaps there.
-#[inline(never)]
-fn first_end(
-    entries: &[Entry],
-    delay: u32,
-    tap: usize,
-    since: u64,
-    from: u64,
-    to: u64,
-) -> Option<u64>
-    ensures { result ≡ end_between (sensed delay tap since (map entry_of entries.now)) from to }
-{
-    let first = entries
-        .iter()
-        .filter_map(|entry| sensed(entry, delay, tap, since))
-        .find(|span| {
-            from < span.end()
-                && span.end() <= to
-                && burst_ends(entries, delay, tap, since, span.end())
-        })?;
-    Some(first.end())
-}
-
-/// When a burst begins at a tap that senses one entry at most, from one moment on and before another.
-#[inline(always)]
-#[tactic(auto, using(crate::proofs::Sensing::only_begins))]
-fn only_begin(entry: &Entry, delay: u32, tap: usize, since: u64, from: u64, to: u64) -> Option<u64>
-    ensures { result ≡ begin_between (sensed delay tap since (entry_of entry.now ∷ [])) from to }
-{
-    let begin = entry.reaches_taps(delay).begin().max(since);
-    if begin < from || to <= begin {
-        return None;
-    }
-    let span = sensed(entry, delay, tap, since)?;
-    Some(span.begin())
-}
-
-/// When a burst ends at a tap that senses one entry at most, after one moment, at another at the latest.
-#[inline(always)]
-#[tactic(auto, using(crate::proofs::Sensing::only_ends))]
-fn only_end(entry: &Entry, delay: u32, tap: usize, since: u64, from: u64, to: u64) -> Option<u64>
-    ensures { result ≡ end_between (sensed delay tap since (entry_of entry.now ∷ [])) from to }
-{
-    let end = entry.reaches_taps(delay).end();
-    if end <= from || to < end {
-        return None;
-    }
-    let span = sensed(entry, delay, tap, since)?;
-    Some(span.end())
-}
-
 /// Whether a burst begins at a tap, which has sensed since a moment.
 fn burst_begins(entries: &[Entry], delay: u32, tap: usize, since: u64, moment: u64) -> bool
     ensures { result ≡ model.burst_begins (sensed delay tap since (map entry_of entries.now)) moment }
@@ -327,40 +235,11 @@ fn is_alone(entries: &[Entry], delay: u32, position: usize, since: u64, telegram
 }
 
 /// Whether the tap at a position senses one thing alone during a stretch, and sends nothing.
-#[inline(always)]
 fn is_undisturbed(entries: &[Entry], delay: u32, position: usize, since: u64, span: Span) -> bool
-    ensures { result ≡ is_undisturbed delay position since (map entry_of entries.now) span }
-{
-    if let [only] = entries {
-        return is_undisturbed_by(only, delay, position, since, span);
-    }
-    is_undisturbed_among(entries, delay, position, since, span)
-}
-
-/// The same whatever overlaps there.
-#[inline(never)]
-fn is_undisturbed_among(
-    entries: &[Entry],
-    delay: u32,
-    position: usize,
-    since: u64,
-    span: Span,
-) -> bool
     ensures { result ≡ is_undisturbed delay position since (map entry_of entries.now) span }
 {
     count_overlapping(entries, delay, position, since, span) == 1
         && !sends_in(entries, position, span)
-}
-
-/// The same on a bus where one entry is all that there is.
-#[inline(always)]
-fn is_undisturbed_by(entry: &Entry, delay: u32, position: usize, since: u64, span: Span) -> bool
-    ensures { result ≡ is_undisturbed delay position since (entry_of entry.now ∷ []) span }
-{
-    match sensed(entry, delay, position, since) {
-        Some(other) => span.overlaps(other) && !sends_during(entry, position, span),
-        None => false,
-    }
 }
 
 /// Whether an entry is a telegram whose end reaches the taps at a moment, and that fills a burst alone.
@@ -384,7 +263,7 @@ fn fills_burst_to(
 }
 
 /// Whether every character of a telegram went out, and comes good to the tap at a position.
-fn is_undamaged_at(telegram: &Record, position: usize) -> bool
+pub(crate) fn is_undamaged_at(telegram: &Record, position: usize) -> bool
     ensures { result ≡ is_undamaged position (record_of telegram.now) }
 {
     if telegram.hits.is_empty() {
@@ -447,7 +326,7 @@ fn characters_at(telegram: &Record, position: usize, chars: &mut ArrayVec<RxChar
 
 /// How many octets of a telegram went out.
 #[inline(always)]
-fn sent_octets(telegram: &Record) -> usize
+pub(crate) fn sent_octets(telegram: &Record) -> usize
     ensures count { take result telegram.now.octets.items
         ≡ take ((telegram.now.end - telegram.now.begin) / timers.bits 1) telegram.now.octets.items }
     ensures bound { result ≤ length telegram.now.octets.items }

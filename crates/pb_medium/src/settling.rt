@@ -1,13 +1,14 @@
-ghost use Rattle.std.specs.Prelude.{◌≡◌, ◌<◌, get_or, length, map, slice_get, slice_set};
-ghost use Rattle.pb_model.specs.Medium.{ends_between, entry_at, heard_by, reaches};
-ghost use Rattle.pb_model.specs.Trace.{Pending};
+ghost use Rattle.std.specs.Prelude.{◌≡◌, ◌<◌, ◌∷◌, [], ℕ, IsTrue, true, get_or, length, map, slice_get, slice_set};
+ghost use Rattle.pb_model.specs.Medium.{ends_between, entry_at, heard_by, is_whole_at, reaches};
+ghost use Rattle.pb_model.specs.Trace.{Pending, Sent};
 ghost use Rattle.pb_medium.specs.Entries.{entry_of, record_of};
-ghost use Rattle.pb_medium.specs.Settling.{heard_with, settled, settled_as};
+ghost use Rattle.pb_medium.specs.Settling.{comes_whole, hears_all, heard_with, settled, settled_as};
 ghost use Rattle.pb_taps.specs.Taps.{tap_of};
 
 use crate::entries::{Entry, Record};
+use crate::lone::is_plain;
 use crate::receptions::Reception;
-use crate::senses::{is_whole_at, next_end};
+use crate::senses::{is_undamaged_at, is_whole_at, next_end, sent_octets};
 use crate::traces::Trace;
 use pb_taps::Tap;
 use pb_timers::Moment;
@@ -47,11 +48,100 @@ fn settle(entries: &mut [Entry], delay: u32, taps: &[Tap], from: Moment, to: Mom
     ensures settled { map entry_of entries.new
         ≡ settled delay (map tap_of taps.now) from to (map entry_of entries.old) }
 {
+    if let [only] = entries {
+        return settle_only(only, delay, taps, from, to);
+    }
     for place in 0..entries.len() {
         let known = &entries[..];
         let heard = outcome(known, delay, &known[place], taps, from, to);
         settle_entry(&mut entries[place], heard);
     }
+}
+
+/// The same where one entry is all that there is.
+fn settle_only(entry: &mut Entry, delay: u32, taps: &[Tap], from: Moment, to: Moment)
+    ensures { entry_of entry.new
+        ≡ entry_at delay (map tap_of taps.now) (entry_of entry.old ∷ []) from to (entry_of entry.old) }
+{
+    if let Entry::Sent(telegram) = entry
+        && is_reached_between(telegram, delay, from, to)
+    {
+        telegram.heard = heard_alone(telegram, delay, taps);
+    }
+}
+
+/// What a telegram that is all that was on the bus was to each tap, once it has ended.
+fn heard_alone(telegram: &Record, delay: u32, taps: &[Tap]) -> Reception
+    ensures { result
+        ≡ heard_by delay (Sent (record_of telegram.now) ∷ []) (record_of telegram.now) 0 (map tap_of taps.now)
+        (record_of telegram.now).heard }
+{
+    let is_sound = is_sound(telegram);
+    let mut heard = telegram.heard.copy();
+    for position in 0..telegram.heard.len() {
+        settle_alone_at(&mut heard, is_sound, delay, telegram, taps, position);
+    }
+    heard
+}
+
+/// A telegram that is all that was on the bus, and was pending to the tap at a position, is so no longer.
+#[inline(always)]
+fn settle_alone_at(
+    heard: &mut Reception,
+    is_sound: bool,
+    delay: u32,
+    telegram: &Record,
+    taps: &[Tap],
+    position: usize,
+)
+    requires there { position < length heard.old }
+    requires sound { IsTrue is_sound → (tap : ℕ) → comes_whole tap (record_of telegram.now) ≡ true }
+    ensures { heard.new ≡ slice_set heard.old position
+        (heard_with delay (Sent (record_of telegram.now) ∷ []) (record_of telegram.now) position
+        (slice_get (map tap_of taps.now) position) (get_or heard.old position Pending)) }
+{
+    if let Some(tap) = taps.get(position) {
+        heard.settle(
+            position,
+            is_whole_alone(is_sound, delay, position, tap, telegram),
+        );
+    }
+}
+
+/// Whether a telegram that is all that was on the bus came whole to the tap at a position.
+#[inline(always)]
+#[tactic(auto, using(crate::proofs::Alone::sent_whole))]
+fn is_whole_alone(is_sound: bool, delay: u32, position: usize, tap: &Tap, telegram: &Record) -> bool
+    requires { IsTrue is_sound → (p : ℕ) → comes_whole p (record_of telegram.now) ≡ true }
+    ensures { result ≡ is_whole_at delay position (tap_of tap.now) (Sent (record_of telegram.now) ∷ [])
+        (record_of telegram.now) }
+{
+    hears_all(delay, position, tap, telegram) && (is_sound || comes_whole(telegram, position))
+}
+
+/// Whether the tap at a position runs, has heard a telegram from its beginning, and is not its speaker.
+#[inline(always)]
+fn hears_all(delay: u32, position: usize, tap: &Tap, telegram: &Record) -> bool
+    ensures { result ≡ hears_all delay position (tap_of tap.now) (record_of telegram.now) }
+{
+    tap.running && tap.hears_from(telegram.reaches(delay).begin()) && position != telegram.tap
+}
+
+/// Whether a telegram comes whole to all taps that hear it from its beginning, with nothing else.
+fn is_sound(telegram: &Record) -> bool
+    ensures { IsTrue result → (tap : ℕ) → comes_whole tap (record_of telegram.now) ≡ true }
+{
+    is_plain(telegram) && sent_octets(telegram) == telegram.octets.len()
+}
+
+/// Whether a telegram comes whole to the tap at a position, if that hears it from its beginning, with nothing else.
+#[inline(never)]
+fn comes_whole(telegram: &Record, position: usize) -> bool
+    ensures { result ≡ comes_whole position (record_of telegram.now) }
+{
+    telegram.begin < telegram.end
+        && !telegram.is_unheard(position)
+        && is_undamaged_at(telegram, position)
 }
 
 /// A telegram that was something to the taps is no longer pending.

@@ -1,14 +1,17 @@
-ghost use Rattle.std.specs.Prelude.{◌≡◌, ◌≤◌, List, length};
+ghost use Rattle.std.specs.Prelude.{◌≡◌, ◌≤◌, ℕ, List, length};
 ghost use Rattle.pb_model.specs.Medium as model;
 ghost use Rattle.pb_model.specs.Step as step;
+ghost use Rattle.pb_model.specs.Trace.{Sent};
 ghost use Rattle.pb_model.specs.World.{clock_limit, tap_limit};
-ghost use Rattle.pb_medium.specs.Entries.{record_of};
+ghost use Rattle.pb_medium.specs.Entries.{entry_of};
+ghost use Rattle.pb_medium.specs.Speaking.{with_octets};
 
 use crate::entries::{Entry, Record};
 use crate::receptions::Reception;
 use crate::traces::Trace;
+use arrayvec::ArrayVec;
 use pb_station::SendBuffer;
-use pb_telegram::copy_octets;
+use pb_telegram::put_octets;
 use pb_timers::{Moment, bits};
 use std::alloc::Global;
 
@@ -36,25 +39,38 @@ impl Trace {
             → RecentBecomes (with_said speaker.tap sent.now speaker.clock ts) self.old self.new }
     {
         if let Some(octets) = sent.octets() {
-            self.put(Entry::Sent(sending(alloc, speaker, octets)));
+            let place = self.put(sending(alloc, speaker, octets.len()));
+            spell(&mut self.entries[place], octets);
         }
     }
 }
 
-/// The new telegram of a tap.
-fn sending(alloc: Global, speaker: Speaker, octets: &[u8]) -> Record
-    requires few { length octets.now ≤ 255 }
+/// The new telegram of a tap, of so many octets, which are yet to be written.
+#[inline(always)]
+fn sending(alloc: Global, speaker: Speaker, count: usize) -> Entry
+    requires few { count ≤ 255 }
     requires room { (speaker.clock ≤ clock_limit) × (speaker.taps ≤ tap_limit) }
-    ensures { (ts : List model.Tap) → length ts ≡ speaker.taps
-        → record_of result ≡ step.sending speaker.tap octets.now speaker.clock ts }
+    ensures { (octets : List ℕ) (ts : List model.Tap) → length octets ≡ count → length ts ≡ speaker.taps
+        → with_octets octets (entry_of result) ≡ Sent (step.sending speaker.tap octets speaker.clock ts) }
 {
     let begin = speaker.clock.get();
-    Record {
+    Entry::Sent(Record {
         tap: speaker.tap,
-        octets: copy_octets(octets),
+        octets: ArrayVec::new(),
         begin,
-        end: begin + bits(octets.len()),
+        end: begin + bits(count),
         heard: Reception::at_first(speaker.tap, speaker.taps),
         hits: Vec::new(alloc),
+    })
+}
+
+/// The octets of a telegram are written, where it stays.
+#[inline(always)]
+fn spell(entry: &mut Entry, octets: &[u8])
+    requires { length octets.now ≤ 255 }
+    ensures { entry_of entry.new ≡ with_octets octets.now (entry_of entry.old) }
+{
+    if let Entry::Sent(telegram) = entry {
+        put_octets(&mut telegram.octets, octets);
     }
 }

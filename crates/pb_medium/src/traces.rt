@@ -19,11 +19,13 @@ pub struct Trace {
 }
 
 impl Trace {
-    ghost use Rattle.std.specs.Prelude.{◌≡◌, [], nat_le, IsTrue, ◌↔◌, IfErr, OnOk, length, map};
+    ghost use Rattle.std.specs.Prelude.{◌≡◌, ◌≤◌, ◌+◌, [], nat_le, IsTrue, ◌↔◌, IfErr, OnOk, length, map};
+    ghost use Rattle.std.specs.List.{insert};
     ghost use Rattle.pb_model.specs.World.{trace_limit};
     ghost use Rattle.pb_model.specs.Trace.{with_entry};
     ghost use Rattle.pb_medium.specs.Entries.{entry_of};
-    ghost use Rattle.pb_medium.specs.Traces.{entries_of, over_of, recent_of, HasRoom, RecentBecomes, RefusesRoom, StaysAs};
+    ghost use Rattle.pb_medium.specs.Traces.{entries_of, over_of, place_of, recent_of};
+    ghost use Rattle.pb_medium.specs.Traces.{HasRoom, RecentBecomes, RefusesRoom, StaysAs};
 
     /// A trace without entries.
     pub fn new(alloc: Global) -> Trace
@@ -84,14 +86,18 @@ impl Trace {
         Ok(())
     }
 
-    /// Puts an entry among the recent ones.
+    /// Puts an entry among the recent ones, and tells at which place of all entries it is then.
     #[inline(always)]
-    pub(crate) fn put(&mut self, entry: Entry)
+    pub(crate) fn put(&mut self, entry: Entry) -> usize
         requires { HasRoom self.old }
-        ensures { RecentBecomes (with_entry (entry_of entry)) self.old self.new }
+        ensures becomes { RecentBecomes (with_entry (entry_of entry)) self.old self.new }
+        ensures place { result ≡ over_of self.old + place_of (entry_of entry) (recent_of self.old) }
+        ensures entries { entries_of self.new ≡ insert (entries_of self.old) result (entry_of entry) }
+        ensures bound { result ≤ length (entries_of self.old) }
     {
         let place = self.over + place_among(self.recent(), &entry);
         insert(&mut self.entries, place, entry);
+        place
     }
 }
 

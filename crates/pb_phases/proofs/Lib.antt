@@ -1,4 +1,5 @@
 pub mod Looking
+pub mod Others
 pub mod Speaking
 pub mod Taking
 pub mod TimeOuts

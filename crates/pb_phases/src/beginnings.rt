@@ -1,8 +1,8 @@
 //! A station that hears activity begin.
 
-ghost use Rattle.std.specs.Prelude.{◌≡◌, None};
+ghost use Rattle.std.specs.Prelude.{◌≡◌, ℕ, None};
 ghost use Rattle.pb_turn.specs.Hearing.{phase_begun, begun};
-ghost use Rattle.pb_turn.specs.Phases.{answers_requests};
+ghost use Rattle.pb_turn.specs.Phases as turn;
 ghost use Rattle.pb_tokenfsm.specs.Phases.{phase_of};
 ghost use Rattle.pb_core.specs.Cores.{Becomes};
 
@@ -11,15 +11,34 @@ use pb_timers::Moment;
 use pb_tokenfsm::Phase;
 
 /// The station after activity has begun at a moment. One that answers requests drops a reply that is not sent yet.
-pub fn begun(phase: Phase, kept: &mut Kept, at: Moment) -> Phase
-    ensures { Becomes (λ s. begun s at) kept.old (phase_of phase) kept.new (phase_of result) }
+pub fn begun(phase: &mut Phase, kept: &mut Kept, at: Moment)
+    ensures { Becomes (λ s. begun s at) kept.old (phase_of phase.old) kept.new (phase_of phase.new) }
 {
-    let own = kept.own_begin();
     kept.busy = true;
-    if answers_requests(&phase) {
-        drop_reply(&mut kept.reply);
+    match phase {
+        Phase::PassiveIdle(_) | Phase::Listening(_) | Phase::Idle(_) => drop_reply(&mut kept.reply),
+        Phase::Checking(_) => see_taken(phase, kept.own_begin(), at),
+        _ => {
+            let before = phase.take();
+            *phase = phase_begun(before, kept.own_begin(), at);
+        }
     }
-    phase_begun(phase, own, at)
+}
+
+/// Activity has begun at a moment: a station that checks takes it for a sign that its token was taken, where it is not
+/// older than that, which began at `own`.
+fn see_taken(phase: &mut Phase, own: Moment, at: Moment)
+    ensures { (tries : ℕ) → phase_of phase.old ≡ turn.Checking tries
+        → phase_of phase.new ≡ phase_begun (phase_of phase.old) own at }
+{
+    if at < own {
+        return;
+    }
+    let before = phase.take();
+    *phase = match before {
+        Phase::Checking(checking) => Phase::Idle(checking.on_activity()),
+        other => other,
+    };
 }
 
 /// No reply waits any more. Seldom one does, and its room is cleared only then.
@@ -29,16 +48,6 @@ fn drop_reply(reply: &mut Option<Reply>)
     if reply.is_some() {
         *reply = None;
     }
-}
-
-/// Whether a phase answers requests: it neither holds the token nor checks what became of it.
-fn answers_requests(phase: &Phase) -> bool
-    ensures { result ≡ answers_requests (phase_of phase.now) }
-{
-    matches!(
-        phase,
-        Phase::PassiveIdle(_) | Phase::Listening(_) | Phase::Idle(_)
-    )
 }
 
 /// The phase after activity has begun at a moment, with the beginning of the own last telegram: a holder

@@ -5,15 +5,17 @@ ghost use Rattle.std.specs.Option.{option_map};
 ghost use Rattle.pb_ring.specs.Las.{is_complete};
 ghost use Rattle.pb_messages.specs.Messages.{message_of};
 ghost use Rattle.pb_cycles.specs.Initiating.{outcome_of};
-ghost use Rattle.pb_turn.specs.Arrivals.{Framed, Token};
+ghost use Rattle.pb_timers.specs.Timers.{Params};
+ghost use Rattle.pb_turn.specs.Arrivals.{Arrival, Framed, NoTelegram, Token};
 ghost use Rattle.pb_turn.specs.Phases as turn;
 ghost use Rattle.pb_turn.specs.Hearing.{doubled_by, listening_hears, is_taken_from, own_token, foreign_token, token_in_idle, idle_hears, passive_hears, holder_hears, no_reply, data_told, awaiting_data_hears, status_told, awaiting_status_hears, with_token, lost, tells_ready, phase_ended, ended};
 ghost use Rattle.pb_tokenfsm.specs.Phases.{phase_of, is_doubled, refused_by, asked_station, was_asked, has_data_slot};
 ghost use Rattle.pb_core.specs.Arrivals.{brings, telegram_brings, is_framed, is_token};
-ghost use Rattle.pb_core.specs.Replies.{reply_of, fields_of, answer_to};
+ghost use Rattle.pb_core.specs.Replies.{reply_of, fields_of, answer_to, is_for_others};
 ghost use Rattle.pb_core.specs.declared.replies.StationType.TheVariants.{Ready, NotReady};
 ghost use Rattle.pb_core.specs.Clocks.{last_turn};
 ghost use Rattle.pb_core.specs.Cores.{Becomes};
+ghost use Rattle.pb_phases.specs.Others.{only_answers};
 
 use crate::rotations::received_if;
 use crate::timers::given_up;
@@ -31,71 +33,150 @@ const SKIPS: u8 = 2;
 
 /// The station after activity has ended at a moment.
 pub fn ended(
-    phase: Phase,
+    phase: &mut Phase,
     kept: &mut Kept,
     params: &BusParams,
     at: Moment,
     arrival: &Option<Telegram>,
-) -> Phase
+)
     requires { at ≤ last_turn }
     ensures { Becomes (λ s. ended params.now s at (brings arrival.now))
-        kept.old (phase_of phase) kept.new (phase_of result) }
+        kept.old (phase_of phase.old) kept.new (phase_of phase.new) }
 {
-    kept.busy = false;
-    kept.past = kept.past.heard(at);
-    phase_ended(phase, kept, params, at, arrival)
+    fall_quiet(kept, at);
+    let before = phase.take();
+    *phase = phase_ended(before, kept, params, at, arrival);
 }
 
 /// The station after activity has ended at a moment and brought a token, as most activity does.
 pub fn ended_with_token(
-    phase: Phase,
+    phase: &mut Phase,
     kept: &mut Kept,
     params: &BusParams,
     at: Moment,
     token: TokenTelegram,
-) -> Phase
+)
     requires { at ≤ last_turn }
     ensures { Becomes (λ s. ended params.now s at (Token token.da token.sa))
-        kept.old (phase_of phase) kept.new (phase_of result) }
+        kept.old (phase_of phase.old) kept.new (phase_of phase.new) }
 {
-    kept.busy = false;
-    kept.past = kept.past.heard(at);
-    token_ended(phase, kept, params, at, token)
-}
-
-/// The station after a token. Most stations are idle then, and no room for a longer telegram is cleared for them.
-fn token_ended(
-    phase: Phase,
-    kept: &mut Kept,
-    params: &BusParams,
-    at: Moment,
-    token: TokenTelegram,
-) -> Phase
-    requires { at ≤ last_turn }
-    ensures { Becomes (λ s. phase_ended params.now s (phase_of phase) at (Token token.da token.sa))
-        kept.old (phase_of phase) kept.new (phase_of result) }
-{
+    fall_quiet(kept, at);
     match phase {
-        Phase::Idle(idle) => token_in_idle(idle, kept, params, at, &token),
-        Phase::PassiveIdle(_) => phase,
-        other => token_elsewhere(other, kept, params, at, token),
+        Phase::PassiveIdle(_) => {}
+        Phase::Idle(_) if token.da != kept.address.get() => pass_by(phase, kept, &token),
+        Phase::Idle(_) => take_token(phase, kept, params, at, &token),
+        Phase::Listening(_) if token.sa != kept.address.get() => hear(&mut kept.las, &token),
+        _ => token_elsewhere(phase, kept, params, at, token),
     }
 }
 
-/// The same in any phase.
+/// An idle station hears a token.
+#[inline(always)]
+fn take_token(
+    phase: &mut Phase,
+    kept: &mut Kept,
+    params: &BusParams,
+    at: Moment,
+    token: &TokenTelegram,
+)
+    requires { at ≤ last_turn }
+    ensures { (refused : Option ℕ) → phase_of phase.old ≡ turn.Idle refused
+        → Becomes (λ s. token_in_idle params.now s refused at token.now.da token.now.sa)
+        kept.old (phase_of phase.old) kept.new (phase_of phase.new) }
+{
+    let before = phase.take();
+    *phase = match before {
+        Phase::Idle(idle) => token_in_idle(idle, kept, params, at, token),
+        other => other,
+    };
+}
+
+/// The station after activity has ended at a moment and brought no telegram, as noise does.
+pub fn ended_with_noise(phase: &mut Phase, kept: &mut Kept, params: &BusParams, at: Moment)
+    requires { at ≤ last_turn }
+    ensures { Becomes (λ s. ended params.now s at NoTelegram)
+        kept.old (phase_of phase.old) kept.new (phase_of phase.new) }
+{
+    fall_quiet(kept, at);
+    if let Phase::AwaitData(_) | Phase::AwaitStatus(_) = phase {
+        miss_reply(phase, kept, params, at);
+    }
+}
+
+/// Activity has ended at a moment. For a station that only answers requests that is all, where it brought a telegram for
+/// others, or none.
+#[tactic(auto, using(crate::proofs::Others::nothing_made))]
+pub fn fall_quiet(kept: &mut Kept, at: Moment)
+    requires { at ≤ last_turn }
+    ensures quiet { kept.new ≡ record kept.old
+        { busy = false; past = record kept.old.past { quiet = max kept.old.past.quiet at } } }
+    ensures others { (p : Params) (phase : turn.Phase) (arrival : Arrival) → only_answers phase ≡ true
+        → is_for_others kept.old.address arrival ≡ true
+        → Becomes (λ s. ended p s at arrival) kept.old phase kept.new phase }
+{
+    kept.busy = false;
+    kept.past = kept.past.heard(at);
+}
+
+/// Whether a station in a phase answers requests, and makes nothing of what is for others but tokens.
+pub fn only_answers(phase: &Phase) -> bool
+    ensures { result ≡ only_answers (phase_of phase.now) }
+{
+    matches!(phase, Phase::PassiveIdle(_) | Phase::Idle(_))
+}
+
+/// No telegram came where one may have been awaited. It is a call of its own since the room of a telegram is cleared for
+/// it.
+#[inline(never)]
+fn miss_reply(phase: &mut Phase, kept: &mut Kept, params: &BusParams, at: Moment)
+    requires { at ≤ last_turn }
+    ensures { Becomes (λ s. phase_ended params.now s (phase_of phase.old) at NoTelegram)
+        kept.old (phase_of phase.old) kept.new (phase_of phase.new) }
+{
+    let before = phase.take();
+    *phase = phase_ended(before, kept, params, at, &None);
+}
+
+/// An idle station hears a token to another one: its phase stays where it is, unless it was skipped twice.
+fn pass_by(phase: &mut Phase, kept: &mut Kept, token: &TokenTelegram)
+    ensures { (refused : Option ℕ) → phase_of phase.old ≡ turn.Idle refused
+        → Becomes (λ s. foreign_token (with_token s token.now.da token.now.sa))
+        kept.old (phase_of phase.old) kept.new (phase_of phase.new) }
+{
+    hear(&mut kept.las, token);
+    if kept.las.skipped() >= SKIPS {
+        listen_anew(phase, kept);
+    }
+}
+
+/// An idle station that was skipped twice listens anew.
+#[inline(never)]
+fn listen_anew(phase: &mut Phase, kept: &mut Kept)
+    ensures { (refused : Option ℕ) → phase_of phase.old ≡ turn.Idle refused → Becomes (λ s. foreign_token s)
+        kept.old (phase_of phase.old) kept.new (phase_of phase.new) }
+{
+    let before = phase.take();
+    *phase = match before {
+        Phase::Idle(idle) => foreign_token(idle, kept),
+        other => other,
+    };
+}
+
+/// The station after a token, in any phase. It is a call of its own since the room of a telegram is cleared for it.
 #[inline(never)]
 fn token_elsewhere(
-    phase: Phase,
+    phase: &mut Phase,
     kept: &mut Kept,
     params: &BusParams,
     at: Moment,
     token: TokenTelegram,
-) -> Phase
+)
     requires { at ≤ last_turn }
-    ensures { Becomes (λ s. phase_ended params.now s (phase_of phase) at (Token token.da token.sa))
-        kept.old (phase_of phase) kept.new (phase_of result) }
+    ensures { Becomes (λ s. phase_ended params.now s (phase_of phase.old) at (Token token.da token.sa))
+        kept.old (phase_of phase.old) kept.new (phase_of phase.new) }
 {
-    phase_ended(phase, kept, params, at, &Some(Telegram::Token(token)))
+    let before = phase.take();
+    *phase = phase_ended(before, kept, params, at, &Some(Telegram::Token(token)));
 }
 
 /// The station after an arrival.
@@ -149,6 +230,7 @@ fn idle_hears(
 }
 
 /// Idle hears a token; the previous station is that before the token corrects the list.
+#[inline(always)]
 fn token_in_idle(
     idle: Idle,
     kept: &mut Kept,
@@ -171,6 +253,7 @@ fn token_in_idle(
 }
 
 /// A token to the station itself is taken, or refused.
+#[inline(always)]
 fn own_token(
     idle: Idle,
     kept: &mut Kept,

@@ -9,6 +9,6 @@ mod speeches;
 mod timers;
 
 pub use beginnings::begun;
-pub use hearing::{ended, ended_with_token};
+pub use hearing::{ended, ended_with_noise, ended_with_token, fall_quiet, only_answers};
 pub use speeches::{speak, speaks_at, would_say};
 pub use timers::{after_timer, timer};

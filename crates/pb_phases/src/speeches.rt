@@ -302,6 +302,7 @@ fn says_high(
 }
 
 /// No request of high priority may be sent: one of low priority, or what follows if none may be sent.
+#[inline(always)]
 fn says_low(
     holder: Holding<Use>,
     kept: &mut Kept,
@@ -399,6 +400,7 @@ fn says_first_low(
 }
 
 /// No request may be sent: a look into the GAP, or the token.
+#[inline(always)]
 fn says_no_request(
     holder: Holding<Use>,
     kept: &mut Kept,

@@ -20,13 +20,13 @@ use pb_tokenfsm::{AwaitData, Checking, Holding, Phase, TRIES};
 
 /// The station after its timer, where that ends before the limit.
 #[inline(always)]
-pub fn after_timer(phase: Phase, kept: &mut Kept, params: &BusParams, limit: Moment) -> Phase
+pub fn after_timer(phase: &mut Phase, kept: &mut Kept, params: &BusParams, limit: Moment)
     ensures { Becomes (λ s. after_timer params.now limit s)
-        kept.old (phase_of phase) kept.new (phase_of result) }
+        kept.old (phase_of phase.old) kept.new (phase_of phase.new) }
 {
-    match timer(&phase, kept, params) {
-        Some(moment) if moment < limit => timed_out(phase, kept, moment),
-        _ => phase,
+    match timer(phase, kept, params) {
+        Some(moment) if moment < limit => end_timer(phase, kept, moment),
+        _ => {}
     }
 }
 
@@ -57,8 +57,17 @@ pub(crate) fn given_up(holder: Holding<AwaitData>, kept: &mut Kept, ready: Momen
     Phase::Use(holder.on_outcome(ready))
 }
 
-/// The station after the timer of its phase has ended at a moment.
+/// The timer of the phase has ended at a moment. It is a call of its own since the room of a phase is cleared for it.
 #[inline(never)]
+fn end_timer(phase: &mut Phase, kept: &mut Kept, moment: Moment)
+    ensures { Becomes (λ s. phase_timed_out s (phase_of phase.old) moment)
+        kept.old (phase_of phase.old) kept.new (phase_of phase.new) }
+{
+    let before = phase.take();
+    *phase = timed_out(before, kept, moment);
+}
+
+/// The station after the timer of its phase has ended at a moment.
 fn timed_out(phase: Phase, kept: &mut Kept, moment: Moment) -> Phase
     ensures { Becomes (λ s. phase_timed_out s (phase_of phase) moment)
         kept.old (phase_of phase) kept.new (phase_of result) }

@@ -192,5 +192,5 @@ fn moment_of(walk: &Walk<'_>) -> Moment
     requires { walk.now.clock ≤ last_moment }
     ensures { result ≡ walk.now.clock }
 {
-    Moment::new(walk.now()).unwrap()
+    Moment::at(walk.now())
 }

@@ -91,6 +91,8 @@ pub same-moment : (n : Note) (some others : List RxChar) (these those : List ℕ
 same-moment (note.Begin at seen) some others these those = refl
 same-moment (note.End at seen count) some others these those = refl
 same-moment (note.GoodEnd at seen count) some others these those = refl
+same-moment (note.Three at seen three) some others these those = refl
+same-moment (note.Noise at seen) some others these those = refl
 
 -- ---- one after the other
 

@@ -1,5 +1,5 @@
 -- A station that uses the token has received it, whatever it hears and says.
-use Rattle.std.proofs.Common.{refl, ◌≡◌, ◌∙◌, ap, sym, subst, ℕ, ◌+◌, ◌==◌, List, [], ◌∷◌, Bool, false, Option, Some, None}
+use Rattle.std.proofs.Common.{refl, ◌≡◌, sym, subst, ℕ, ◌+◌, ◌==◌, List, [], ◌∷◌, Bool, false, Option, Some, None}
 use Rattle.std.specs.Prelude.{nat_lt, nat_le, max, is_some, IsSome}
 use Rattle.std.specs.Option.{option_map}
 use Rattle.pb_timers.specs.Timers.{Params}
@@ -12,8 +12,6 @@ use Rattle.pb_messages.specs.RequestFields.{RequestFields}
 use Rattle.pb_messages.specs.Requests.{is_answered}
 use Rattle.pb_messages.specs.declared.messages.Message.{Message}
 use Rattle.pb_messages.specs.declared.messages.Message.TheVariants as message
-use Rattle.pb_core.specs.declared.cores.Kept.{Kept}
-use Rattle.pb_messages.specs.Queued.{Queued}
 use Rattle.pb_cycles.specs.Initiating.{retry_of, outcome_of}
 use Rattle.pb_cycles.specs.declared.outcomes.Outcome.{Outcome}
 use Rattle.pb_cycles.specs.Outcomes.{status_reply}
@@ -25,7 +23,7 @@ use Rattle.pb_turn.specs.Stations.{Station, Reply, timer_of, next_station, previ
 use Rattle.pb_turn.specs.Turns.{after_marks, settled, token_octets, saying, received_own, says_token, looks_at_gap, says_look, says_no_request, says_request, says_low, says_high, says_in_use, high_request, low_request, high_taken, low_taken, says_again, joining, replying, says_reply, says_ready, phase_says, speech}
 use Rattle.pb_turn.proofs.Cases.{by_test}
 use Rattle.pb_turn.proofs.Paths.{phase-doubled}
-use Rattle.pb_core.specs.Cores.{station_with, has_received, HasReceived}
+use Rattle.pb_core.specs.Cores.{has_received, HasReceived}
 
 -- ---- timers
 
@@ -215,7 +213,5 @@ received-speech p s (Some moment) now h =
     by_test (λ (x : Station × Option (List ℕ)). HasReceived x.0) (nat_le moment now) (phase_says p s s.phase now) (s, None) (λ _. by-says p s s.phase now h) (λ _. h)
 
 -- the station at the clock has received the token, if it uses it
-pub received-clock : (p : Params) (k : Kept) (queue : Queued) (phase before : Phase) (clock : Station) (marks : List Mark) (now : ℕ) → phase ≡ before
-    → clock ≡ settled p (station_with k queue phase) marks now → HasReceived (station_with k queue before) → HasReceived clock
-received-clock p k queue phase before clock marks now same is h =
-    subst HasReceived (sym (is ∙ ap (λ (ph : Phase). settled p (station_with k queue ph) marks now) same)) (received-settled p (station_with k queue before) marks now h)
+pub received-clock : (p : Params) (before clock : Station) (marks : List Mark) (now : ℕ) → clock ≡ settled p before marks now → HasReceived before → HasReceived clock
+received-clock p before clock marks now is h = subst HasReceived (sym is) (received-settled p before marks now h)

@@ -1,28 +1,35 @@
 -- Notes of marks, whose characters stand apart: octets that came good as octets, and other characters as such.
+-- A token's three octets stand in its note, and noise is one damaged character.
 use Rattle.std.specs.Prelude.{◌≡◌, ◌≤◌, ℕ, List, [], ◌∷◌, length, map, take, drop}
 use Rattle.pb_telegram.specs.declared.chars.RxChar.{RxChar}
-use Rattle.pb_telegram.specs.declared.chars.RxChar.TheVariants.{Good}
+use Rattle.pb_telegram.specs.declared.chars.RxChar.TheVariants.{Good, Bad}
 use Rattle.pb_turn.specs.Marks.{Mark, Begin, End}
 use Rattle.pb_station.specs.declared.notes.Note.{Note}
 use Rattle.pb_station.specs.declared.notes.Note.TheVariants as note
 
--- how many characters a mark brings, apart from octets that came good
+-- how many characters a mark brings that stand apart, as such
 abbrev pub chars_of : Note → ℕ
 chars_of (note.Begin at seen) = 0
 chars_of (note.End at seen count) = count
 chars_of (note.GoodEnd at seen count) = 0
+chars_of (note.Three at seen three) = 0
+chars_of (note.Noise at seen) = 0
 
--- how many octets it brings that all came good
+-- how many octets it brings that stand apart, which all came good
 abbrev pub octets_of : Note → ℕ
 octets_of (note.Begin at seen) = 0
 octets_of (note.End at seen count) = 0
 octets_of (note.GoodEnd at seen count) = count
+octets_of (note.Three at seen three) = 0
+octets_of (note.Noise at seen) = 0
 
 -- the mark that a note stands for, with its characters and its octets
 abbrev pub mark_with : Note → List RxChar → List ℕ → Mark
 mark_with (note.Begin at seen) chars octets = Begin at seen
 mark_with (note.End at seen count) chars octets = End at seen chars
 mark_with (note.GoodEnd at seen count) chars octets = End at seen (map Good octets)
+mark_with (note.Three at seen three) chars octets = End at seen (map Good three)
+mark_with (note.Noise at seen) chars octets = End at seen (Bad ∷ [])
 
 -- the marks that notes stand for, with the characters of all of them behind one another, and so their octets
 abbrev pub marks_in : List Note → List RxChar → List ℕ → List Mark

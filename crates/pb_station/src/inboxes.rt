@@ -1,6 +1,8 @@
 ghost use Rattle.std.specs.Prelude.{◌≡◌, ◌+◌, ◌≤◌, ◌<◌, ◌++◌, ◌∷◌, [], ℕ, List, IsTrue, ◌↔◌, IfOk, length, map};
 ghost use Rattle.std.specs.Vec.{vec_capacity};
 ghost use Rattle.pb_telegram.specs.declared.chars.RxChar.{RxChar};
+ghost use Rattle.pb_telegram.specs.declared.chars.RxChar.TheVariants.{Good};
+ghost use Rattle.pb_turn.specs.Marks.{End};
 ghost use Rattle.pb_turn.specs.Stations.{first_seen};
 ghost use Rattle.pb_station.specs.MarkViews.{mark_of};
 ghost use Rattle.pb_station.specs.Notes.{AreOf, mark_with, marks_in};
@@ -20,7 +22,7 @@ const CHAR_LIMIT: usize = 16_320;
 
 /// The unread marks of a tap, with room for as many as there may be: a list of marks in every clause. The characters of
 /// all marks stand behind one another, so that nothing is moved but what a mark brings, and apart from those the octets
-/// of marks whose characters all came good, which are most.
+/// of marks whose characters all came good, which are most. A token's octets stand in its note, and noise needs none.
 #[derive(Debug, Drop)]
 pub struct Inbox {
     notes: Vec<Note>,
@@ -53,11 +55,11 @@ pub(crate) struct Unread<'a> {
 
 impl Inbox {
     ghost use Rattle.std.specs.Prelude.{◌≡◌, ◌≤◌, ◌<◌, ◌++◌, [], ◌∷◌, IsTrue, ◌↔◌, IfOk, length, map};
-    ghost use Rattle.pb_telegram.specs.declared.chars.RxChar.TheVariants.{Good};
+    ghost use Rattle.pb_telegram.specs.declared.chars.RxChar.TheVariants.{Good, Bad};
     ghost use Rattle.pb_turn.specs.Marks as model;
     ghost use Rattle.pb_turn.specs.Stations.{first_seen};
     ghost use Rattle.pb_station.specs.MarkViews.{mark_of};
-    ghost use Rattle.pb_station.specs.Notes.{AreOf, marks_in};
+    ghost use Rattle.pb_station.specs.Notes.{AreOf, chars_of, octets_of, mark_with, marks_in};
 
     /// An inbox without marks, with room for all that it may have. Its fault: memory was refused.
     pub fn new(alloc: Global) -> Result<Inbox, AllocError>
@@ -78,7 +80,7 @@ impl Inbox {
         requires { length self.old < 64 }
         ensures { self.new ≡ self.old ++ model.Begin at seen ∷ [] }
     {
-        self.notes.push_reserved(Note::Begin { at, seen });
+        self.push_note(Note::Begin { at, seen });
     }
 
     /// Activity has ended at a moment, and brought characters, which a mark says behind the others.
@@ -95,8 +97,49 @@ impl Inbox {
         });
     }
 
+    /// Activity has ended at a moment, and brought one damaged character, as noise does, which a mark says behind the
+    /// others.
+    #[inline(always)]
+    pub fn push_noise(&mut self, at: Moment, seen: Moment)
+        requires { length self.old < 64 }
+        ensures { self.new ≡ self.old ++ model.End at seen (Bad ∷ []) ∷ [] }
+    {
+        self.push_note(Note::Noise { at, seen });
+    }
+
     /// Activity has ended at a moment, and brought octets that all came good, which a mark says behind the others.
+    /// Three of them, as many as a token has, stand in the note itself.
+    #[inline(always)]
     pub fn push_good_end(&mut self, at: Moment, seen: Moment, octets: &[u8])
+        requires room { length self.old < 64 }
+        requires fits { length octets.now ≤ 255 }
+        ensures { self.new ≡ self.old ++ model.End at seen (map Good octets.now) ∷ [] }
+    {
+        match octets {
+            [first, second, third] => self.push_note(Note::Three {
+                at,
+                seen,
+                octets: [*first, *second, *third],
+            }),
+            _ => self.push_octets(at, seen, octets),
+        }
+    }
+
+    /// A mark stands behind the others, of which all that it brings stands in its note.
+    #[inline(always)]
+    fn push_note(&mut self, note: Note)
+        requires room { length self.old < 64 }
+        requires chars { chars_of note ≡ 0 }
+        requires octets { octets_of note ≡ 0 }
+        ensures { self.new ≡ self.old ++ mark_with note [] [] ∷ [] }
+    {
+        self.notes.push_reserved(note);
+    }
+
+    /// Activity has ended and brought any octets that all came good, which stand behind those of other marks. It stands
+    /// apart, so that a token's mark does no more than note it.
+    #[inline(never)]
+    fn push_octets(&mut self, at: Moment, seen: Moment, octets: &[u8])
         requires room { length self.old < 64 }
         requires fits { length octets.now ≤ 255 }
         ensures { self.new ≡ self.old ++ model.End at seen (map Good octets.now) ∷ [] }
@@ -223,17 +266,46 @@ fn push_copy(copies: &mut Vec<Mark>, note: &Note, chars: &[RxChar], octets: &[u8
             at: *at,
             seen: *seen,
         }),
-        Note::End { at, seen, .. } => {
-            let place = copies.len();
-            copies.push_reserved(Mark::ended(*at, *seen));
-            copies[place].bring(chars);
-        }
-        Note::GoodEnd { at, seen, .. } => {
-            let place = copies.len();
-            copies.push_reserved(Mark::ended(*at, *seen));
-            copies[place].bring_good(octets);
-        }
+        Note::End { at, seen, .. } => push_ended(copies, *at, *seen, chars),
+        Note::GoodEnd { at, seen, .. } => push_good_ended(copies, *at, *seen, octets),
+        Note::Three {
+            at,
+            seen,
+            octets: three,
+        } => push_good_ended(copies, *at, *seen, three),
+        Note::Noise { at, seen } => push_ended(copies, *at, *seen, &[RxChar::Bad]),
     }
+}
+
+/// The end of activity that brought characters stands behind other marks, with room for it: it is made in its place,
+/// and then told what it brings.
+#[inline(always)]
+fn push_ended(copies: &mut Vec<Mark>, at: Moment, seen: Moment, chars: &[RxChar])
+    requires chars { length chars.now ≤ 255 }
+    requires room { length copies.old.items < vec_capacity copies.old }
+    ensures items { map mark_of copies.new.items
+        ≡ map mark_of copies.old.items ++ End at seen chars.now ∷ [] }
+    ensures count { length copies.new.items ≡ length copies.old.items + 1 }
+    ensures room { vec_capacity copies.new ≡ vec_capacity copies.old }
+{
+    let place = copies.len();
+    copies.push_reserved(Mark::ended(at, seen));
+    copies[place].bring(chars);
+}
+
+/// The end of activity that brought octets which all came good, likewise.
+#[inline(always)]
+fn push_good_ended(copies: &mut Vec<Mark>, at: Moment, seen: Moment, octets: &[u8])
+    requires octets { length octets.now ≤ 255 }
+    requires room { length copies.old.items < vec_capacity copies.old }
+    ensures items { map mark_of copies.new.items
+        ≡ map mark_of copies.old.items ++ End at seen (map Good octets.now) ∷ [] }
+    ensures count { length copies.new.items ≡ length copies.old.items + 1 }
+    ensures room { vec_capacity copies.new ≡ vec_capacity copies.old }
+{
+    let place = copies.len();
+    copies.push_reserved(Mark::ended(at, seen));
+    copies[place].bring_good(octets);
 }
 
 /// Whether marks are those that are noted.

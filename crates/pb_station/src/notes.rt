@@ -1,8 +1,8 @@
 //! What is noted of marks whose characters stand apart.
 
-ghost use Rattle.std.specs.Prelude.{◌≡◌, ◌≤◌, [], IsTrue, ◌↔◌, length, map, take, drop};
-ghost use Rattle.pb_telegram.specs.declared.chars.RxChar.TheVariants.{Good};
-ghost use Rattle.pb_turn.specs.Marks.{moment_of, seen_at};
+ghost use Rattle.std.specs.Prelude.{◌≡◌, ◌≤◌, [], ◌∷◌, IsTrue, ◌↔◌, length, map, take, drop};
+ghost use Rattle.pb_telegram.specs.declared.chars.RxChar.TheVariants.{Good, Bad};
+ghost use Rattle.pb_turn.specs.Marks.{End, moment_of, seen_at};
 ghost use Rattle.pb_station.specs.MarkViews.{mark_of};
 ghost use Rattle.pb_station.specs.Notes.{chars_of, octets_of, mark_with};
 
@@ -38,6 +38,22 @@ pub(crate) enum Note {
         /// How many octets it has brought.
         count: usize,
     },
+    /// Activity has ended, and brought three octets that came good, as many as a token has: they stand here.
+    Three {
+        /// When it ended.
+        at: Moment,
+        /// When the mark was delivered.
+        seen: Moment,
+        /// What it has brought.
+        octets: [u8; 3],
+    },
+    /// Activity has ended, and brought one damaged character, as noise does.
+    Noise {
+        /// When it ended.
+        at: Moment,
+        /// When the mark was delivered.
+        seen: Moment,
+    },
 }
 
 impl Note {
@@ -61,23 +77,23 @@ impl Note {
         left.split_at(self.octets())
     }
 
-    /// How many characters it brings, apart from octets that came good.
+    /// How many characters it brings that stand apart, as such.
     fn chars(&self) -> usize
         ensures { result ≡ chars_of self.now }
     {
         match self {
             Note::End { count, .. } => *count,
-            Note::Begin { .. } | Note::GoodEnd { .. } => 0,
+            _ => 0,
         }
     }
 
-    /// How many octets it brings that all came good.
+    /// How many octets it brings that stand apart, which all came good.
     fn octets(&self) -> usize
         ensures { result ≡ octets_of self.now }
     {
         match self {
             Note::GoodEnd { count, .. } => *count,
-            Note::Begin { .. } | Note::End { .. } => 0,
+            _ => 0,
         }
     }
 
@@ -86,7 +102,11 @@ impl Note {
         ensures { result ≡ moment_of (mark_with self.now [] []) }
     {
         match self {
-            Note::Begin { at, .. } | Note::End { at, .. } | Note::GoodEnd { at, .. } => *at,
+            Note::Begin { at, .. }
+            | Note::End { at, .. }
+            | Note::GoodEnd { at, .. }
+            | Note::Three { at, .. }
+            | Note::Noise { at, .. } => *at,
         }
     }
 
@@ -95,7 +115,11 @@ impl Note {
         ensures { result ≡ seen_at (mark_with self.now [] []) }
     {
         match self {
-            Note::Begin { seen, .. } | Note::End { seen, .. } | Note::GoodEnd { seen, .. } => *seen,
+            Note::Begin { seen, .. }
+            | Note::End { seen, .. }
+            | Note::GoodEnd { seen, .. }
+            | Note::Three { seen, .. }
+            | Note::Noise { seen, .. } => *seen,
         }
     }
 
@@ -110,24 +134,32 @@ impl Note {
                     at: began,
                     seen: told,
                 },
-            ) => { at == began && seen == told }
+            ) => at == began && seen == told,
+            (_, Mark::Begin { .. }) => false,
             (
-                Note::End { at, seen, .. },
+                _,
                 Mark::End {
-                    at: ended,
-                    seen: told,
+                    at,
+                    seen,
                     chars: brought,
                 },
-            ) => at == ended && seen == told && are_same(chars, brought),
-            (
-                Note::GoodEnd { at, seen, .. },
-                Mark::End {
-                    at: ended,
-                    seen: told,
-                    chars: brought,
-                },
-            ) => at == ended && seen == told && are_good(octets, brought),
-            _ => false,
+            ) => {
+                self.moment() == *at && self.seen() == *seen && self.brings(chars, octets, brought)
+            }
+        }
+    }
+
+    /// Whether activity has ended and brought characters, by some that stand apart and by some octets.
+    fn brings(&self, chars: &[RxChar], octets: &[u8], brought: &[RxChar]) -> bool
+        ensures { IsTrue result ↔ (mark_with self.now chars.now octets.now
+            ≡ End (moment_of (mark_with self.now [] [])) (seen_at (mark_with self.now [] [])) brought.now) }
+    {
+        match self {
+            Note::Begin { .. } => false,
+            Note::End { .. } => are_same(chars, brought),
+            Note::GoodEnd { .. } => are_good(octets, brought),
+            Note::Three { octets: three, .. } => are_good(three, brought),
+            Note::Noise { .. } => is_noise(brought),
         }
     }
 }
@@ -151,6 +183,13 @@ fn are_good(octets: &[u8], chars: &[RxChar]) -> bool
         all &= is_good(chars[place], *octet);
     }
     all
+}
+
+/// Whether characters are one damaged character, as noise brings.
+fn is_noise(chars: &[RxChar]) -> bool
+    ensures { IsTrue result ↔ (chars.now ≡ Bad ∷ []) }
+{
+    matches!(chars, [RxChar::Bad])
 }
 
 /// Whether a character is that of an octet that came good.

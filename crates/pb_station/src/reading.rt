@@ -1,8 +1,8 @@
 //! A station that reads its marks.
 
-ghost use Rattle.std.specs.Prelude.{◌≡◌, ◌≤◌, ℕ, map};
+ghost use Rattle.std.specs.Prelude.{◌≡◌, ◌≤◌, ℕ, [], ◌∷◌, length, map, take, drop};
 ghost use Rattle.pb_timers.specs.Timers.{Params};
-ghost use Rattle.pb_turn.specs.Arrivals.{NoTelegram, Token, arrival_of};
+ghost use Rattle.pb_turn.specs.Arrivals.{Token, arrival_of};
 ghost use Rattle.pb_turn.specs.Hearing.{after_mark, ended};
 ghost use Rattle.pb_turn.specs.Marks.{moment_of, Begin, End};
 ghost use Rattle.pb_turn.specs.Phases.{is_offline};
@@ -11,73 +11,73 @@ ghost use Rattle.pb_tokenfsm.specs.Phases.{phase_of};
 ghost use Rattle.pb_core.specs.Clocks.{last_turn};
 ghost use Rattle.pb_core.specs.Cores.{Becomes};
 ghost use Rattle.pb_station.specs.MarkViews.{mark_of, AreOver, AllOver};
-ghost use Rattle.pb_station.specs.Notes.{mark_with, marks_in, AreOf};
-ghost use Rattle.pb_telegram.specs.declared.chars.RxChar.TheVariants.{Good};
+ghost use Rattle.pb_station.specs.Notes.{chars_of, octets_of, mark_with, marks_in, AreOf};
+ghost use Rattle.pb_telegram.specs.declared.chars.RxChar.TheVariants.{Good, Bad};
 
 use crate::marks::Mark;
 use crate::notes::Note;
-use pb_core::{Kept, spelled_telegram, spelled_token, token_in, whole_telegram};
-use pb_phases::{after_timer, begun, ended, ended_with_token};
+use pb_core::{Kept, is_for_others, spelled_telegram, spelled_token, token_in, whole_telegram};
+use pb_phases::{
+    after_timer, begun, ended, ended_with_noise, ended_with_token, fall_quiet, only_answers,
+};
 use pb_telegram::RxChar;
 use pb_timers::{BusParams, Moment};
 use pb_tokenfsm::Phase;
 
+/// The characters and the octets of marks that are not read yet.
+#[derive(Clone, Copy, Debug)]
+struct Left<'a> {
+    chars: &'a [RxChar],
+    octets: &'a [u8],
+}
+
 /// The station after marks that are noted, and the timers that end before each.
 pub(crate) fn after_notes(
-    phase: Phase,
+    phase: &mut Phase,
     kept: &mut Kept,
     params: &BusParams,
     notes: &[Note],
     chars: &[RxChar],
     octets: &[u8],
     now: Moment,
-) -> Phase
+)
     requires clock { now ≤ last_turn }
     requires over { AllOver now (marks_in notes.now chars.now octets.now) }
     requires of { AreOf notes.now chars.now octets.now }
     ensures { Becomes (λ s. after_marks params.now s (marks_in notes.now chars.now octets.now))
-        kept.old (phase_of phase) kept.new (phase_of result) }
+        kept.old (phase_of phase.old) kept.new (phase_of phase.new) }
 {
-    let mut current = phase;
-    let mut left = chars;
-    let mut good_left = octets;
+    let mut left = Left { chars, octets };
     for note in notes {
-        let (brought, behind) = note.split_chars(left);
-        let (good, good_behind) = note.split_octets(good_left);
-        let timed = after_timer(current, kept, params, note.moment());
-        current = after_note(timed, kept, params, note, brought, good);
-        left = behind;
-        good_left = good_behind;
+        after_timer(phase, kept, params, note.moment());
+        left = after_note(phase, kept, params, note, left.chars, left.octets);
     }
-    current
 }
 
 /// The station after its unread marks, and the timers that end before each.
 pub(crate) fn after_marks(
-    phase: Phase,
+    phase: &mut Phase,
     kept: &mut Kept,
     params: &BusParams,
     marks: &[Mark],
     now: Moment,
-) -> Phase
+)
     requires clock { now ≤ last_turn }
     requires over { AreOver now marks.now }
     ensures { Becomes (λ s. after_marks params.now s (map mark_of marks.now))
-        kept.old (phase_of phase) kept.new (phase_of result) }
+        kept.old (phase_of phase.old) kept.new (phase_of phase.new) }
 {
-    let mut current = phase;
     for mark in marks {
-        let timed = after_timer(current, kept, params, mark.moment());
-        current = after_mark(timed, kept, params, mark);
+        after_timer(phase, kept, params, mark.moment());
+        after_mark(phase, kept, params, mark);
     }
-    current
 }
 
 /// The station after a mark.
-fn after_mark(phase: Phase, kept: &mut Kept, params: &BusParams, mark: &Mark) -> Phase
+fn after_mark(phase: &mut Phase, kept: &mut Kept, params: &BusParams, mark: &Mark)
     requires { moment_of (mark_of mark.now) ≤ last_turn }
     ensures { Becomes (λ s. after_mark params.now s (mark_of mark.now))
-        kept.old (phase_of phase) kept.new (phase_of result) }
+        kept.old (phase_of phase.old) kept.new (phase_of phase.new) }
 {
     match mark {
         Mark::Begin { at, .. } => after_begin(phase, kept, *at),
@@ -85,55 +85,85 @@ fn after_mark(phase: Phase, kept: &mut Kept, params: &BusParams, mark: &Mark) ->
     }
 }
 
-/// The station after a mark that is noted, with the characters and the octets that it brings.
+/// The station after a mark that is noted, which brings the first of the characters, or of the octets, that are left. It
+/// answers what is left behind them.
 #[inline(always)]
-fn after_note(
-    phase: Phase,
+fn after_note<'a>(
+    phase: &mut Phase,
     kept: &mut Kept,
     params: &BusParams,
     note: &Note,
-    chars: &[RxChar],
-    octets: &[u8],
-) -> Phase
-    requires { moment_of (mark_with note.now chars.now octets.now) ≤ last_turn }
-    ensures { Becomes (λ s. after_mark params.now s (mark_with note.now chars.now octets.now))
-        kept.old (phase_of phase) kept.new (phase_of result) }
+    chars: &'a [RxChar],
+    octets: &'a [u8],
+) -> Left<'a>
+    requires moment { moment_of (mark_with note.now [] []) ≤ last_turn }
+    requires chars { chars_of note.now ≤ length chars.now }
+    requires octets { octets_of note.now ≤ length octets.now }
+    ensures read { Becomes
+        (λ s. after_mark params.now s
+        (mark_with note.now (take (chars_of note.now) chars.now) (take (octets_of note.now) octets.now)))
+        kept.old (phase_of phase.old) kept.new (phase_of phase.new) }
+    ensures chars { result.chars.now ≡ drop (chars_of note.now) chars.now }
+    ensures octets { result.octets.now ≡ drop (octets_of note.now) octets.now }
 {
     match note {
-        Note::Begin { at, .. } => after_begin(phase, kept, *at),
-        Note::End { at, .. } => after_end(phase, kept, params, *at, chars),
-        Note::GoodEnd { at, .. } => after_good_end(phase, kept, params, *at, octets),
+        Note::Begin { at, .. } => {
+            after_begin(phase, kept, *at);
+            Left { chars, octets }
+        }
+        Note::End { at, count, .. } => {
+            let (brought, left) = chars.split_at(*count);
+            after_end(phase, kept, params, *at, brought);
+            Left {
+                chars: left,
+                octets,
+            }
+        }
+        Note::GoodEnd { at, count, .. } => {
+            let (brought, left) = octets.split_at(*count);
+            after_good_end(phase, kept, params, *at, brought);
+            Left {
+                chars,
+                octets: left,
+            }
+        }
+        Note::Three {
+            at,
+            octets: three,
+            ..
+        } => {
+            after_good_end(phase, kept, params, *at, three);
+            Left { chars, octets }
+        }
+        Note::Noise { at, .. } => {
+            after_noise(phase, kept, params, *at);
+            Left { chars, octets }
+        }
     }
 }
 
 /// The station after activity has begun at a moment; one that is offline notices nothing.
-fn after_begin(phase: Phase, kept: &mut Kept, at: Moment) -> Phase
+fn after_begin(phase: &mut Phase, kept: &mut Kept, at: Moment)
     ensures { (p : Params) (seen : ℕ) → Becomes (λ s. after_mark p s (Begin at seen))
-        kept.old (phase_of phase) kept.new (phase_of result) }
+        kept.old (phase_of phase.old) kept.new (phase_of phase.new) }
 {
-    if is_offline(&phase) {
-        return phase;
+    if is_offline(phase) {
+        return;
     }
-    begun(phase, kept, at)
+    begun(phase, kept, at);
 }
 
 /// The station after activity has ended at a moment and brought characters; one that is offline notices nothing.
-fn after_end(
-    phase: Phase,
-    kept: &mut Kept,
-    params: &BusParams,
-    at: Moment,
-    chars: &[RxChar],
-) -> Phase
+fn after_end(phase: &mut Phase, kept: &mut Kept, params: &BusParams, at: Moment, chars: &[RxChar])
     requires { at ≤ last_turn }
     ensures { (seen : ℕ) → Becomes (λ s. after_mark params.now s (End at seen chars.now))
-        kept.old (phase_of phase) kept.new (phase_of result) }
+        kept.old (phase_of phase.old) kept.new (phase_of phase.new) }
 {
-    if is_offline(&phase) {
-        return phase;
+    if is_offline(phase) {
+        return;
     }
     if let [RxChar::Bad, ..] = chars {
-        return after_noise(phase, kept, params, at);
+        return ended_with_noise(phase, kept, params, at);
     }
     match token_in(chars) {
         Some(token) => ended_with_token(phase, kept, params, at, token),
@@ -143,67 +173,66 @@ fn after_end(
 
 /// The station after activity has ended at a moment and brought octets that all came good; one that is offline notices
 /// nothing.
-fn after_good_end(
-    phase: Phase,
-    kept: &mut Kept,
-    params: &BusParams,
-    at: Moment,
-    octets: &[u8],
-) -> Phase
+fn after_good_end(phase: &mut Phase, kept: &mut Kept, params: &BusParams, at: Moment, octets: &[u8])
     requires { at ≤ last_turn }
     ensures { (seen : ℕ) → Becomes (λ s. after_mark params.now s (End at seen (map Good octets.now)))
-        kept.old (phase_of phase) kept.new (phase_of result) }
+        kept.old (phase_of phase.old) kept.new (phase_of phase.new) }
 {
-    if is_offline(&phase) {
-        return phase;
+    if is_offline(phase) {
+        return;
     }
-    match spelled_token(octets) {
-        Some(token) => ended_with_token(phase, kept, params, at, token),
-        None => after_other_octets(phase, kept, params, at, octets),
+    if let Some(token) = spelled_token(octets) {
+        ended_with_token(phase, kept, params, at, token);
+    } else if only_answers(phase) && is_for_others(octets, kept.address.get()) {
+        fall_quiet(kept, at);
+    } else {
+        after_other_octets(phase, kept, params, at, octets);
     }
 }
 
-/// The station after activity has ended at a moment and brought no telegram, as noise does.
-#[inline(never)]
-fn after_noise(phase: Phase, kept: &mut Kept, params: &BusParams, at: Moment) -> Phase
+/// The station after activity has ended at a moment and brought one damaged character, as noise does; one that is offline
+/// notices nothing.
+fn after_noise(phase: &mut Phase, kept: &mut Kept, params: &BusParams, at: Moment)
     requires { at ≤ last_turn }
-    ensures { Becomes (λ s. ended params.now s at NoTelegram)
-        kept.old (phase_of phase) kept.new (phase_of result) }
+    ensures { (seen : ℕ) → Becomes (λ s. after_mark params.now s (End at seen (Bad ∷ [])))
+        kept.old (phase_of phase.old) kept.new (phase_of phase.new) }
 {
-    ended(phase, kept, params, at, &None)
+    if !is_offline(phase) {
+        ended_with_noise(phase, kept, params, at);
+    }
 }
 
 /// The station after activity has ended at a moment and brought any characters. It is a call of its own since the room
 /// of the longest telegram is cleared for it.
 #[inline(never)]
 fn after_others(
-    phase: Phase,
+    phase: &mut Phase,
     kept: &mut Kept,
     params: &BusParams,
     at: Moment,
     chars: &[RxChar],
-) -> Phase
+)
     requires { at ≤ last_turn }
     ensures { Becomes (λ s. ended params.now s at (arrival_of chars.now))
-        kept.old (phase_of phase) kept.new (phase_of result) }
+        kept.old (phase_of phase.old) kept.new (phase_of phase.new) }
 {
-    ended(phase, kept, params, at, &whole_telegram(chars))
+    ended(phase, kept, params, at, &whole_telegram(chars));
 }
 
 /// The station after activity has ended at a moment and brought any octets that all came good, likewise.
 #[inline(never)]
 fn after_other_octets(
-    phase: Phase,
+    phase: &mut Phase,
     kept: &mut Kept,
     params: &BusParams,
     at: Moment,
     octets: &[u8],
-) -> Phase
+)
     requires { at ≤ last_turn }
     ensures { Becomes (λ s. ended params.now s at (arrival_of (map Good octets.now)))
-        kept.old (phase_of phase) kept.new (phase_of result) }
+        kept.old (phase_of phase.old) kept.new (phase_of phase.new) }
 {
-    ended(phase, kept, params, at, &spelled_telegram(octets))
+    ended(phase, kept, params, at, &spelled_telegram(octets));
 }
 
 fn is_offline(phase: &Phase) -> bool

@@ -37,8 +37,7 @@ pub(crate) fn take_turn(
         kept,
         waiting,
     } = core;
-    let before = phase.take();
-    *phase = settle(before, kept, params, inbox, now);
+    settle(phase, kept, params, inbox, now);
     speak(phase, kept, waiting, params, now, out);
 }
 
@@ -54,8 +53,7 @@ pub(crate) fn read_on(core: &mut Core, params: &BusParams, marks: &[Mark], now: 
     ensures received { HasReceived (station_of core.new) }
 {
     let Core { phase, kept, .. } = core;
-    let before = phase.take();
-    *phase = settle_on(before, kept, params, marks, now);
+    settle_on(phase, kept, params, marks, now);
     has_come(speaks_at(phase, kept), now)
 }
 
@@ -82,8 +80,9 @@ pub(crate) fn would_speak(core: &Core, params: &BusParams, inbox: &Inbox, now: M
     ensures { result ≡ is_some (turn_of params.now (station_of core.now) inbox.now now).1 }
 {
     let mut kept = core.kept.copy();
-    let settled = settle(core.phase.copy(), &mut kept, params, inbox, now);
-    would_say(&settled, &kept, now)
+    let mut phase = core.phase.copy();
+    settle(&mut phase, &mut kept, params, inbox, now);
+    would_say(&phase, &kept, now)
 }
 
 /// When the station has to take its turn, with some unread marks.
@@ -110,36 +109,30 @@ fn acts(core: &Core, params: &BusParams) -> Option<Moment>
 
 /// The station at the clock, before it speaks: it has read its unread marks, and the timers between them and up to
 /// the clock.
-fn settle(phase: Phase, kept: &mut Kept, params: &BusParams, inbox: &Inbox, now: Moment) -> Phase
+fn settle(phase: &mut Phase, kept: &mut Kept, params: &BusParams, inbox: &Inbox, now: Moment)
     requires clock { now ≤ last_turn }
     requires over { AllOver now inbox.now }
     ensures { Becomes (λ s. settled params.now s inbox.now now)
-        kept.old (phase_of phase) kept.new (phase_of result) }
+        kept.old (phase_of phase.old) kept.new (phase_of phase.new) }
 {
     let Unread {
         notes,
         chars,
         octets,
     } = inbox.unread();
-    let read = after_notes(phase, kept, params, notes, chars, octets, now);
-    after_timer(read, kept, params, after(now, 1))
+    after_notes(phase, kept, params, notes, chars, octets, now);
+    after_timer(phase, kept, params, after(now, 1));
 }
 
 /// The same with marks that are in no inbox.
-fn settle_on(
-    phase: Phase,
-    kept: &mut Kept,
-    params: &BusParams,
-    marks: &[Mark],
-    now: Moment,
-) -> Phase
+fn settle_on(phase: &mut Phase, kept: &mut Kept, params: &BusParams, marks: &[Mark], now: Moment)
     requires clock { now ≤ last_turn }
     requires over { AreOver now marks.now }
     ensures { Becomes (λ s. settled params.now s (map mark_of marks.now) now)
-        kept.old (phase_of phase) kept.new (phase_of result) }
+        kept.old (phase_of phase.old) kept.new (phase_of phase.new) }
 {
-    let read = after_marks(phase, kept, params, marks, now);
-    after_timer(read, kept, params, after(now, 1))
+    after_marks(phase, kept, params, marks, now);
+    after_timer(phase, kept, params, after(now, 1));
 }
 
 /// Whether a moment has come.

@@ -29,7 +29,7 @@ pub use laws::{
 pub use parsing::parse;
 pub use receiving::Receiver;
 pub use telegrams::{
-    ACKNOWLEDGEMENT, END, Fixed8Telegram, SHORT_START, ShortTelegram, TOKEN_START, Telegram,
-    TokenTelegram, VAR_START, VarTelegram,
+    ACKNOWLEDGEMENT, END, FIXED_START, Fixed8Telegram, SHORT_START, ShortTelegram, TOKEN_START,
+    Telegram, TokenTelegram, VAR_START, VarTelegram,
 };
 pub use writing::{write, write_in};

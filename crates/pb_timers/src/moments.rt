@@ -43,6 +43,14 @@ impl Moment {
         Some(Moment { bits })
     }
 
+    /// The moment that is some bit times after the clock began, at most 2^62, the caller's condition.
+    pub fn at(bits: u64) -> Moment
+        requires { bits ≤ last_moment }
+        ensures { result ≡ bits }
+    {
+        Moment { bits }
+    }
+
     /// The moment in bit times.
     pub fn get(self) -> u64
         ensures value { result ≡ self }

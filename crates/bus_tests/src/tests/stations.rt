@@ -205,8 +205,8 @@ fn stations_are_copied_in_the_room_of_others(rt: HostRuntime) -> Result<(), Fail
     Ok(())
 }
 
-/// An inbox keeps marks in their order, each with its characters; a station is due when the first of them was
-/// delivered.
+/// An inbox keeps marks in their order, each with its characters, be they a token's, noise, an acknowledgement or those
+/// of a damaged telegram; a station is due when the first of them was delivered.
 #[test]
 fn an_inbox_keeps_marks_in_their_order(rt: HostRuntime) -> Result<(), Fail> {
     let alloc = rt.alloc();
@@ -214,10 +214,19 @@ fn an_inbox_keeps_marks_in_their_order(rt: HostRuntime) -> Result<(), Fail> {
     inbox.push_begin(at(700)?, at(701)?);
     inbox.push_good_end(at(733)?, at(733)?, &[0xdc, 0x02, 0x01]);
     inbox.push_begin(at(750)?, at(751)?);
-    inbox.push_end(at(761)?, at(761)?, &[RxChar::Bad]);
-    assert_eq!(rt; inbox.len(), 4);
+    inbox.push_noise(at(761)?, at(762)?);
+    inbox.push_good_end(at(772)?, at(772)?, &[0xe5]);
+    inbox.push_end(at(794)?, at(795)?, &[RxChar::Good(0x10), RxChar::Bad]);
+    assert_eq!(rt; inbox.len(), 6);
     let mut told = Vec::new(alloc);
-    for word in ["b:700:701", "e:733:733:dc0201", "b:750:751", "e:761:761:--"] {
+    for word in [
+        "b:700:701",
+        "e:733:733:dc0201",
+        "b:750:751",
+        "e:761:762:--",
+        "e:772:772:e5",
+        "e:794:795:10--",
+    ] {
         told.push(mark(word)?)?;
     }
     assert!(rt; inbox.are(&told));

@@ -1,6 +1,6 @@
 use super::equal;
 use arrayvec::ArrayVec;
-use pb_core::{spelled_telegram, whole_telegram};
+use pb_core::{is_for_others, spelled_telegram, whole_telegram};
 use pb_telegram::{Fixed8Telegram, RxChar, ShortTelegram, Telegram, TokenTelegram, VarTelegram};
 use std::alloc::{AllocError, Global};
 use std::test::Fail;
@@ -56,6 +56,30 @@ fn telegrams_are_read(rt: HostRuntime) -> Result<(), Fail> {
     for (telegram, octets) in &spellings {
         equal(&rt, &whole_telegram(&good(rt.alloc(), octets)?), telegram);
         equal(&rt, &spelled_telegram(octets), telegram);
+    }
+    Ok(())
+}
+
+#[test]
+fn telegrams_to_others_are_told_by_their_destination(rt: HostRuntime) -> Result<(), Fail> {
+    let to_station_5 = [
+        [0x10, 5, 2, 0x49, 0x50, 0x16].as_slice(),
+        &[0x68, 5, 5, 0x68, 0x85, 2, 0x7d, 1, 2, 0x07, 0x16],
+        &[0xa2, 5, 2, 0x7d, 1, 2, 3, 4, 5, 6, 7, 8, 0xa8, 0x16],
+    ];
+    for octets in &to_station_5 {
+        equal(&rt, &is_for_others(octets, 4), &true);
+        equal(&rt, &is_for_others(octets, 5), &false);
+    }
+    // A token, a telegram to all stations, and octets that end before they tell.
+    let not_told = [
+        [0xdc, 5, 2].as_slice(),
+        &[0x10, 127, 2, 0x46, 0xc7, 0x16],
+        &[0x68, 5, 5, 0x68],
+        &[],
+    ];
+    for octets in &not_told {
+        equal(&rt, &is_for_others(octets, 4), &false);
     }
     Ok(())
 }

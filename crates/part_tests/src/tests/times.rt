@@ -109,6 +109,7 @@ fn a_moment_ends_at_its_limit(rt: HostRuntime) -> Result<(), Fail> {
     let limit = 1 << 62;
     equal(&rt, &Moment::new(limit + 1), &None);
     let last = Moment::new(limit).ok_or(ClockFull)?;
+    equal(&rt, &Moment::at(limit), &last);
     equal(&rt, &last.get(), &limit);
     equal(&rt, &last.add(0), &Ok(last));
     equal(&rt, &last.add(1), &Err(ClockFull));

@@ -3,7 +3,8 @@ use Rattle.std.proofs.lemmas.List.{length-map}
 use Rattle.pb_theorem.specs.Quiet.{is_active}
 use Rattle.pb_bus.specs.Buses.{world_of}
 use Rattle.pb_taps.specs.Taps.{tap_of}
-use Rattle.pb_audit.proofs.Premising.{renewed, still-old, all-renewed}
+use Rattle.pb_audit.specs.Premises.{IsOldest}
+use Rattle.pb_audit.proofs.Premising.{renewed, still-old, all-renewed, least-still, least-more}
 use Rattle.pb_audit.proofs.premises.listen_to.Goals as goal
 use Rattle.pb_audit.proofs.premises.listen_to.Goals.{then-is_heard, else-is_heard}
 
@@ -23,10 +24,14 @@ loop-tap-preserved c =
         | else-is_heard v ↦ subst (λ (xs : List ℕ). (k : ℕ) → get_or xs k 0 ≡ (if nat_lt k (tap + 1) then heard k else get_or before k 0)) (sym v.quiet-is)
             (still-old heard c.loop-tap.quiet before tap (ap (λ (b : Bool). if b then c.args.to else get_or before tap 0) (sym c.is_heard.ensures ∙ v.if-is_heard.false)) c.loop-tap.invariant.so_far)
       ];
+      oldest = least-more c.loop-tap.oldest c.min-oldest.result tap c.if-is_heard.quiet (omega (arith, c.min-oldest.ensures)) (omega (arith, c.min-oldest.ensures)) (elim c.if-is_heard.branch [
+        | then-is_heard v ↦ subst (IsOldest c.loop-tap.oldest tap) (sym v.quiet-is) (least-still c.loop-tap.oldest tap c.args.to c.loop-tap.quiet c.loop-tap.invariant.oldest)
+        | else-is_heard v ↦ subst (IsOldest c.loop-tap.oldest tap) (sym v.quiet-is) c.loop-tap.invariant.oldest
+      ]);
     }
 
-pub returns : goal.returns
-returns c = λ tap there.
+pub returns-clause-heard : goal.returns-clause-heard
+returns-clause-heard c = λ tap there.
     let w = world_of c.args.bus.now in
     let heard : ℕ → ℕ = λ k. if is_active w.params.ttd w.now c.args.to w.trace k then c.args.to else get_or c.args.quiet.now k 0 in
     all-renewed heard c.loop-tap.quiet c.args.quiet.now c.loop-tap.tap c.loop-tap.invariant.so_far tap

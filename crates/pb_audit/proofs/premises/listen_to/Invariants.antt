@@ -1,6 +1,7 @@
 use Rattle.std.proofs.Common.{◌≡◌, ℕ, length, get_or, nat_lt, if◌then◌else◌}
 use Rattle.pb_theorem.specs.Quiet.{is_active}
 use Rattle.pb_bus.specs.Buses.{world_of}
+use Rattle.pb_audit.specs.Premises.{IsOldest}
 use Rattle.pb_audit.proofs.premises.listen_to.Given as goal
 
 -- the taps before the position have been listened to
@@ -10,4 +11,5 @@ invariant-loop-tap l =
       count : length l.quiet ≡ length l.initial.quiet;
       so_far : (k : ℕ) → get_or l.quiet k 0
           ≡ (if nat_lt k l.tap then (if is_active l.bus.params.ttd l.bus.now l.to (world_of l.bus).trace k then l.to else get_or l.initial.quiet k 0) else get_or l.initial.quiet k 0);
+      oldest : IsOldest l.oldest l.tap l.quiet;
     }

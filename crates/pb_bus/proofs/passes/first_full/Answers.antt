@@ -1,13 +1,15 @@
 -- The first full tap is the one at the position, or is among those behind it.
-use Rattle.std.proofs.Common.{◌≤◌, ◌<◌, ◌+◌, ◌∙◌, ap, sym, map, length, drop, arith, length-append}
+use Rattle.std.proofs.Common.{rules, ◌≡◌, ◌≤◌, ◌<◌, ◌+◌, ◌∙◌, ap, sym, map, List, [], length, drop, arith, length-append}
+use Rattle.std.proofs.lemmas.List.{nil_from_length}
 use Rattle.pb_model.specs.World.{mark_limit}
 use Rattle.pb_model.specs.Step as step
 use Rattle.pb_medium.specs.Entries.{entry_of}
+use Rattle.pb_medium.specs.declared.entries.Entry.{Entry}
 use Rattle.pb_model.specs.Medium.{new_marks}
 use Rattle.pb_model.specs.Step.{told}
 use Rattle.pb_bus.specs.Passes.{with_news}
 use Rattle.pb_taps.specs.Taps.{tap_of}
-use Rattle.pb_bus.proofs.Passing.{from-position, full-here, full-later}
+use Rattle.pb_bus.proofs.Passing.{from-position, full-here, full-later, nobody-told}
 use Rattle.pb_bus.proofs.passes.first_full.Goals as goal
 
 pub returns-then-overflows : goal.returns-then-overflows
@@ -35,3 +37,14 @@ loop-position-preserved c =
     ∙ ap (step.first_full at) (from-position tap_of c.args.delay trace c.args.from c.args.to c.args.taps.now at x c.loop-position-test.true c.index-taps-position.is)
     ∙ full-later at (with_news c.args.delay at (tap_of x) trace c.args.from c.args.to)
     (told c.args.delay trace c.args.from c.args.to (at + 1) (map tap_of (drop (at + 1) c.args.taps.now))) fits
+
+-- where nothing is recent nobody is told anything
+pub returns-then-is_empty : goal.returns-then-is_empty
+returns-then-is_empty c =
+    let taps = map tap_of c.args.taps.now in
+    let none : c.args.entries.now ≡ [] = nil_from_length c.args.entries.now (search (rules, arith)) in
+    sym (
+    ap (λ (es : List Entry). step.first_full 0 (told c.args.delay (map entry_of es) c.args.from c.args.to 0 taps)) none
+    ∙ ap (step.first_full 0) (nobody-told c.args.delay c.args.from c.args.to 0 taps)
+    ∙ c.inboxes_hold_few.ensures
+    )

@@ -1,13 +1,10 @@
--- The taps before the position have been told; each station is where it was.
-use Rattle.std.proofs.Common.{◌≡◌, ◌++◌, map, take, drop}
+use Rattle.std.proofs.Common.{map}
 use Rattle.pb_medium.specs.Entries.{entry_of}
-use Rattle.pb_model.specs.Step.{told}
-use Rattle.pb_taps.specs.Taps.{seat_of, tap_of}
+use Rattle.pb_bus.proofs.Passing.{ToldTo}
 use Rattle.pb_bus.proofs.passes.tell_all.Given as goal
 
 abbrev pub invariant-loop-position : goal.invariant-loop-position
-invariant-loop-position l = record {
-  told : map tap_of l.taps
-      ≡ take l.position (told l.delay (map entry_of l.entries) l.from l.to 0 (map tap_of l.initial.taps)) ++ drop l.position (map tap_of l.initial.taps);
-  seats : map seat_of l.taps ≡ map seat_of l.initial.taps;
-}
+invariant-loop-position l = ToldTo l.delay (map entry_of l.entries) l.from l.to l.initial.taps l.taps l.position
+
+abbrev pub invariant-loop-position-2 : goal.invariant-loop-position-2
+invariant-loop-position-2 l = ToldTo l.delay (map entry_of l.entries) l.from l.to l.initial.taps l.taps l.position

@@ -1,18 +1,17 @@
 use Rattle.std.proofs.Common.{map, sym, ◌∙◌}
 use Rattle.pb_medium.specs.Entries.{entry_of}
-use Rattle.pb_medium.proofs.Entering.{stands-before, stands-behind}
-use Rattle.pb_taps.proofs.Items.{left-at, passed-at}
+use Rattle.pb_medium.proofs.Entering.{passed}
+use Rattle.pb_taps.proofs.Items.{left-at}
 use Rattle.pb_medium.proofs.placing.place_among.Goals as goal
 
 pub returns-then-goes_before-clause-place : goal.returns-then-goes_before-clause-place
 returns-then-goes_before-clause-place c =
-    stands-before (entry_of c.args.entry.now) (entry_of c.index-others-place.result) (map entry_of c.args.others.now) c.loop-place.place c.loop-place.invariant
+    sym (passed (entry_of c.args.entry.now) (entry_of c.index-others-place.result) (map entry_of c.args.others.now) c.loop-place.place c.loop-place.invariant
     (left-at entry_of c.args.others.now c.loop-place.place c.index-others-place.result c.loop-place-test.true c.index-others-place.is)
-    (sym c.goes_before.ensures ∙ c.if-goes_before.true)
+    _ (sym c.goes_before.ensures ∙ c.if-goes_before.true))
 
 pub loop-place-preserved : goal.loop-place-preserved
 loop-place-preserved c =
-    stands-behind (entry_of c.args.entry.now) (entry_of c.index-others-place.result) (map entry_of c.args.others.now) c.loop-place.place c.loop-place.invariant
+    passed (entry_of c.args.entry.now) (entry_of c.index-others-place.result) (map entry_of c.args.others.now) c.loop-place.place c.loop-place.invariant
     (left-at entry_of c.args.others.now c.loop-place.place c.index-others-place.result c.loop-place-test.true c.index-others-place.is)
-    (passed-at entry_of c.args.others.now c.loop-place.place c.index-others-place.result c.loop-place-test.true c.index-others-place.is)
-    (sym c.goes_before.ensures ∙ c.if-goes_before.false)
+    _ (sym c.goes_before.ensures ∙ c.if-goes_before.false)

@@ -10,5 +10,5 @@ use Rattle.pb_station.proofs.reading.after_marks.Given as goal
 -- the marks that are left make the same of the station as all of them
 abbrev pub invariant-loop-mark : goal.invariant-loop-mark
 invariant-loop-mark l =
-    (queue : Queued) → after_marks l.params (station_with l.kept queue (phase_of l.current)) (drop l.mark-index (map mark_of l.marks))
+    (queue : Queued) → after_marks l.params (station_with l.kept queue (phase_of l.phase)) (drop l.mark-index (map mark_of l.marks))
     ≡ after_marks l.params (station_with l.fn.kept queue (phase_of l.fn.phase)) (map mark_of l.marks)

@@ -1,5 +1,5 @@
-use Rattle.std.proofs.Common.{refl, sym, ap, ◌∙◌, ◌≡◌, ℕ, arith}
-use Rattle.std.specs.Prelude.{drop, take}
+use Rattle.std.proofs.Common.{refl, sym, ap, ◌∙◌, arith}
+use Rattle.std.specs.Prelude.{take, []}
 use Rattle.pb_turn.specs.Turns.{after_marks}
 use Rattle.pb_tokenfsm.specs.Phases.{phase_of}
 use Rattle.pb_core.specs.Cores.{station_with}
@@ -14,66 +14,53 @@ loop-note-init c = record {
   of = c.requires.of;
 }
 
-pub split_chars-requires : goal.split_chars-requires
-split_chars-requires c =
+pub after_note-left-requires-clause-moment : goal.after_note-left-requires-clause-moment
+after_note-left-requires-clause-moment c =
     let n = c.note-item.result in
-    let left = c.loop-note.left.now in
-    let good_left = c.loop-note.good_left.now in
+    let chars = c.loop-note.left.chars.now in
+    let octets = c.loop-note.left.octets.now in
     let here = next-at c.args.notes.now c.loop-note.note-index n c.loop-note-test.true c.note-item.is in
-    let first = of-at _ _ n left (drop (chars_of n) left) good_left (drop (octets_of n) good_left) here refl refl c.loop-note.invariant.of in
-    first.0
-
-pub split_octets-requires : goal.split_octets-requires
-split_octets-requires c =
-    let n = c.note-item.result in
-    let left = c.loop-note.left.now in
-    let good_left = c.loop-note.good_left.now in
-    let here = next-at c.args.notes.now c.loop-note.note-index n c.loop-note-test.true c.note-item.is in
-    let first = of-at _ _ n left (drop (chars_of n) left) good_left (drop (octets_of n) good_left) here refl refl c.loop-note.invariant.of in
-    first.2
-
-pub after_note-current-requires : goal.after_note-current-requires
-after_note-current-requires c =
-    let n = c.note-item.result in
-    let left = c.loop-note.left.now in
-    let good_left = c.loop-note.good_left.now in
-    let here = next-at c.args.notes.now c.loop-note.note-index n c.loop-note-test.true c.note-item.is in
-    let brought = c.split_chars.result.0.now in
-    let behind = c.split_chars.result.1.now in
-    let good = c.split_octets.result.0.now in
-    let after = c.split_octets.result.1.now in
-    let split = marks-at _ _ n left brought behind good_left good after here c.split_chars.ensures.brought c.split_chars.ensures.behind
-    c.split_octets.ensures.brought c.split_octets.ensures.behind in
+    let split = marks-at _ _ n chars _ _ octets _ _ here refl refl refl refl in
     let over = over-at c.args.now _ _ _ split c.loop-note.invariant.over in
-    omega (arith, over.0, c.requires.clock)
+    omega (arith, over.0, c.requires.clock, same-moment n [] (take (chars_of n) chars) [] (take (octets_of n) octets))
+
+pub after_note-left-requires-clause-chars : goal.after_note-left-requires-clause-chars
+after_note-left-requires-clause-chars c =
+    let n = c.note-item.result in
+    let here = next-at c.args.notes.now c.loop-note.note-index n c.loop-note-test.true c.note-item.is in
+    (of-at _ _ n c.loop-note.left.chars.now _ c.loop-note.left.octets.now _ here refl refl c.loop-note.invariant.of).0
+
+pub after_note-left-requires-clause-octets : goal.after_note-left-requires-clause-octets
+after_note-left-requires-clause-octets c =
+    let n = c.note-item.result in
+    let here = next-at c.args.notes.now c.loop-note.note-index n c.loop-note-test.true c.note-item.is in
+    (of-at _ _ n c.loop-note.left.chars.now _ c.loop-note.left.octets.now _ here refl refl c.loop-note.invariant.of).2
 
 pub loop-note-preserved : goal.loop-note-preserved
 loop-note-preserved c =
     let n = c.note-item.result in
-    let left = c.loop-note.left.now in
-    let good_left = c.loop-note.good_left.now in
+    let chars = c.loop-note.left.chars.now in
+    let octets = c.loop-note.left.octets.now in
+    let behind = c.after_note-left.ensures.chars in
+    let after = c.after_note-left.ensures.octets in
     let here = next-at c.args.notes.now c.loop-note.note-index n c.loop-note-test.true c.note-item.is in
-    let brought = c.split_chars.result.0.now in
-    let behind = c.split_chars.result.1.now in
-    let good = c.split_octets.result.0.now in
-    let after = c.split_octets.result.1.now in
-    let split = marks-at _ _ n left brought behind good_left good after here c.split_chars.ensures.brought c.split_chars.ensures.behind
-    c.split_octets.ensures.brought c.split_octets.ensures.behind in
+    let split = marks-at _ _ n chars _ _ octets _ _ here refl behind refl after in
     record {
-      same = λ queue. read-note c.args.params.now (station_with c.args.kept.now queue (phase_of c.args.phase))
-          (station_with c.loop-note.kept queue (phase_of c.loop-note.current)) (station_with c.after_timer-timed.new.kept queue (phase_of c.after_timer-timed.result))
-          (station_with c.after_note-current.new.kept queue (phase_of c.after_note-current.result))
-          (marks_in c.args.notes.now c.args.chars.now c.args.octets.now) _ _ (mark_with n brought good)
-          c.moment.result (c.loop-note.invariant.same queue) split (c.moment.ensures ∙ same-moment n _ brought _ good) (c.after_timer-timed.ensures queue)
-          (c.after_note-current.ensures queue);
+      same = λ queue. read-note c.args.params.now (station_with c.args.kept.now queue (phase_of c.args.phase.now))
+          (station_with c.loop-note.kept queue (phase_of c.loop-note.phase)) (station_with c.after_timer.new.kept queue (phase_of c.after_timer.new.phase))
+          (station_with c.after_note-left.new.kept queue (phase_of c.after_note-left.new.phase))
+          (marks_in c.args.notes.now c.args.chars.now c.args.octets.now) _ _ (mark_with n (take (chars_of n) chars) (take (octets_of n) octets))
+          c.moment.result (c.loop-note.invariant.same queue) split
+          (c.moment.ensures ∙ same-moment n _ (take (chars_of n) chars) _ (take (octets_of n) octets)) (c.after_timer.ensures queue)
+          (c.after_note-left.ensures.read queue);
       over = (over-at c.args.now _ _ _ split c.loop-note.invariant.over).1;
-      of = (of-at _ _ n left behind good_left after here c.split_chars.ensures.behind c.split_octets.ensures.behind c.loop-note.invariant.of).4;
+      of = (of-at _ _ n chars _ octets _ here behind after c.loop-note.invariant.of).4;
     }
 
 pub returns : goal.returns
 returns c queue =
-    let s = station_with c.loop-note.kept queue (phase_of c.loop-note.current) in
+    let s = station_with c.loop-note.kept queue (phase_of c.loop-note.phase) in
     sym
     (ap (after_marks c.args.params.now s)
-    (none-left c.args.notes.now c.loop-note.note-index c.loop-note.left.now c.loop-note.good_left.now c.loop-note-test.false))
+    (none-left c.args.notes.now c.loop-note.note-index c.loop-note.left.chars.now c.loop-note.left.octets.now c.loop-note-test.false))
     ∙ c.loop-note.invariant.same queue

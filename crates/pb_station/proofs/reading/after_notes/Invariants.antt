@@ -11,8 +11,8 @@ use Rattle.pb_station.proofs.reading.after_notes.Given as goal
 -- the marks that are left make the same of the station as all of them
 abbrev pub invariant-loop-note : goal.invariant-loop-note
 invariant-loop-note l = record {
-  same : (queue : Queued) → after_marks l.params (station_with l.kept queue (phase_of l.current)) (marks_in (drop l.note-index l.notes) l.left l.good_left)
+  same : (queue : Queued) → after_marks l.params (station_with l.kept queue (phase_of l.phase)) (marks_in (drop l.note-index l.notes) l.left.chars.now l.left.octets.now)
       ≡ after_marks l.params (station_with l.fn.kept queue (phase_of l.fn.phase)) (marks_in l.notes l.chars l.octets);
-  over : AllOver l.fn.now (marks_in (drop l.note-index l.notes) l.left l.good_left);
-  of : AreOf (drop l.note-index l.notes) l.left l.good_left;
+  over : AllOver l.fn.now (marks_in (drop l.note-index l.notes) l.left.chars.now l.left.octets.now);
+  of : AreOf (drop l.note-index l.notes) l.left.chars.now l.left.octets.now;
 }

@@ -1,6 +1,6 @@
 use Rattle.std.proofs.Common.{◌∙◌, ap, map, ℕ, Option}
 use Rattle.pb_tokenfsm.specs.Phases.{phase_of}
-use Rattle.pb_core.specs.Cores.{station_with}
+use Rattle.pb_core.specs.Cores.{station_of, station_with}
 use Rattle.pb_station.specs.Halves.{has_come}
 use Rattle.pb_station.specs.MarkViews.{mark_of}
 use Rattle.pb_station.proofs.Receipts.{received-clock}
@@ -12,6 +12,5 @@ returns-clause-come c =
 
 pub returns-clause-received : goal.returns-clause-received
 returns-clause-received c =
-    received-clock c.args.params.now c.args.core.now.kept c.args.core.now.waiting (phase_of c.take-before.result) (phase_of c.args.core.now.phase)
-    (station_with c.settle_on.new.kept c.args.core.now.waiting (phase_of c.settle_on.result)) (map mark_of c.args.marks.now) c.args.now
-    (ap phase_of c.take-before.ensures.taken) (c.settle_on.ensures c.args.core.now.waiting) c.requires.received
+    received-clock c.args.params.now (station_of c.args.core.now) (station_with c.settle_on.new.kept c.args.core.now.waiting (phase_of c.settle_on.new.phase)) (map mark_of c.args.marks.now) c.args.now
+    (c.settle_on.ensures c.args.core.now.waiting) c.requires.received

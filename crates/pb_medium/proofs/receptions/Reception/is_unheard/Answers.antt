@@ -1,9 +1,8 @@
-use Rattle.std.proofs.Common.{◌≡◌, ap, sym, ◌∙◌, ◌==◌, false, inl, inr}
-use Rattle.std.specs.Prelude.{nat_lt}
-use Rattle.std.proofs.lemmas.Bool.{le-ltb, ltb-true, ltb-false, cases_Bool}
+use Rattle.std.proofs.Common.{ap, sym, ◌∙◌, ◌==◌}
+use Rattle.std.proofs.lemmas.Bool.{le-ltb}
 use Rattle.pb_model.specs.Medium.{is_unheard}
 use Rattle.pb_medium.specs.Receptions.{holds}
-use Rattle.pb_medium.proofs.Receiving.{as-unheard, list-at, list-none}
+use Rattle.pb_medium.proofs.Receiving.{as-unheard, heard-by-all, list-at, list-none}
 use Rattle.pb_medium.proofs.receptions.Reception.is_unheard.Goals as goal
 
 pub returns-then-tap-self : goal.returns-then-tap-self
@@ -20,13 +19,4 @@ returns-else-tap-self c =
 
 -- nothing is lost at any tap
 pub returns-then-is_empty : goal.returns-then-is_empty
-returns-then-is_empty c =
-    let r = c.self.inside in
-    let hs = c.args.self.now in
-    let tap = c.args.tap in
-    let none : holds r.unheard tap ≡ false = c.is_empty.ensures c.if-is_empty.true tap in
-    elim (cases_Bool (nat_lt tap r.taps)) [
-      | inl e ↦ sym none ∙ as-unheard (holds r.unheard tap) (tap == r.speaker) (holds r.whole tap) (holds r.damaged tap)
-          ∙ sym (ap is_unheard (list-at r hs tap c.self.view_is (ltb-true tap r.taps e)))
-      | inr e ↦ sym (ap is_unheard (list-none r hs tap c.self.view_is (ltb-false tap r.taps e)))
-    ]
+returns-then-is_empty c = sym (heard-by-all c.self.inside c.args.self.now c.self.view_is (c.is_empty.ensures c.if-is_empty.true) c.args.tap)

@@ -61,7 +61,7 @@ returns-in_ok-make_room-in-None-clause-ok c =
     let nowhere : position test (recent_of t) ≡ None = ap (position test) (sym c.recent.ensures) ∙ sym c.noise_in_air.ensures ∙ c.in-None.is in
     let sum : c.get-begin.result + c.from.result ≡ now + c.args.bits = omega (arith, c.get-begin.ensures.value, c.from.ensures) in
     let becomes = after-room (with_entry (Noise (record { begin = c.get-begin.result; end = c.get-begin.result + c.from.result }))) t c.make_room.new.self c.put.new.self
-    c.in_ok-make_room-in-None.ensures.same c.put.ensures in
+    c.in_ok-make_room-in-None.ensures.same c.put.ensures.becomes in
     record {
       over = becomes.over;
       entries = becomes.entries

@@ -1,22 +1,20 @@
-use Rattle.std.proofs.Common.{◌≡◌, refl, ap, sym, ◌∙◌, ◌++◌, ◌+◌, map}
-use Rattle.std.specs.Prelude.{take}
+use Rattle.std.proofs.Common.{refl, ap, ◌∙◌, ◌+◌, map}
 use Rattle.std.specs.List.{insert}
-use Rattle.std.proofs.lemmas.List.{drop-map}
-use Rattle.pb_model.specs.Trace.{with_entry}
 use Rattle.pb_medium.specs.Entries.{entry_of}
-use Rattle.pb_medium.proofs.Entering.{inserted-behind}
+use Rattle.pb_medium.specs.Traces.{entries_of, place_of}
+use Rattle.pb_medium.proofs.Entering.{inserted, stands-behind}
 use Rattle.pb_medium.proofs.traces.Trace.put.Goals as goal
 
-pub returns : goal.returns
-returns c =
+pub returns-clause-entries : goal.returns-clause-entries
+returns-clause-entries c = ap (map entry_of) c.insert.ensures ∙ inserted entry_of c.args.self.now.entries.items (c.args.self.now.over + c.place_among.result) c.args.entry
+
+pub returns-clause-becomes : goal.returns-clause-becomes
+returns-clause-becomes c =
     let t = c.args.self.now in
-    let xs = t.entries.items in
-    let e = c.args.entry in
+    let e = entry_of c.args.entry in
     record {
       over = refl;
-      entries = ap (map entry_of) c.insert.ensures
-          ∙ inserted-behind entry_of xs t.over c.place_among.result e
-          ∙ ap (λ ys. take t.over (map entry_of xs) ++ ys) (
-          ap (λ ys. insert ys c.place_among.result (entry_of e)) (sym (drop-map entry_of t.over xs) ∙ sym c.recent.ensures)
-          ∙ sym c.place_among.ensures.place ∙ ap (with_entry (entry_of e)) c.recent.ensures);
+      entries = returns-clause-entries c
+          ∙ ap (λ n. insert (entries_of t) (t.over + n) e) (c.place_among.ensures.place ∙ ap (place_of e) c.recent.ensures)
+          ∙ stands-behind e t.over (entries_of t);
     }
