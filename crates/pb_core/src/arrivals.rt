@@ -71,6 +71,9 @@ pub fn spelled_telegram(octets: &[u8]) -> Option<Telegram>
 pub fn is_for_others(octets: &[u8], ts: u8) -> bool
     ensures { result ≡ true → is_for_others ts (turn.arrival_of (map Good octets.now)) ≡ true }
 {
+    if let [ACKNOWLEDGEMENT] = octets {
+        return true;
+    }
     match destination(octets) {
         Some(da) => !is_for(ts, da),
         None => false,

@@ -71,6 +71,8 @@ fn telegrams_to_others_are_told_by_their_destination(rt: HostRuntime) -> Result<
         equal(&rt, &is_for_others(octets, 4), &true);
         equal(&rt, &is_for_others(octets, 5), &false);
     }
+    // An acknowledgement is for nobody who doesn't wait for it.
+    equal(&rt, &is_for_others(&[0xe5], 4), &true);
     // A token, a telegram to all stations, and octets that end before they tell.
     let not_told = [
         [0xdc, 5, 2].as_slice(),
