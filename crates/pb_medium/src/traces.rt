@@ -9,6 +9,10 @@ use std::alloc::Global;
 /// How many entries a trace may have.
 const TRACE_LIMIT: usize = 100_000;
 
+/// For how many entries it makes room at first: as long as there is none, each turn is asked first whether it would
+/// speak.
+const FIRST_ROOM: usize = 1_024;
+
 /// All that was on a medium, in order: what had ended before all else began, and the recent entries.
 #[derive(Drop)]
 pub struct Trace {
@@ -82,7 +86,12 @@ impl Trace {
         if self.is_full() {
             return Err(WorldFault::TraceFull);
         }
-        self.entries.reserve(1)?;
+        let more = if self.entries.is_empty() {
+            FIRST_ROOM
+        } else {
+            1
+        };
+        self.entries.reserve(more)?;
         Ok(())
     }
 
