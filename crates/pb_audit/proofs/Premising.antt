@@ -30,6 +30,7 @@ use Rattle.pb_audit.specs.Premises.{IsFirstWaiting, IsOldest, IsQuiet, HaveHeard
 use Rattle.pb_audit.specs.declared.premises.Waiting.{Waiting}
 use Rattle.pb_audit.specs.declared.premises.Waiting.TheVariants as waiting
 use Rattle.pb_bus.specs.Worlds.{due_at}
+use Rattle.pb_core.specs.Clocks.{is_past}
 use Rattle.std.proofs.Math.Bool.{or-true, and-false}
 
 -- ---- what is active is recent
@@ -329,6 +330,11 @@ item-left {X} (x ∷ xs) (suc i) there =
     let rest = item-left xs i (omega (arith, there)) in
     let place : suc (i + 1) ≡ suc i + 1 = omega arith in
     (rest.0, rest.1, subst (λ (n : ℕ). drop i xs ≡ rest.0 ∷ drop n (x ∷ xs)) place rest.2)
+
+-- a turn that is past by more than the lag is overdue
+pub past-overdue : (lag moment : ℕ) (due : Option ℕ) → is_past lag moment due ≡ is_overdue lag moment due
+past-overdue lag moment None = refl
+past-overdue lag moment (Some d) = refl
 
 pub late-here : (w : World) (moment tap : ℕ) → tap < length w.taps → is_overdue w.params.lag moment (due_at w tap) ≡ true
     → list_any (is_late w.params moment) w.taps ≡ list_any (is_late w.params moment) (drop tap w.taps) → list_any (is_late w.params moment) w.taps ≡ true

@@ -234,17 +234,6 @@ fn loses(event: &Event) -> bool
     }
 }
 
-/// Whether a turn, if one is due, will have been due for longer than the lag after some time.
-fn is_overdue(due: Option<Moment>, lag: u32, now: Moment, bits: u64) -> bool
-    ensures { result ≡ premises.is_overdue lag (now + bits) due }
-{
-    let Some(due) = due else {
-        return false;
-    };
-    let last = due.get() + u64::from(lag);
-    last < now.get() || last - now.get() < bits
-}
-
 /// Whether the turn of a running tap will be later than the lag after some time.
 fn is_any_late(bus: &Bus, bits: u64) -> bool
     requires { IsKept bus.now }
@@ -252,7 +241,7 @@ fn is_any_late(bus: &Bus, bits: u64) -> bool
         ≡ list_any (is_late bus.entry.now.params (bus.entry.now.now + bits)) (world_of bus.entry.now).taps }
 {
     for tap in 0..bus.taps.len() {
-        if is_overdue(bus.due(tap), bus.params.lag(), bus.now, bits) {
+        if bus.is_overdue(tap, bits) {
             return true;
         }
     }

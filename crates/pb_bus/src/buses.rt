@@ -26,8 +26,9 @@ pub struct Bus {
 }
 
 impl Bus {
-    ghost use Rattle.std.specs.Prelude.{◌≡◌, ◌<◌, None, IsTrue, ◌↔◌, IfOk, MatchOption, length, slice_get};
+    ghost use Rattle.std.specs.Prelude.{◌≡◌, ◌+◌, ◌<◌, None, IsTrue, ◌↔◌, IfOk, MatchOption, length, slice_get};
     ghost use Rattle.pb_model.specs.World as events;
+    ghost use Rattle.pb_core.specs.Clocks.{is_past};
     ghost use Rattle.pb_bus.specs.Buses.{world_of, Does, IsKept};
     ghost use Rattle.pb_medium.specs.Entries.{hit_of};
     ghost use Rattle.pb_taps.specs.Events.{event_of};
@@ -207,6 +208,24 @@ impl Bus {
             return None;
         }
         tap.station.due(&tap.marks)
+    }
+
+    /// Whether the turn of the station at a tap, if one is due, will have been due for longer than the lag once some
+    /// bit times have gone by.
+    #[inline(always)]
+    pub fn is_overdue(&self, tap: usize, bits: u64) -> bool
+        requires { IsKept self.now }
+        ensures { let w = world_of self.entry.now in result
+            ≡ is_past w.params.lag (w.now + bits) (due_at w tap) }
+    {
+        let Some(tap) = self.taps.get(tap) else {
+            return false;
+        };
+        if !tap.running {
+            return false;
+        }
+        tap.station
+            .is_overdue(&tap.marks, self.params.lag(), self.now, bits)
     }
 
     /// What the tap at a position shows. Its fault: memory was refused.

@@ -1,5 +1,5 @@
--- How late a station may take a turn.
-use Rattle.std.specs.Prelude.{ℕ}
+-- How late a station may take a turn, and when a moment is past.
+use Rattle.std.specs.Prelude.{ℕ, ◌+◌, nat_lt, Bool, false, Option, Some, None}
 
 -- the last moment of a turn, 2^61
 abbrev pub last_turn : ℕ
@@ -8,3 +8,8 @@ last_turn = 2305843009213693952
 -- the end of the longest telegram, of 255 octets, that is said at that moment
 abbrev pub last_end : ℕ
 last_end = 2305843009213696757
+
+-- a moment, if there is one, has been past for longer than a lag
+abbrev pub is_past : ℕ → ℕ → Option ℕ → Bool
+is_past lag now None = false
+is_past lag now (Some moment) = nat_lt (moment + lag) now

@@ -20,7 +20,7 @@ pub use arrivals::{is_for_others, spelled_telegram, spelled_token, token_in, who
 pub use cores::{Core, Kept};
 pub use cycles::{Cycles, copy_outcome, give_up};
 pub use lists::{entered, hear, readied, removed};
-pub use moments::{PastMoment, after, beginning, earlier};
+pub use moments::{PastMoment, after, beginning, earlier, is_past};
 pub use past::Past;
 pub use replies::{Reply, StationType, answer, is_request, status_answer};
 pub use sending::SendBuffer;

@@ -1,6 +1,7 @@
 ghost use Rattle.std.specs.Prelude.{◌≡◌, ◌≤◌, ◌+◌, max};
 ghost use Rattle.pb_timers.specs.Timers.{last_moment};
 ghost use Rattle.pb_turn.specs.Stations.{earlier};
+ghost use Rattle.pb_core.specs.Clocks.{is_past};
 
 use pb_timers::{Moment, bits};
 use std::marker::Model;
@@ -84,6 +85,19 @@ pub fn earlier(one: Option<Moment>, two: Option<Moment>) -> Option<Moment>
         (Some(one), Some(two)) => Some(if two < one { two } else { one }),
         (one, two) => one.or(two),
     }
+}
+
+/// Whether a moment, if there is one, will have been past for longer than a lag once some bit times have gone by since
+/// the clock.
+#[inline(always)]
+pub fn is_past(moment: Option<Moment>, lag: u32, now: Moment, bits: u64) -> bool
+    ensures { result ≡ is_past lag (now + bits) moment }
+{
+    let Some(moment) = moment else {
+        return false;
+    };
+    let to = now.get().saturating_add(bits);
+    moment.get() < to.saturating_sub(u64::from(lag))
 }
 
 /// The moment some bit times later, which is not past the last.

@@ -1,5 +1,6 @@
 pub mod MarkByMark
 pub mod Noted
+pub mod Overdue
 pub mod Places
 pub mod Receipts
 pub mod Silence

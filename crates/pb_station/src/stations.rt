@@ -7,7 +7,7 @@ ghost use Rattle.pb_tokenfsm.specs.Phases.{phase_of};
 
 use crate::inboxes::Inbox;
 use crate::marks::Mark;
-use crate::turns::{due_of, due_on, read_on, speak_on, take_turn, would_speak};
+use crate::turns::{due_of, due_on, is_overdue, read_on, speak_on, take_turn, would_speak};
 use arrayvec::ArrayVec;
 use pb_core::{Address, Core, Cycles, Kept, Past, SendBuffer, Waiting, beginning, copy_outcome};
 use pb_cycles::{Outcome, Queue, Request};
@@ -81,11 +81,11 @@ impl Parts {
 }
 
 impl Station {
-    ghost use Rattle.std.specs.Prelude.{◌≡◌, ◌≤◌, ◌<◌, List, nat_le, length, Some, None, map, is_some, IsTrue, ◌↔◌, IfOk, OnOk, OnErr, MatchResult};
+    ghost use Rattle.std.specs.Prelude.{◌≡◌, ◌+◌, ◌≤◌, ◌<◌, List, nat_le, length, Some, None, map, is_some, IsTrue, ◌↔◌, IfOk, OnOk, OnErr, MatchResult};
     ghost use Rattle.pb_timers.specs.Timers.{Params};
     ghost use Rattle.pb_turn.specs.Stations as turn;
     ghost use Rattle.pb_tokenfsm.specs.Phases.{phase_of};
-    ghost use Rattle.pb_core.specs.Clocks.{last_turn};
+    ghost use Rattle.pb_core.specs.Clocks.{last_turn, is_past};
     ghost use Rattle.pb_station.specs.Decisions.{turned};
     ghost use Rattle.pb_station.specs.Halves.{at_clock, has_come, spoken};
     ghost use Rattle.pb_station.specs.MarkViews.{mark_of, AllOver, AreOver};
@@ -378,6 +378,16 @@ impl Station {
         ensures { result ≡ turn.due_of self.now.params self.now.station inbox.now }
     {
         due_of(&self.parts.core, &self.parts.params, inbox)
+    }
+
+    /// Whether the station's turn, with the unread marks of an inbox, will have been due for longer than a lag, in bit
+    /// times, once some bit times have gone by since the clock.
+    #[inline(always)]
+    pub fn is_overdue(&self, inbox: &Inbox, lag: u32, now: Moment, bits: u64) -> bool
+        ensures { result
+            ≡ is_past lag (now + bits) (turn.due_of self.now.params self.now.station inbox.now) }
+    {
+        is_overdue(&self.parts.core, &self.parts.params, inbox, lag, now, bits)
     }
 
     /// The same with marks that are in no inbox.

@@ -1,10 +1,10 @@
 //! The turn of a station, and when it is due.
 
-ghost use Rattle.std.specs.Prelude.{◌≡◌, ◌≤◌, map, is_some};
+ghost use Rattle.std.specs.Prelude.{◌≡◌, ◌+◌, ◌≤◌, map, is_some};
 ghost use Rattle.pb_turn.specs.Stations.{earlier, first_seen, due_of, timer_of, speaks_at};
 ghost use Rattle.pb_turn.specs.Turns.{settled, speech, turn_of};
 ghost use Rattle.pb_tokenfsm.specs.Phases.{phase_of};
-ghost use Rattle.pb_core.specs.Clocks.{last_turn};
+ghost use Rattle.pb_core.specs.Clocks.{last_turn, is_past};
 ghost use Rattle.pb_core.specs.Cores.{station_of, Becomes, HasReceived};
 ghost use Rattle.pb_station.specs.Halves.{has_come};
 ghost use Rattle.pb_station.specs.MarkViews.{mark_of, AllOver, AreOver};
@@ -12,7 +12,7 @@ ghost use Rattle.pb_station.specs.MarkViews.{mark_of, AllOver, AreOver};
 use crate::inboxes::{Inbox, Unread};
 use crate::marks::Mark;
 use crate::reading::{after_marks, after_notes};
-use pb_core::{Core, Kept, SendBuffer, after, earlier};
+use pb_core::{Core, Kept, SendBuffer, after, earlier, is_past};
 use pb_phases::{after_timer, speak, speaks_at, timer, would_say};
 use pb_timers::{BusParams, Moment};
 use pb_tokenfsm::Phase;
@@ -74,6 +74,7 @@ pub(crate) fn speak_on(core: &mut Core, params: &BusParams, now: Moment, out: &m
 }
 
 /// Whether the station would speak in its turn, which it does not take.
+#[inline(never)]
 pub(crate) fn would_speak(core: &Core, params: &BusParams, inbox: &Inbox, now: Moment) -> bool
     requires clock { now ≤ last_turn }
     requires over { AllOver now inbox.now }
@@ -97,6 +98,32 @@ pub(crate) fn due_of(core: &Core, params: &BusParams, inbox: &Inbox) -> Option<M
     ensures { result ≡ due_of params.now (station_of core.now) inbox.now }
 {
     earlier(inbox.first_seen(), acts(core, params))
+}
+
+/// Whether the station's turn, with the unread marks of an inbox, will have been due for longer than a lag once some
+/// bit times have gone by since the clock. Each of what it may wait for is asked alone.
+#[inline(always)]
+pub(crate) fn is_overdue(
+    core: &Core,
+    params: &BusParams,
+    inbox: &Inbox,
+    lag: u32,
+    now: Moment,
+    bits: u64,
+) -> bool
+    ensures { result ≡ is_past lag (now + bits) (due_of params.now (station_of core.now) inbox.now) }
+{
+    is_past(inbox.first_seen(), lag, now, bits) || is_act_overdue(core, params, lag, now, bits)
+}
+
+/// The same, if it has nothing to read.
+#[inline(always)]
+fn is_act_overdue(core: &Core, params: &BusParams, lag: u32, now: Moment, bits: u64) -> bool
+    ensures { let s = station_of core.now in result
+        ≡ is_past lag (now + bits) (earlier (timer_of params.now s) (speaks_at s)) }
+{
+    is_past(timer(&core.phase, &core.kept, params), lag, now, bits)
+        || is_past(speaks_at(&core.phase, &core.kept), lag, now, bits)
 }
 
 /// When the station acts, if it has nothing to read: at its timer, or its speaking moment.

@@ -7,6 +7,7 @@ mod turns;
 
 use super::equal;
 use arrayvec::ArrayVec;
+use pb_core::is_past;
 use pb_station::{Glance, Inbox, Mark, NoMemory, Spares, Station, decide, due};
 use pb_telegram::RxChar;
 use pb_timers::{BusParams, Moment};
@@ -235,9 +236,24 @@ fn an_inbox_keeps_marks_in_their_order(rt: HostRuntime) -> Result<(), Fail> {
     let mut station = master(alloc)?;
     station.start(at(0)?);
     assert!(rt; same_moment(station.due(&inbox), "701")?);
+    assert!(rt; !station.is_overdue(&inbox, 0, at(700)?, 1));
+    assert!(rt; station.is_overdue(&inbox, 0, at(700)?, 2));
     inbox.clear();
     assert!(rt; !inbox.are(&told));
     assert!(rt; same_moment(station.due(&inbox), "800")?);
+    assert!(rt; !station.is_overdue(&inbox, 10, at(700)?, 110));
+    assert!(rt; station.is_overdue(&inbox, 10, at(700)?, 111));
+    Ok(())
+}
+
+/// A moment is past by more than a lag, once time has gone by, however much that is; none never is.
+#[test]
+fn moments_pass(rt: HostRuntime) -> Result<(), Fail> {
+    let moment = Some(at(800)?);
+    assert!(rt; !is_past(moment, 10, at(700)?, 110));
+    assert!(rt; is_past(moment, 10, at(700)?, 111));
+    assert!(rt; is_past(moment, u32::MAX, at(900)?, u64::MAX));
+    assert!(rt; !is_past(None, 0, at(900)?, u64::MAX));
     Ok(())
 }
 
