@@ -9,7 +9,8 @@ use pb_cycles::{Outcome, Request, Service};
 use pb_station::{SendBuffer, decide, decide_in};
 use pb_timers::BusParams;
 use pb_world::{
-    AuditFault, Entry, Event, Heard, Kind, NewFault, Reply, TapSpec, World, WorldFault, audit, run,
+    AuditFault, Entry, Event, Heard, Kind, NewFault, Reply, TapSpec, World, WorldFault, audit,
+    audit_shared, run, run_shared,
 };
 use std::fmt::Debug;
 use std::process::Abort;
@@ -315,6 +316,20 @@ fn a_run_stops_at_the_first_refused_event(rt: HostRuntime) {
     equal(&rt, &run(alloc, &mut world, &[]), &Ok(()));
 }
 
+/// A list that lends its events, one of them twice, is played to its end, or to the first event that is refused.
+#[test]
+fn a_run_of_shared_events(rt: HostRuntime) {
+    let alloc = rt.alloc();
+    let mut world = two_masters(&rt);
+    let (start, pass) = (Event::Start(0), Event::Pass(400));
+    let claim = run_shared(alloc, &mut world, &[&start, &pass, &pass, &Event::Turn(0)]);
+    equal(&rt, &claim, &Ok(()));
+    equal(&rt, &(world.now().get(), world.trace().len()), &(800, 1));
+    let too_far = run_shared(alloc, &mut world, &[&Event::Start(1), &pass]);
+    equal(&rt, &too_far, &Err((1, WorldFault::TooFar(833))));
+    equal(&rt, &phase_name(&world, 1), &Some("Listening"));
+}
+
 /// Two masters wait for a time-out of 800 and of 1000. Where the first starts at 200, both claim the token at 1000.
 #[test]
 fn a_run_is_judged(rt: HostRuntime) {
@@ -338,6 +353,30 @@ fn a_run_is_judged(rt: HostRuntime) {
     let no_taps = audit(alloc, params, &[], &[]).err();
     equal(&rt, &no_taps, &Some(AuditFault::New(NewFault::NoTaps)));
     let twice = audit(alloc, params, &specs, &[Event::Start(0), Event::Start(0)]).err();
+    equal(&rt, &twice, &Some(AuditFault::At(1, WorldFault::Running)));
+}
+
+/// The same of a list that lends its events, one of them twice.
+#[test]
+fn a_run_of_shared_events_is_judged(rt: HostRuntime) {
+    let alloc = rt.alloc();
+    let params = usual(&rt);
+    let specs = [master(1), master(2)];
+    let pass = Event::Pass(400);
+    let starts = [Event::Start(1), Event::Pass(200), Event::Start(0)];
+    let [first, wait, second] = &starts;
+    let turns = [Event::Turn(0), Event::Turn(1)];
+    let [one, other] = &turns;
+    let events = [first, wait, second, &pass, &pass, one, other];
+    let kept = audit_shared(alloc, params, &specs, &events[..4]).expect(&rt, "an audit");
+    assert!(rt; kept.premise.is_none() && kept.illegal.is_none());
+    let broken = audit_shared(alloc, params, &specs, &events).expect(&rt, "an audit");
+    let (number, clock) = broken.premise.expect(&rt, "a broken premise");
+    equal(&rt, &(number, clock.get()), &(4, 1000));
+    equal(&rt, &broken.illegal, &Some(1));
+    let no_taps = audit_shared(alloc, params, &[], &[]).err();
+    equal(&rt, &no_taps, &Some(AuditFault::New(NewFault::NoTaps)));
+    let twice = audit_shared(alloc, params, &specs, &[second, second]).err();
     equal(&rt, &twice, &Some(AuditFault::At(1, WorldFault::Running)));
 }
 

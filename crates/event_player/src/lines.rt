@@ -1,10 +1,12 @@
 //! The lines that playing an event list prints.
 
 use crate::lists::EventList;
+use crate::shared::Usual;
 use pb_cycles::{Request, Service};
 use pb_timers::{BusParams, Moment};
 use pb_world::{
-    Audit, Entry, Event, Heard, NewFault, Record, Reply, TapSpec, World, WorldFault, audit, run,
+    Audit, Entry, Event, Heard, NewFault, Record, Reply, TapSpec, World, WorldFault, audit_shared,
+    run_shared,
 };
 use std::alloc::{AllocError, Global};
 
@@ -53,7 +55,7 @@ pub fn holders(alloc: Global, list: &EventList) -> Result<Played, AllocError> {
     let mut accepted = Vec::new(alloc);
     for event in &list.events {
         match world.apply(alloc, event.copy()) {
-            Ok(_) => accepted.push(event.copy())?,
+            Ok(_) => accepted.push(event)?,
             Err(WorldFault::NoMemory) => return Err(AllocError),
             Err(_) => continue,
         }
@@ -68,12 +70,14 @@ pub fn holders(alloc: Global, list: &EventList) -> Result<Played, AllocError> {
 /// event that is refused.
 pub fn trace(alloc: Global, list: &EventList, times: u32) -> Result<Played, AllocError> {
     let mut text = String::new(alloc);
+    let usual = Usual::new(alloc)?;
+    let events = usual.share(alloc, &list.events)?;
     for time in 0..times {
         let mut world = match new_bus(alloc, list)? {
             NewBus::Made(_, world) => world,
             NewBus::Refused(text) => return Ok(Played::Refused(text)),
         };
-        let _ = run(alloc, &mut world, &list.events);
+        let _ = run_shared(alloc, &mut world, &events);
         if time + 1 == times {
             push_trace(&mut text, alloc, world.trace())?;
         }
@@ -88,9 +92,11 @@ pub fn audits(alloc: Global, list: &EventList, times: u32) -> Result<Played, All
         NewBus::Made(params, _) => params,
         NewBus::Refused(fault) => return Ok(Played::Refused(fault)),
     };
+    let usual = Usual::new(alloc)?;
+    let events = usual.share(alloc, &list.events)?;
     for _ in 0..times {
         text.clear();
-        match audit(alloc, params, &list.taps, &list.events) {
+        match audit_shared(alloc, params, &list.taps, &events) {
             Ok(found) => push_finding(&mut text, found)?,
             Err(_) => text.push_str("no audit\n")?,
         }
@@ -118,12 +124,12 @@ fn new_bus(alloc: Global, list: &EventList) -> Result<NewBus, AllocError> {
 }
 
 /// Plays the events, appends a line for each, and answers those that were accepted.
-fn push_events(
+fn push_events<'a>(
     text: &mut String,
     alloc: Global,
     world: &mut World,
-    events: &[Event],
-) -> Result<Vec<Event>, AllocError> {
+    events: &'a [Event],
+) -> Result<Vec<&'a Event>, AllocError> {
     let mut accepted = Vec::new(alloc);
     for (place, event) in events.iter().enumerate() {
         write!(text, "{place} ")?;
@@ -132,7 +138,7 @@ fn push_events(
         match world.apply(alloc, event.copy()) {
             Ok(reply) => {
                 push_reply(text, alloc, &reply)?;
-                accepted.push(event.copy())?;
+                accepted.push(event)?;
             }
             Err(WorldFault::NoMemory) => return Err(AllocError),
             Err(fault) => writeln!(text, "fault {} {fault}", fault.number())?,
@@ -270,10 +276,10 @@ fn push_audit(
     alloc: Global,
     params: BusParams,
     taps: &[TapSpec],
-    accepted: &[Event],
+    accepted: &[&Event],
 ) -> Result<(), AllocError> {
     // Accepted once, they are accepted again: all that an audit of them can want is memory.
-    match audit(alloc, params, taps, accepted) {
+    match audit_shared(alloc, params, taps, accepted) {
         Ok(found) => push_finding(text, found),
         Err(_) => Err(AllocError),
     }

@@ -8,6 +8,7 @@
 
 mod lines;
 mod lists;
+mod shared;
 mod words;
 
 use lines::{Played, audits, holders, play, trace};

@@ -3,7 +3,7 @@ ghost use Rattle.pb_audit.specs.Auditing.{Finds, FindsLegal, RefusesAudit};
 ghost use Rattle.pb_audit.specs.Watched.{HasCome, world_in};
 ghost use Rattle.pb_taps.specs.Events.{event_of};
 ghost use Rattle.pb_taps.specs.Taps.{spec_of};
-ghost use Rattle.pb_bus.specs.Worlds.{StopsAt};
+ghost use Rattle.pb_bus.specs.Worlds.{lent_event, StopsAt};
 
 use crate::findings::{Audit, AuditFault};
 use crate::watched::{Watched, new_watched};
@@ -41,6 +41,29 @@ pub fn audit(
     }
 }
 
+/// The same for a list that lends its events, so that equal ones may share their room.
+pub fn audit_shared(
+    alloc: Global,
+    params: BusParams,
+    specs: &[TapSpec],
+    events: &[&Event],
+) -> Result<Audit, AuditFault>
+    ensures ok { IfOk result (Finds params (map spec_of specs.now) (map lent_event events.now)) }
+    ensures legal { IfOk result
+        (FindsLegal params (map spec_of specs.now) (map lent_event events.now)) }
+    ensures fault { IfErr result
+        (RefusesAudit params (map spec_of specs.now) (map lent_event events.now)) }
+{
+    let mut watched = match new_watched(alloc, params, specs) {
+        Ok(watched) => watched,
+        Err(fault) => return Err(AuditFault::New(fault)),
+    };
+    match watch_shared(alloc, &mut watched, events) {
+        Ok(()) => Ok(watched.judge()),
+        Err((place, fault)) => Err(AuditFault::At(place, fault)),
+    }
+}
+
 /// Does events one after another on a watched bus to which nothing has happened yet.
 fn watch_all(
     alloc: Global,
@@ -56,6 +79,25 @@ fn watch_all(
         match watched.follow(alloc, event) {
             Ok(()) => (),
             Err(fault) => return Err((place, fault)),
+        }
+    }
+    Ok(())
+}
+
+/// The same for events that are lent.
+fn watch_shared(
+    alloc: Global,
+    watched: &mut Watched,
+    events: &[&Event],
+) -> Result<(), (usize, WorldFault)>
+    requires { HasCome watched.old (world_in watched.old) [] }
+    ensures ok { OnOk result (HasCome watched.new (world_in watched.old) (map lent_event events.now)) }
+    ensures err { IfErr result
+        (λ e. StopsAt (world_in watched.old) (map lent_event events.now) e.0 e.1 (world_in watched.new)) }
+{
+    for (place, event) in events.iter().enumerate() {
+        if let Err(fault) = watched.follow(alloc, event) {
+            return Err((place, fault));
         }
     }
     Ok(())

@@ -12,6 +12,6 @@ mod legality;
 mod premises;
 mod watched;
 
-pub use auditing::audit;
+pub use auditing::{audit, audit_shared};
 pub use findings::{Audit, AuditFault};
 pub use watched::{Watched, new_watched};

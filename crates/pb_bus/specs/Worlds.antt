@@ -1,15 +1,21 @@
 -- What comes of events, and what readers of a world are told.
 use Rattle.std.specs.Prelude.{◌≡◌, ℕ, List, if◌then◌else◌, Option, Some, None, Result, Ok, slice_get, MatchResult, take}
+use Rattle.std.specs.Borrow.{Bor}
 use Rattle.std.specs.Option.{option_and_then}
 use Rattle.pb_model.specs.World.{World, Event, Reply}
 use Rattle.pb_model.specs.Medium as medium
 use Rattle.pb_turn.specs.Stations.{due_of}
 use Rattle.pb_model.specs.Step.{step, RunsTo}
 use Rattle.pb_station.specs.Stations.{StationView}
+use Rattle.pb_taps.specs.declared.events.Event as lent
 use Rattle.pb_taps.specs.declared.events.Reply as events
 use Rattle.pb_taps.specs.declared.faults.WorldFault.{WorldFault}
 use Rattle.pb_taps.specs.Faults.{Refuses}
-use Rattle.pb_taps.specs.Events.{reply_of}
+use Rattle.pb_taps.specs.Events.{event_of, reply_of}
+
+-- an event of a list that lends its events
+abbrev pub lent_event : Bor lent.Event → Event
+lent_event e = event_of e.now
 
 -- what comes of an event: the step of the model, or a refusal that leaves the world as it is
 abbrev pub Follows : World → Event → Result events.Reply WorldFault → World → Type 0

@@ -8,8 +8,8 @@
 
 mod worlds;
 
-pub use pb_audit::{Audit, AuditFault, audit};
+pub use pb_audit::{Audit, AuditFault, audit, audit_shared};
 pub use pb_medium::{Entry, Heard, Reception, Record};
 pub use pb_station::Station;
 pub use pb_taps::{Event, Kind, NewFault, Reply, TapSpec, WorldFault};
-pub use worlds::{World, run};
+pub use worlds::{World, run, run_shared};

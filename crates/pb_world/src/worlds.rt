@@ -1,6 +1,6 @@
 ghost use Rattle.std.specs.Prelude.{◌≡◌, ◌≤◌, OnOk, IfErr, Some, length, map, take};
 ghost use Rattle.pb_taps.specs.Events.{event_of, reply_of};
-ghost use Rattle.pb_bus.specs.Worlds.{StopsAt};
+ghost use Rattle.pb_bus.specs.Worlds.{lent_event, StopsAt};
 ghost use Rattle.pb_model.specs.Step.{RunsTo};
 ghost use Rattle.pb_token.specs.Promises.{LeavesOneToken};
 
@@ -285,6 +285,28 @@ pub fn run(alloc: Global, world: &mut World, events: &[Event]) -> Result<(), (us
     for (place, event) in events.iter().enumerate() {
         if let Err(fault) = world.does(alloc, event) {
             return Err((place, fault));
+        }
+    }
+    Ok(())
+}
+
+/// The same for a list that lends its events, so that equal ones may share their room: an event has the room of the
+/// longest request, of which a list of turns and passing time needs little.
+pub fn run_shared(
+    alloc: Global,
+    world: &mut World,
+    events: &[&Event],
+) -> Result<(), (usize, WorldFault)>
+    ensures ok { OnOk result (RunsTo world.old (map lent_event events.now) world.new) }
+    ensures err { IfErr result (λ e. StopsAt world.old (map lent_event events.now) e.0 e.1 world.new) }
+    ensures token { OnOk result (LeavesOneToken world.old (map lent_event events.now) world.new) }
+    ensures token_before { IfErr result
+        (λ e. LeavesOneToken world.old (take e.0 (map lent_event events.now)) world.new) }
+{
+    for (place, event) in events.iter().enumerate() {
+        match world.does(alloc, event) {
+            Ok(()) => (),
+            Err(fault) => return Err((place, fault)),
         }
     }
     Ok(())
