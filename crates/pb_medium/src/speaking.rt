@@ -1,4 +1,4 @@
-ghost use Rattle.std.specs.Prelude.{◌≡◌, ◌≤◌, ℕ, List, length};
+ghost use Rattle.std.specs.Prelude.{◌≡◌, ◌≤◌, ◌∷◌, [], ℕ, List, length};
 ghost use Rattle.pb_model.specs.Medium as model;
 ghost use Rattle.pb_model.specs.Step as step;
 ghost use Rattle.pb_model.specs.Trace.{Sent};
@@ -71,6 +71,20 @@ fn spell(entry: &mut Entry, octets: &[u8])
     ensures { entry_of entry.new ≡ with_octets octets.now (entry_of entry.old) }
 {
     if let Entry::Sent(telegram) = entry {
-        put_octets(&mut telegram.octets, octets);
+        match octets {
+            [first, second, third] => put_three(&mut telegram.octets, *first, *second, *third),
+            _ => put_octets(&mut telegram.octets, octets),
+        }
     }
+}
+
+/// Three octets take the place of others: as many as a token has, and so most telegrams.
+#[inline(always)]
+fn put_three(room: &mut ArrayVec<u8, 255>, first: u8, second: u8, third: u8)
+    ensures { room.new.items ≡ first ∷ second ∷ third ∷ [] }
+{
+    room.clear();
+    room.push(first);
+    room.push(second);
+    room.push(third);
 }

@@ -9,9 +9,9 @@ use std::alloc::Global;
 /// How many entries a trace may have.
 const TRACE_LIMIT: usize = 100_000;
 
-/// For how many entries it makes room at first: as long as there is none, each turn is asked first whether it would
-/// speak.
-const FIRST_ROOM: usize = 1_024;
+/// For how many entries it makes room at first, and for three times as many as there are from then on: where there is
+/// none, what stands has to move, and a turn is asked first whether it would speak. What isn't filled isn't touched.
+const FIRST_ROOM: usize = 16_384;
 
 /// All that was on a medium, in order: what had ended before all else began, and the recent entries.
 #[derive(Drop)]
@@ -83,14 +83,14 @@ impl Trace {
         ensures ok { OnOk result (HasRoom self.new) }
         ensures fault { IfErr result (RefusesRoom self.old) }
     {
+        if self.has_room() {
+            return Ok(());
+        }
         if self.is_full() {
             return Err(WorldFault::TraceFull);
         }
-        let more = if self.entries.is_empty() {
-            FIRST_ROOM
-        } else {
-            1
-        };
+        let count = self.entries.len();
+        let more = (3 * count).max(FIRST_ROOM).min(TRACE_LIMIT - count);
         self.entries.reserve(more)?;
         Ok(())
     }
