@@ -1,9 +1,11 @@
-ghost use Rattle.std.specs.Prelude.{◌≡◌, ◌+◌, ◌≤◌, Some, Ok, IfOk, IfErr, OnOk, length, map};
+ghost use Rattle.std.specs.Prelude.{◌≡◌, ◌+◌, ◌≤◌, true, Some, Ok, IfOk, IfErr, OnOk, length, map};
 ghost use Rattle.pb_model.specs.World.{new_world};
+ghost use Rattle.pb_runs.specs.Laws.{IsRunOf};
 ghost use Rattle.pb_runs.specs.Scenarios.{trace_of};
 ghost use Rattle.pb_segment.specs.Origins.{IsNew, origin_of};
+ghost use Rattle.pb_segment.specs.Reports.{IsReport};
 ghost use Rattle.pb_fleet.specs.Faults.{IsCrew, RefusesFleet};
-ghost use Rattle.pb_fleet.specs.Played.{LeavesToken, begins};
+ghost use Rattle.pb_fleet.specs.Played.{LeavesToken, begins, events_in, looks_of};
 
 use crate::conductors::Conductor;
 use crate::drawers::{Drawer, helpers};
@@ -13,9 +15,9 @@ use crate::pools::{MOST_OFFERS, Pool};
 use crate::reviewing::review;
 use crate::workers::Worker;
 use pb_scenario::Scenario;
-use pb_segment::{NewFault, Report, SharedSegment, World};
+use pb_segment::{CloseFault, Closed, Draft, NewFault, Report, SharedSegment, World};
 use pb_tickets::Tickets;
-use std::alloc::Global;
+use std::alloc::{AllocError, Global};
 use std::marker::Brand;
 use std::sync::Wait;
 use std::sync::ledger::{Blank, Ledger};
@@ -34,7 +36,8 @@ const MOST_WORKERS: usize = 64;
 /// offers the turns of all taps that are due and aren't withheld, all together. Workers, the conductor among
 /// them, draw the offers by tickets; one looks at the tap, asks the gate, decides the turn outside the lock, and
 /// commits it. There are no more workers than taps. At the end all that was told and shown is compared, and
-/// the history has to be cut into the scenario's instants: no event is applied twice.
+/// the history has to be cut into the scenario's instants, both at once where there are two workers: no event is
+/// applied twice.
 ///
 /// Faults: `BadWorkers` for fewer than 1 or more than 64; then `New` where there is no new world of the
 /// scenario's taps. After another fault no more turns are offered, all workers are joined, and the least of
@@ -101,9 +104,35 @@ fn fleet<L: Ledger + Send + Sync, R: Threads + Wait + Sync, G: Gate>(
         gate,
     )?;
     let seats = pool.into_seats(alloc)?;
-    match segment.close(conductor.seat, seats) {
-        Ok(report) => review(alloc, scenario, report),
+    let closed = segment.close_beside(
+        rt,
+        crew,
+        conductor.seat,
+        seats,
+        |draft: Draft<'_>| -> Result<bool, AllocError>
+            ensures { IfOk result (λ is. is ≡ true → IsRunOf scenario.entry.now.scenario
+                (looks_of draft.entry.outlooks) (events_in draft.entry.history)) }
+        { review(alloc, scenario, draft) },
+    );
+    match closed {
+        Ok(Closed { report, found }) => reviewed(scenario, report, found?),
         Err(refused) => Err(PlayFault::Closing(refused.fault)),
+    }
+}
+
+/// A report, where a review has found that what it tells is the run of a scenario.
+fn reviewed(scenario: &Scenario, report: Report, is_run: bool) -> Result<Report, PlayFault>
+    requires report { IsReport report }
+    requires origin { report.origin ≡ begins scenario.now.scenario }
+    requires review { is_run ≡ true
+        → IsRunOf scenario.now.scenario (looks_of report.outlooks) (events_in report.history) }
+    ensures run { IfOk result (λ r. trace_of scenario.now.scenario ≡ Some (Ok r.trace)) }
+    ensures token { IfOk result (LeavesToken scenario.now.scenario) }
+{
+    if is_run {
+        Ok(report)
+    } else {
+        Err(PlayFault::Closing(CloseFault::Disagree))
     }
 }
 

@@ -1,41 +1,38 @@
-ghost use Rattle.std.specs.Prelude.{◌≡◌, Some, Ok, IfOk};
-ghost use Rattle.pb_runs.specs.Scenarios.{trace_of};
-ghost use Rattle.pb_fleet.specs.Played.{LeavesToken, begins};
+ghost use Rattle.std.specs.Prelude.{◌≡◌, true, IfOk};
+ghost use Rattle.pb_runs.specs.Laws.{IsRunOf};
+ghost use Rattle.pb_fleet.specs.Played.{events_in, looks_of};
 
-use crate::faults::PlayFault;
 use pb_review::{Look, is_run};
 use pb_scenario::Scenario;
-use pb_segment::{CloseFault, Event, History, Outlook, Report};
-use std::alloc::Global;
+use pb_segment::{Draft, Event};
+use std::alloc::{AllocError, Global};
 
-/// A history, with the outlooks that were taken.
+/// What has happened on a segment, as a review reads it.
 #[derive(Drop)]
 struct Played<'a> {
-    history: &'a History,
-    outlooks: &'a [Outlook],
+    draft: Draft<'a>,
 }
 
 impl<'a> pb_review::Report for Played<'a> {
-    ghost use Rattle.std.specs.Prelude.{map};
     ghost use Rattle.pb_fleet.specs.Played.{events_in, looks_of};
 
-    ghost events = { λ p. events_in p.history.now };
+    ghost events = { λ p. events_in p.draft.history };
 
-    ghost looks = { λ p. looks_of p.outlooks.now };
+    ghost looks = { λ p. looks_of p.draft.outlooks };
 
     fn len(&self) -> usize {
-        self.history.len()
+        self.draft.len()
     }
 
     fn event(&self, place: usize) -> Option<&Event> {
-        match self.history.at(place) {
+        match self.draft.at(place) {
             Some((event, _)) => Some(event),
             None => None,
         }
     }
 
     fn look(&self, position: usize) -> Option<Look<'_>> {
-        match self.outlooks.get(position) {
+        match self.draft.outlooks().get(position) {
             Some(outlook) => Some(Look {
                 place: outlook.place,
                 dues: outlook.due.moments(),
@@ -46,24 +43,16 @@ impl<'a> pb_review::Report for Played<'a> {
     }
 }
 
-/// A report, where what it tells is the run of a scenario, as its outlooks show. No event is applied.
+/// True only where what has happened is the run of a scenario, as its outlooks show. No event is applied. The fault: memory
+/// was refused.
 pub(crate) fn review(
     alloc: Global,
     scenario: &Scenario,
-    report: Report,
-) -> Result<Report, PlayFault>
-    requires { report.origin ≡ begins scenario.now.scenario }
-    ensures run { IfOk result (λ r. trace_of scenario.now.scenario ≡ Some (Ok r.trace)) }
-    ensures token { IfOk result (LeavesToken scenario.now.scenario) }
+    draft: Draft<'_>,
+) -> Result<bool, AllocError>
+    ensures { IfOk result (λ is. is ≡ true
+        → IsRunOf scenario.entry.now.scenario (looks_of draft.entry.outlooks) (events_in draft.entry.history)) }
 {
     let walk = scenario.walk(alloc)?;
-    let played = Played {
-        history: report.history(),
-        outlooks: report.outlooks(),
-    };
-    if is_run(alloc, &played, walk)? {
-        Ok(report)
-    } else {
-        Err(PlayFault::Closing(CloseFault::Disagree))
-    }
+    is_run(alloc, &Played { draft }, walk)
 }

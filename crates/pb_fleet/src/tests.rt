@@ -34,6 +34,16 @@ step = [{ at = 0, do = 'start', tap = 'a' }, { at = 0, do = 'start', tap = 'b' }
         { at = 0, do = 'start', tap = 'c' }]
 ";
 
+/// The same up to 100,000, by when thousands of events have happened.
+const LONG: &str = "version = 1
+until = 100000
+bus = { tsl = 100, tid1 = 37, tid2 = 60, tsdr = 11, lag = 0, ttr = 10000, gap = 10, hsa = 5, retries = 1 }
+tap = [{ name = 'a', kind = 'master', address = 1 }, { name = 'b', kind = 'master', address = 2 },
+       { name = 'c', kind = 'master', address = 3 }]
+step = [{ at = 0, do = 'start', tap = 'a' }, { at = 0, do = 'start', tap = 'b' },
+        { at = 0, do = 'start', tap = 'c' }]
+";
+
 /// No taps.
 const NO_TAPS: &str = "version = 1
 until = 10
@@ -121,6 +131,21 @@ fn plays_with_any_number_of_workers(rt: HostRuntime) {
     for workers in [0, 65] {
         let fault = run_fleet(&rt, alloc, &scenario, workers, &Open).err();
         assert_eq!(rt; fault, Some(FleetFault::BadWorkers));
+    }
+}
+
+/// What has happened in a long run is gone over by one worker, two or three, who say the same of it.
+#[test]
+fn goes_over_a_long_run_with_any_number_of_workers(rt: HostRuntime) {
+    let alloc = rt.alloc();
+    let scenario = scenario(&rt, alloc, LONG);
+    let alone = run_fleet(&rt, alloc, &scenario, 1, &Open).expect(&rt, "a report");
+    assert!(rt; alone.history().len() > 4096);
+    for workers in [2, 3] {
+        let report = run_fleet(&rt, alloc, &scenario, workers, &Open).expect(&rt, "a report");
+        let begins = alone.trace().iter().map(begin_of);
+        assert!(rt; report.trace().iter().map(begin_of).eq(begins), "{workers}");
+        assert_eq!(rt; report.history().len(), alone.history().len());
     }
 }
 

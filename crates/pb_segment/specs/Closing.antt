@@ -1,18 +1,22 @@
 -- What has to agree where a segment is closed.
-use Rattle.std.specs.Prelude.{◌≡◌, ◌≢◌, List, All, length}
+use Rattle.std.specs.Prelude.{◌≡◌, ◌≢◌, ◌+◌, List, All, length, map, sum}
 use Rattle.pb_segment.specs.declared.faults.CloseFault.{CloseFault}
 use Rattle.pb_segment.specs.declared.faults.CloseFault.TheVariants as close
 use Rattle.pb_segment.specs.Histories.{told, is_driven}
 use Rattle.pb_segment.specs.Locked.{LockedView}
 use Rattle.pb_segment.specs.Origins.{Origin}
-use Rattle.pb_segment.specs.Seats.{SeatView, ConductorView, Agrees}
+use Rattle.pb_segment.specs.Reports.{ReportView, IsReport}
+use Rattle.pb_segment.specs.Seats.{SeatView, ConductorView, Agrees, accepted}
 
--- the first world is the one that the segment was made with, and what the seats were told and shown stands there
-pub record AgreesWith (l : LockedView) (o : Origin) (c : ConductorView) (of_taps : List SeatView) : Type 0 where
+-- the first world is the one that the segment was made with, and what the seats were told stands there
+pub record HasTold (l : LockedView) (o : Origin) (c : ConductorView) (of_taps : List SeatView) : Type 0 where
   pub origin : l.origin ≡ o
   pub conductor : told is_driven l.history ≡ c.receipts
-  pub outlooks : l.outlooks ≡ c.outlooks
   pub seats : All (Agrees l.history) of_taps
+
+-- and so does what the conductor was shown
+abbrev pub AgreesWith : LockedView → Origin → ConductorView → List SeatView → Type 0
+AgreesWith l o c of_taps = (l.outlooks ≡ c.outlooks) × HasTold l o c of_taps
 
 -- there are as many seats of taps as taps, and all agrees
 abbrev pub CanClose : LockedView → Origin → ConductorView → List SeatView → Type 0
@@ -22,6 +26,16 @@ CanClose l origin conductor seats = (length seats ≡ length l.turns) × AgreesW
 abbrev pub RefusesToClose : LockedView → Origin → ConductorView → List SeatView → CloseFault → Type 0
 RefusesToClose l origin conductor seats close.MissingSeat = length seats ≢ length l.turns
 RefusesToClose l origin conductor seats close.Disagree = (length seats ≡ length l.turns) × (AgreesWith l origin conductor seats → ⊥)
+
+-- a report tells just what the seats were told and shown, on a segment that was made of an origin
+pub record IsClosed (o : Origin) (c : ConductorView) (of_taps : List SeatView) (r : ReportView) : Type 0 where
+  pub report : IsReport r
+  pub origin : r.origin ≡ o
+  pub conductor : told is_driven r.history ≡ c.receipts
+  pub outlooks : r.outlooks ≡ c.outlooks
+  pub seats : All (Agrees r.history) of_taps
+  pub taps : length r.turns ≡ length of_taps
+  pub all : length r.history ≡ length c.receipts + sum (map accepted of_taps)
 
 -- a fault says that seats are missing just where the number of seats isn't right
 abbrev pub IsMissing : CloseFault → Type 0 → Type 0

@@ -8,5 +8,6 @@ pub mod Seats
 pub mod Locked
 pub mod Notes
 pub mod Counts
-pub mod Closing
 pub mod Reports
+pub mod Closing
+pub mod Drafts

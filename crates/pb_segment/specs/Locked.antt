@@ -64,6 +64,10 @@ Appends old new event r =
     × (new.outlooks ≡ old.outlooks)
     × (new.limit ≡ old.limit)
 
+-- so it does, with the receipt that its seat is told after those before
+abbrev pub AppendsTo : LockedView → LockedView → Event → List Receipt → List Receipt → Type 0
+AppendsTo old new event before after = (r : Receipt) × Appends old new event r × (after ≡ before ++ r ∷ [])
+
 -- why an event is refused that its seat may have: by the world; then by a full history; then for want of memory
 abbrev pub RefusesToKeep : LockedView → Event → CommitFault → Type 0
 RefusesToKeep l event commit.WrongTap = ⊥

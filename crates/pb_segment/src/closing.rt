@@ -4,6 +4,7 @@ ghost use Rattle.pb_segment.specs.Histories.{StandsFrom, is_of, is_turn_of, told
 ghost use Rattle.pb_segment.specs.Seats.{Agrees, accepted};
 
 use crate::blocks::Blocks;
+use crate::drafts::Draft;
 use crate::faults::CloseFault;
 use crate::locked::Locked;
 use crate::origins::Origin;
@@ -11,10 +12,68 @@ use crate::outlooks::Outlook;
 use crate::receipts::{KeptReceipt, Owner, is_of};
 use crate::seats::{ConductorSeat, TapSeat};
 use std::sync::ledger::{Book, Ledger};
+use std::thread::{Threads, join};
+
+/// How many events are many: sooner than a thread is made, one goes over fewer.
+const MANY: usize = 4096;
+
+/// What is found of outlooks.
+#[derive(Drop)]
+struct Seen<T> {
+    /// Whether the conductor was shown those that the segment keeps.
+    is_shown: bool,
+    /// What a look finds in the draft.
+    found: T,
+}
 
 impl<L: Ledger> Locked<L> {
-    ghost use Rattle.std.specs.Prelude.{◌↔◌, IsTrue, MatchOption};
-    ghost use Rattle.pb_segment.specs.Closing.{AgreesWith, CanClose, RefusesToClose};
+    ghost use Rattle.std.specs.Prelude.{◌≡◌, ◌↔◌, IsTrue, MatchOption, IfOk, IfErr, OnOk, length};
+    ghost use Rattle.pb_segment.specs.Closing.{AgreesWith, CanClose, HasTold, RefusesToClose};
+    ghost use Rattle.pb_segment.specs.Drafts.{draft_in};
+
+    /// What a look finds in the draft of what has happened, where it can be closed with these seats, and else why it can't.
+    /// Three of a crew go over it side by side, where there are so many and it is long: one looks, one compares what was
+    /// shown, and one what was told.
+    pub(crate) fn looked_at<R: Threads + Sync, T: Send + Drop, F: FnOnce(Draft<'_>) -> T + Send>(
+        &self,
+        rt: &R,
+        crew: usize,
+        origin: &Origin,
+        conductor: &ConductorSeat<L>,
+        seats: &Vec<TapSeat<L>>,
+        look: F,
+    ) -> Result<T, CloseFault>
+        requires { F.pre look (draft_in self.now) }
+        ensures can { OnOk result
+            (CanClose self.entry.now origin.entry.now conductor.entry.now seats.entry.now.items) }
+        ensures found { IfOk result (F.post look (draft_in self.entry.now)) }
+        ensures fault { IfErr result
+            (RefusesToClose self.entry.now origin.entry.now conductor.entry.now seats.entry.now.items) }
+    {
+        if !self.has_all(seats) {
+            return Err(CloseFault::MissingSeat);
+        }
+        let hands = if self.history.len() < MANY { 1 } else { crew };
+        let draft = Draft::of(&self.history, &self.outlooks);
+        let (kept, shown) = (&self.outlooks, &conductor.outlooks);
+        let (seen, has_told) = both(
+            rt,
+            hands > 1,
+            move || -> Seen<T>
+                requires { F.pre look draft }
+                ensures shown { IsTrue result.is_shown ↔ (kept.entry.now.items ≡ shown.entry.now.items) }
+                ensures found { F.post look draft.entry result.found }
+            { see(rt, hands > 2, kept, shown, draft, look) },
+            || -> bool
+                ensures { IsTrue result
+                    ↔ HasTold self.entry.now origin.entry.now conductor.entry.now seats.entry.now.items }
+            { self.has_told(origin, conductor, seats) },
+        );
+        if !seen.is_shown || !has_told {
+            return Err(CloseFault::Disagree);
+        }
+        Ok(seen.found)
+    }
 
     /// Why it can't be closed with these seats, and the origin that was kept beside the lock. It goes once over
     /// the receipts and outlooks, and takes no memory.
@@ -27,13 +86,20 @@ impl<L: Ledger> Locked<L> {
         ensures { MatchOption result (CanClose self.now origin.now conductor.now seats.now.items)
             (RefusesToClose self.now origin.now conductor.now seats.now.items) }
     {
-        if seats.len() != self.turns.len() {
+        if !self.has_all(seats) {
             return Some(CloseFault::MissingSeat);
         }
         if !self.agrees_with(origin, conductor, seats) {
             return Some(CloseFault::Disagree);
         }
         None
+    }
+
+    /// Whether there are as many seats of taps as taps.
+    fn has_all(&self, seats: &Vec<TapSeat<L>>) -> bool
+        ensures { IsTrue result ↔ (length seats.now.items ≡ length self.now.turns) }
+    {
+        seats.len() == self.turns.len()
     }
 
     /// Whether it began with the new world of an origin, and has just what the seats were told and shown.
@@ -44,6 +110,21 @@ impl<L: Ledger> Locked<L> {
         seats: &Vec<TapSeat<L>>,
     ) -> bool
         ensures { IsTrue result ↔ AgreesWith self.now origin.now conductor.now seats.now.items }
+    {
+        if !are_same(&self.outlooks, &conductor.outlooks) {
+            return false;
+        }
+        self.has_told(origin, conductor, seats)
+    }
+
+    /// Whether it began with the new world of an origin, and has just what the seats were told.
+    fn has_told(
+        &self,
+        origin: &Origin,
+        conductor: &ConductorSeat<L>,
+        seats: &Vec<TapSeat<L>>,
+    ) -> bool
+        ensures { IsTrue result ↔ HasTold self.now origin.now conductor.now seats.now.items }
     {
         if !self.origin.is_same(origin) {
             return false;
@@ -56,11 +137,54 @@ impl<L: Ledger> Locked<L> {
         ) {
             return false;
         }
-        if !are_same(&self.outlooks, &conductor.outlooks) {
-            return false;
-        }
         all_agree(&self.history, &self.turns, seats)
     }
+}
+
+/// What is found of outlooks that are kept, and of those that were shown.
+fn see<R: Threads, T: Send + Drop, F: FnOnce(Draft<'_>) -> T + Send>(
+    rt: &R,
+    apart: bool,
+    kept: &Vec<Outlook>,
+    shown: &Vec<Outlook>,
+    draft: Draft<'_>,
+    look: F,
+) -> Seen<T>
+    requires { F.pre look draft }
+    ensures shown { IsTrue result.is_shown ↔ (kept.entry.now.items ≡ shown.entry.now.items) }
+    ensures found { F.post look draft.entry result.found }
+{
+    let (found, is_shown) = both(
+        rt,
+        apart,
+        move || -> T
+            requires { F.pre look draft }
+            ensures { F.post look draft.entry result }
+        { look(draft) },
+        || -> bool
+            ensures { IsTrue result ↔ (kept.entry.now.items ≡ shown.entry.now.items) }
+        { are_same(kept, shown) },
+    );
+    Seen { is_shown, found }
+}
+
+/// What two calls give, in a thread each where they are to be apart.
+fn both<R: Threads, F: FnOnce() -> A + Send, G: FnOnce() -> B, A: Send, B>(
+    rt: &R,
+    apart: bool,
+    one: F,
+    other: G,
+) -> (A, B)
+    requires { F.pre one × G.pre other }
+    ensures one { F.post one result.0 }
+    ensures other { G.post other result.1 }
+{
+    if apart {
+        return join(rt, one, other);
+    }
+    let first = one();
+    let second = other();
+    (first, second)
 }
 
 /// Whether receipts are those of an owner's events in a history, of which there are so many.

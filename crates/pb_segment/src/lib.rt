@@ -5,6 +5,7 @@
 
 mod blocks;
 mod closing;
+mod drafts;
 mod faults;
 mod histories;
 mod known;
@@ -18,6 +19,7 @@ mod reports;
 mod seats;
 mod segments;
 
+pub use drafts::{Closed, Draft};
 pub use faults::{CloseFault, CommitFault, GlanceFault};
 pub use histories::History;
 pub use outlooks::{Dues, Outlook};

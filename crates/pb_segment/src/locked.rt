@@ -10,7 +10,7 @@ use crate::known::Known;
 use crate::notes::{Note, note_event, note_turn, refused, turn_refused};
 use crate::origins::Origin;
 use crate::outlooks::Outlook;
-use crate::receipts::{KeptReceipt, Receipt, is_turn};
+use crate::receipts::{KeptReceipt, is_turn};
 use crate::seats::{ConductorSeat, TapSeat};
 use pb_station::{Decided, Glance};
 use pb_world::{Event, World};
@@ -60,7 +60,7 @@ impl<L: Ledger> Locked<L> {
     ghost use Rattle.pb_bus.specs.Glances.{CanBeDecided, Fits, IsGlance};
     ghost use Rattle.pb_token.specs.Promises.{LeavesOneToken};
     ghost use Rattle.pb_segment.specs.Histories.{is_turn};
-    ghost use Rattle.pb_segment.specs.Locked.{Appends, IsAllowed, IsPresent, KnowsDrives, KnowsTurns};
+    ghost use Rattle.pb_segment.specs.Locked.{AppendsTo, IsAllowed, IsPresent, KnowsDrives, KnowsTurns};
     ghost use Rattle.pb_segment.specs.Locked.{RefusesDecision, RefusesEvent, RefusesToKeep, RefusesToShow};
     ghost use Rattle.pb_segment.specs.Outlooks.{ShowsWorld};
 
@@ -86,11 +86,11 @@ impl<L: Ledger> Locked<L> {
         alloc: Global,
         seat: &mut TapSeat<L>,
         decided: Decided<'_>,
-    ) -> Result<Receipt, CommitFault>
-        ensures ok { IfOk result (Appends self.old self.new (Turn seat.old.tap)) }
+    ) -> Result<(), CommitFault>
+        ensures ok { OnOk result
+            (AppendsTo self.old self.new (Turn seat.old.tap) seat.old.receipts seat.new.receipts) }
         ensures present { OnOk result (IsPresent self.old seat.old decided.entry) }
-        ensures told { IfOk result
-            (λ r. seat.new ≡ record seat.old { receipts = seat.old.receipts ++ r ∷ [] }) }
+        ensures told { OnOk result (seat.new ≡ record seat.old { receipts = seat.new.receipts }) }
         ensures token { OnOk result (LeavesOneToken self.old.world (Turn seat.old.tap ∷ []) self.new.world) }
         ensures err { IfErr result (RefusesDecision self.old seat.old decided.entry) }
         ensures same { OnErr result ((self.new ≡ self.old) × (seat.new ≡ seat.old)) }
@@ -116,11 +116,11 @@ impl<L: Ledger> Locked<L> {
         alloc: Global,
         seat: &mut ConductorSeat<L>,
         event: Event,
-    ) -> Result<Receipt, CommitFault>
-        ensures ok { IfOk result (Appends self.old self.new (event_of event)) }
+    ) -> Result<(), CommitFault>
+        ensures ok { OnOk result
+            (AppendsTo self.old self.new (event_of event) seat.old.receipts seat.new.receipts) }
         ensures allowed { OnOk result (IsAllowed self.old seat.old (event_of event)) }
-        ensures told { IfOk result
-            (λ r. seat.new ≡ record seat.old { receipts = seat.old.receipts ++ r ∷ [] }) }
+        ensures told { OnOk result (seat.new ≡ record seat.old { receipts = seat.new.receipts }) }
         ensures token { OnOk result (LeavesOneToken self.old.world (event_of event ∷ []) self.new.world) }
         ensures err { IfErr result (RefusesEvent self.old seat.old (event_of event)) }
         ensures same { OnErr result ((self.new ≡ self.old) × (seat.new ≡ seat.old)) }
@@ -173,11 +173,11 @@ impl<L: Ledger> Locked<L> {
         decided: Decided<'_>,
         receipts: &mut Vec<KeptReceipt>,
         share: &mut Share<L>,
-    ) -> Result<Receipt, CommitFault>
+    ) -> Result<(), CommitFault>
         requires fits { Fits self.old.world decided }
         requires part { share.old.parts ≡ 1 }
-        ensures ok { IfOk result (Appends self.old self.new (Turn decided.entry.tap)) }
-        ensures told { IfOk result (λ r. receipts.new.items ≡ receipts.old.items ++ r ∷ []) }
+        ensures ok { OnOk result
+            (AppendsTo self.old self.new (Turn decided.entry.tap) receipts.old.items receipts.new.items) }
         ensures counted { OnOk result (share.new.amount ≡ share.old.amount + 1) }
         ensures token { OnOk result
             (LeavesOneToken self.old.world (Turn decided.entry.tap ∷ []) self.new.world) }
@@ -200,7 +200,8 @@ impl<L: Ledger> Locked<L> {
         };
         self.world.take_decided(alloc, decided)?;
         count(&mut self.turns, &mut self.drives, &note.happened);
-        Ok(keep(note, &mut self.history, &mut self.book, receipts, share))
+        keep(note, &mut self.history, &mut self.book, receipts, share);
+        Ok(())
     }
 
     /// An event happens that is no turn, and is kept, with a receipt. All room that it takes is made before anything
@@ -212,11 +213,11 @@ impl<L: Ledger> Locked<L> {
         event: Event,
         receipts: &mut Vec<KeptReceipt>,
         share: &mut Share<L>,
-    ) -> Result<Receipt, CommitFault>
+    ) -> Result<(), CommitFault>
         requires driven { is_turn (event_of event) ≡ false }
         requires part { share.old.parts ≡ 1 }
-        ensures ok { IfOk result (Appends self.old self.new (event_of event)) }
-        ensures told { IfOk result (λ r. receipts.new.items ≡ receipts.old.items ++ r ∷ []) }
+        ensures ok { OnOk result
+            (AppendsTo self.old self.new (event_of event) receipts.old.items receipts.new.items) }
         ensures counted { OnOk result (share.new.amount ≡ share.old.amount + 1) }
         ensures token { OnOk result (LeavesOneToken self.old.world (event_of event ∷ []) self.new.world) }
         ensures part { share.new.parts ≡ 1 }
@@ -238,11 +239,12 @@ impl<L: Ledger> Locked<L> {
         };
         self.world.apply(alloc, event)?;
         count(&mut self.turns, &mut self.drives, &note.happened);
-        Ok(keep(note, &mut self.history, &mut self.book, receipts, share))
+        keep(note, &mut self.history, &mut self.book, receipts, share);
+        Ok(())
     }
 }
 
-/// An event that has happened is kept, for which there is room. It answers what its seat is told.
+/// An event that has happened is kept, for which there is room, and its seat is told of it.
 #[inline(always)]
 fn keep<L: Ledger>(
     note: Note,
@@ -250,7 +252,7 @@ fn keep<L: Ledger>(
     book: &mut Book<L>,
     receipts: &mut Vec<KeptReceipt>,
     share: &mut Share<L>,
-) -> Receipt
+)
     requires room { HasRoom history.old }
     requires room_receipts { vec_len receipts.old < vec_capacity receipts.old }
     requires part { 0 < share.old.parts }
@@ -259,14 +261,11 @@ fn keep<L: Ledger>(
     ensures receipts { receipts.new.items ≡ receipts.old.items ++ note.kept ∷ [] }
     ensures counted { share.new.amount ≡ share.old.amount + 1 }
     ensures part { share.new.parts ≡ share.old.parts }
-    ensures told { result ≡ note.kept }
 {
     let Note { happened, kept } = note;
-    let receipt = kept.told();
     history.push_reserved(happened);
     book.add(share, 1);
     receipts.push_reserved(kept);
-    receipt
 }
 
 /// Counts what has happened.

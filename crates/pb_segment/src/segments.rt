@@ -1,10 +1,12 @@
-ghost use Rattle.std.specs.Prelude.{◌≡◌};
+ghost use Rattle.std.specs.Prelude.{◌≡◌, ◌<◌, ◌++◌, ◌∷◌, [], List, length};
+ghost use Rattle.pb_segment.specs.Histories as specs;
 
+use crate::drafts::{Closed, Draft};
 use crate::faults::{CloseFault, CommitFault, GlanceFault};
 use crate::locked::Locked;
 use crate::origins::Origin;
 use crate::outlooks::Outlook;
-use crate::receipts::Receipt;
+use crate::receipts::{KeptReceipt, Receipt};
 use crate::reports::Report;
 use crate::seats::{ConductorSeat, TapSeat};
 use pb_station::{Decided, Decision, Glance};
@@ -13,6 +15,7 @@ use std::alloc::Global;
 use std::hint::spin_loop;
 use std::sync::ledger::Ledger;
 use std::sync::{Mutex, MutexGuard, Wait};
+use std::thread::Threads;
 
 /// How often one looks whether the lock is free before it sleeps: some microseconds, as long as a call or two hold it.
 const LOOKS: u32 = 1000;
@@ -45,10 +48,11 @@ impl<L: Ledger> SharedSegment<L> {
     ghost use Rattle.pb_bus.specs.Glances.{CanBeDecided};
     ghost use Rattle.pb_taps.specs.Events.{event_of};
     ghost use Rattle.pb_segment.specs.declared.faults.CommitFault.TheVariants.{WrongTap};
-    ghost use Rattle.pb_segment.specs.Closing.{IsMissing};
+    ghost use Rattle.pb_segment.specs.Closing.{IsClosed, IsMissing};
+    ghost use Rattle.pb_segment.specs.Drafts.{DraftView, draft_of};
     ghost use Rattle.pb_segment.specs.Histories.{is_driven, is_turn, told};
     ghost use Rattle.pb_segment.specs.Reports.{IsReport};
-    ghost use Rattle.pb_segment.specs.Seats.{Agrees, accepted};
+    ghost use Rattle.pb_segment.specs.Seats.{Agrees, HasOneMore, accepted};
 
     /// What the tap of a seat shows after all turns that its seat had accepted: its station, its unread marks
     /// and the clock. It may wait for the lock.
@@ -88,12 +92,13 @@ impl<L: Ledger> SharedSegment<L> {
         ensures wrong { (result ≡ Err WrongTap) ↔ (decision.tap ≢ seat.old.tap) }
     {
         let mut octets = None;
-        self.commit_decided(rt, alloc, seat, decision.lend(&mut octets))
+        self.commit_decided(rt, alloc, seat, decision.lend(&mut octets))?;
+        Ok(last_told(&seat.receipts))
     }
 
     /// The tap takes the turn that was decided with a buffer, as [`commit`](SharedSegment::commit) has it take its
-    /// decision: with the same receipt, and the same faults in their order. It may wait for the lock. A refused turn
-    /// changes nothing.
+    /// decision: with the same receipt, which the seat alone is given, and the same faults in their order. It may wait
+    /// for the lock. A refused turn changes nothing.
     #[inline(always)]
     pub fn commit_decided(
         &self,
@@ -101,9 +106,9 @@ impl<L: Ledger> SharedSegment<L> {
         alloc: Global,
         seat: &mut TapSeat<L>,
         decided: Decided<'_>,
-    ) -> Result<Receipt, CommitFault>
-        ensures told { IfOk result
-            (λ r. seat.new ≡ record seat.old { receipts = seat.old.receipts ++ r ∷ [] }) }
+    ) -> Result<(), CommitFault>
+        ensures told { OnOk result (HasOneMore seat.old.receipts seat.new.receipts) }
+        ensures tap { seat.new.tap ≡ seat.old.tap }
         ensures same { OnErr result (seat.new ≡ seat.old) }
         ensures wrong { (result ≡ Err WrongTap) ↔ (decided.entry.tap ≢ seat.old.tap) }
     {
@@ -128,7 +133,8 @@ impl<L: Ledger> SharedSegment<L> {
         ensures same { OnErr result (seat.new ≡ seat.old) }
         ensures wrong { (result ≡ Err WrongTap) ↔ IsTrue (is_turn (event_of event)) }
     {
-        self.locked(rt).drive(alloc, seat, event)
+        self.locked(rt).drive(alloc, seat, event)?;
+        Ok(last_told(&seat.receipts))
     }
 
     /// What the conductor sees of the world after all events that were accepted so far, all of its own among them:
@@ -176,19 +182,44 @@ impl<L: Ledger> SharedSegment<L> {
     {
         let SharedSegment { state, origin } = self;
         let locked = state.into_inner();
-        if let Some(fault) = locked.closing_fault(&origin, &conductor, &seats) {
-            let segment = SharedSegment {
-                state: Mutex::new(locked),
-                origin,
-            };
-            return Err(CloseRefused {
-                fault,
-                segment,
-                conductor,
-                seats,
-            });
+        match locked.closing_fault(&origin, &conductor, &seats) {
+            None => Ok(locked.into_report(conductor, seats)),
+            Some(fault) => Err(refused(fault, locked, origin, conductor, seats)),
         }
-        Ok(locked.into_report(conductor, seats))
+    }
+
+    /// Ends it as [`close`](SharedSegment::close) does, and tells what a look finds in the draft of the report. The
+    /// look is made once, unless a seat is missing. Where thousands of events have happened, and a crew has some for it,
+    /// up to three threads go over them side by side: this one, and others that end before the call does. It waits for
+    /// no lock, and takes memory for threads alone; where none can be made it does all in this one.
+    ///
+    /// Faults, the first that applies, with all that was handed in: `MissingSeat` and `Disagree`, where `close` has
+    /// them.
+    pub fn close_beside<R: Threads + Sync, T: Send + Drop, F: FnOnce(Draft<'_>) -> T + Send>(
+        self,
+        rt: &R,
+        crew: usize,
+        conductor: ConductorSeat<L>,
+        seats: Vec<TapSeat<L>>,
+        look: F,
+    ) -> Result<Closed<T>, CloseRefused<L>>
+        requires look { (draft : DraftView) → F.pre look draft }
+        ensures closed { IfOk result (λ c. IsClosed self.origin conductor seats.items c.report) }
+        ensures found { IfOk result (λ c. F.post look (draft_of c.report) c.found) }
+        ensures full { OnOk result (length seats.items + 1 ≡ L.parts) }
+        ensures missing { IfErr result (λ e. IsMissing e.fault (length seats.items + 1 ≡ L.parts)) }
+        ensures back { IfErr result
+            (λ e. (e.conductor ≡ conductor) × (e.seats ≡ seats) × (e.segment.origin ≡ self.origin)) }
+    {
+        let SharedSegment { state, origin } = self;
+        let locked = state.into_inner();
+        match locked.looked_at(rt, crew, &origin, &conductor, &seats, look) {
+            Ok(found) => Ok(Closed {
+                report: locked.into_report(conductor, seats),
+                found,
+            }),
+            Err(fault) => Err(refused(fault, locked, origin, conductor, seats)),
+        }
     }
 
     /// What is under the lock, for one who holds it. One who finds it held looks again for a while before it sleeps.
@@ -200,5 +231,38 @@ impl<L: Ledger> SharedSegment<L> {
             spin_loop();
         }
         self.state.lock(rt)
+    }
+}
+
+/// The last receipt that a seat was told, where it was told one.
+#[inline(always)]
+fn last_told(receipts: &Vec<KeptReceipt>) -> Receipt
+    requires { 0 < length receipts.now.items }
+    ensures { (before : List specs.Receipt) (r : specs.Receipt)
+        → receipts.entry.now.items ≡ before ++ r ∷ [] → result ≡ r }
+{
+    receipts[receipts.len() - 1].told()
+}
+
+/// A segment that isn't closed, with all that was handed in.
+fn refused<L: Ledger>(
+    fault: CloseFault,
+    locked: Locked<L>,
+    origin: Origin,
+    conductor: ConductorSeat<L>,
+    seats: Vec<TapSeat<L>>,
+) -> CloseRefused<L>
+    ensures fault { result.fault ≡ fault }
+    ensures back { (result.conductor ≡ conductor) × (result.seats ≡ seats) × (result.segment.origin ≡ origin) }
+{
+    let segment = SharedSegment {
+        state: Mutex::new(locked),
+        origin,
+    };
+    CloseRefused {
+        fault,
+        segment,
+        conductor,
+        seats,
     }
 }

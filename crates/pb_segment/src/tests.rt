@@ -4,8 +4,8 @@ ghost use Rattle.std.specs.Prelude.{◌≡◌, ◌+◌, ◌<◌, ◌≤◌, true
 ghost use Rattle.pb_segment.specs.Origins.{IsNew};
 
 use crate::{
-    CloseFault, CommitFault, ConductorSeat, GlanceFault, History, Outlook, Receipt, SharedSegment,
-    TapSeat,
+    CloseFault, Closed, CommitFault, ConductorSeat, Draft, GlanceFault, History, Outlook, Receipt,
+    SharedSegment, TapSeat,
 };
 use arrayvec::ArrayVec;
 use pb_station::{SendBuffer, decide, decide_in};
@@ -233,6 +233,99 @@ fn a_long_history_is_reported_in_order(rt: HostRuntime) {
     let world = two_masters(&rt);
     let blank = Blank::new(world.taps() as u64 + 1);
     long_history::<Brand, HostRuntime>(&rt, blank, world);
+}
+
+/// What is found in a draft.
+#[derive(Clone, Copy, Debug, PartialEq, Eq)]
+struct Found {
+    events: usize,
+    outlooks: usize,
+    /// The bit times of the last event, if it is a pass.
+    last: Option<u64>,
+}
+
+fn found_in(draft: Draft<'_>) -> Found {
+    let events = draft.len();
+    let last = match draft.at(events.saturating_sub(1)) {
+        Some((Event::Pass(bits), _)) => Some(*bits),
+        _ => None,
+    };
+    Found {
+        events,
+        outlooks: draft.outlooks().len(),
+        last,
+    }
+}
+
+/// Passes of 1, 2, 3 and so on bit times, and then an outlook, are found in a draft by one of a crew. The first time a seat
+/// is missing.
+fn looked_at<L: Ledger, R: AllocGlobal + Abort + Threads + Wait + Sync>(
+    rt: &R,
+    blank: Blank,
+    world: World,
+    passes: u64,
+    crew: usize,
+)
+    requires name { blank.name ≡ L.name }
+    requires parts { blank.parts ≡ L.parts }
+    requires one_each { blank.parts ≡ length world.taps + 1 }
+    requires new { IsNew world }
+{
+    let alloc = rt.alloc();
+    let (segment, mut conductor, mut seats) = SharedSegment::<L>::new(alloc, blank, world).expect(
+        rt,
+        "a segment",
+    );
+    for bits in 1..=passes {
+        segment
+            .drive(rt, alloc, &mut conductor, Event::Pass(bits))
+            .expect(rt, "a pass");
+    }
+    segment
+        .outlook(rt, alloc, &mut conductor)
+        .expect(rt, "an outlook");
+    let last = seats.pop().expect(rt, "the second seat");
+    let look = |draft: Draft<'_>| -> Found { found_in(draft) };
+    let Some(mut back) = segment.close_beside(rt, crew, conductor, seats, look).err() else {
+        panic!(rt; "closed without a seat");
+    };
+    equal(rt, &back.fault, &CloseFault::MissingSeat);
+    back.seats.push(last).expect(rt, "room");
+    let look = |draft: Draft<'_>| -> Found { found_in(draft) };
+    let closed = back
+        .segment
+        .close_beside(rt, crew, back.conductor, back.seats, look);
+    let Ok(Closed { report, found }) = closed else {
+        panic!(rt; "not closed");
+    };
+    let expected = Found {
+        events: passes as usize,
+        outlooks: 1,
+        last: Some(passes),
+    };
+    equal(rt, &found, &expected);
+    equal(rt, &report.history().len(), &expected.events);
+    equal(rt, &report.outlooks().len(), &1);
+}
+
+/// A draft of some passes is looked at by one of a crew.
+fn look_at(rt: &(impl AllocGlobal + Abort + Threads + Wait + Sync), passes: u64, crew: usize) {
+    let world = two_masters(rt);
+    let blank = Blank::new(world.taps() as u64 + 1);
+    looked_at::<Brand, _>(rt, blank, world, passes, crew);
+}
+
+#[test]
+fn a_draft_of_few_events_is_looked_at(rt: HostRuntime) {
+    look_at(&rt, 10, 1);
+    look_at(&rt, 10, 2);
+}
+
+#[test]
+fn a_draft_of_many_events_is_looked_at(rt: HostRuntime) {
+    look_at(&rt, 5000, 1);
+    look_at(&rt, 5000, 2);
+    look_at(&rt, 5000, 3);
 }
 
 /// How many events of each seat are to be accepted, and how often it is tried.

@@ -1,4 +1,4 @@
 use Rattle.pb_segment.proofs.segments.SharedSegment.close.Goals as goal
 
-pub returns-clause-seats : goal.returns-clause-seats
-returns-clause-seats g c = rw c.into_report.ensures.history c.in_default.ensures.1.seats
+pub returns-in-None-clause-seats : goal.returns-in-None-clause-seats
+returns-in-None-clause-seats g c = rw c.into_report.ensures.history c.in-None.ensures.1.1.seats

@@ -1,0 +1,67 @@
+use crate::blocks::Blocks;
+use crate::outlooks::Outlook;
+use crate::reports::Report;
+use pb_world::{Event, Reply};
+use std::marker::Model;
+
+/// What has happened on a segment that is being closed, before it is known whether its seats agree.
+#[derive(Debug, Drop)]
+pub struct Draft<'a> {
+    happened: &'a Blocks,
+    outlooks: &'a [Outlook],
+}
+
+/// A report, with what another has found in its draft.
+#[derive(Drop)]
+pub struct Closed<T> {
+    /// The report.
+    pub report: Report,
+    /// What was found.
+    pub found: T,
+}
+
+impl<'a> Model for Draft<'a> {
+    ghost use Rattle.pb_segment.specs.Blocks.{happened_in};
+    ghost use Rattle.pb_segment.specs.Drafts.{DraftView};
+
+    ghost Value = { DraftView };
+
+    ghost view = { λ d. record { history = happened_in d.happened.now; outlooks = d.outlooks.now } };
+}
+
+impl<'a> Draft<'a> {
+    ghost use Rattle.std.specs.Prelude.{◌≡◌, None, Some, MatchOption, length, slice_get};
+    ghost use Rattle.pb_taps.specs.Events.{event_of, reply_of};
+    ghost use Rattle.pb_segment.specs.Blocks.{happened_in};
+
+    /// The draft of some events, and of what the conductor was shown.
+    pub(crate) fn of(happened: &'a Blocks, outlooks: &'a [Outlook]) -> Draft<'a>
+        ensures { result ≡ record { history = happened_in happened.now; outlooks = outlooks.now } }
+    {
+        Draft { happened, outlooks }
+    }
+
+    /// How many events were accepted.
+    pub fn len(&self) -> usize
+        ensures { result ≡ length self.now.history }
+    {
+        self.happened.len()
+    }
+
+    /// The event at a place, counted from 0, and its reply. None where no more events were accepted.
+    pub fn at(&self, place: usize) -> Option<(&'a Event, &'a Reply)>
+        ensures { MatchOption result (slice_get self.entry.now.history place ≡ None)
+            (λ h. slice_get self.entry.now.history place
+            ≡ Some (record { event = event_of h.0.now; reply = reply_of h.1.now })) }
+    {
+        let happened = self.happened.get(place)?;
+        Some((&happened.event, &happened.reply))
+    }
+
+    /// What the conductor was shown, in order.
+    pub fn outlooks(&self) -> &'a [Outlook]
+        ensures { result.now ≡ self.now.outlooks }
+    {
+        self.outlooks
+    }
+}
