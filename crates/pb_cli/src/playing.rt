@@ -15,6 +15,7 @@ use crate::writing::write_out;
 use pb_show::{Gate, Scenario, Shown, described, refused_file, refused_fleet, run_fleet, traced};
 use std::alloc::{AllocError, Global};
 use std::sync::Wait;
+use std::thread;
 use std::thread::Threads;
 
 /// The most workers that may be asked for.
@@ -23,10 +24,14 @@ pub const MOST_WORKERS: usize = 64;
 /// The most last lines that may be asked for.
 pub const MOST_LINES: usize = 10_000;
 
+/// How many events are many: the memory of a history of fewer is sooner given back than a thread is made.
+const MANY: usize = 4096;
+
 /// Reads a scenario file to the end of the reader, plays the scenario with some workers, the first of them in the
 /// caller's thread, and writes its trace, or the last lines of it; where the file or the run is refused, the line of
 /// the fault. The trace is that of the run on one thread, whatever the number of workers. The whole text is made before
-/// the first write.
+/// the first write. After a long run by several workers a thread of its own gives the run's memory back, also after this
+/// call.
 ///
 /// `workers`, 1 to 64, is the number of taps where it isn't given (1 where there is no tap, 64 at most); `last` is 1 to
 /// 10,000. At `Ok` the writer holds that text, and the status is `Refused` exactly where it is the line of a fault.
@@ -119,8 +124,20 @@ fn played_scenario<T: Threads + Wait + Sync>(
     ensures { IfOk result (λ shown. IsRun scenario.now workers last (shown_of shown)) }
 {
     match run_fleet(rt, alloc, scenario, workers, &OpenGate) {
-        Ok(report) => traced(alloc, scenario, report.trace(), last),
+        Ok(report) => {
+            let shown = traced(alloc, scenario, report.trace(), last);
+            let aside = workers > 1 && report.history().len() >= MANY;
+            let_go(rt, aside, report);
+            shown
+        }
         Err(fault) => refused_fleet(alloc, fault),
+    }
+}
+
+/// Gives the memory of what is no longer wanted back: aside, in a thread that nobody waits for, if one can be made.
+fn let_go<T: Threads, U: Send + Drop + 'static>(rt: &T, aside: bool, unwanted: U) {
+    if aside {
+        drop(thread::spawn(rt, move || drop(unwanted)));
     }
 }
 
