@@ -222,8 +222,18 @@ impl<L: Ledger> SharedSegment<L> {
         }
     }
 
-    /// What is under the lock, for one who holds it. One who finds it held looks again for a while before it sleeps.
+    /// What is under the lock, for one who holds it.
+    #[inline(always)]
     fn locked(&self, rt: &impl Wait) -> MutexGuard<'_, Locked<L>> {
+        match self.state.try_lock() {
+            Some(guard) => guard,
+            None => self.locked_at_last(rt),
+        }
+    }
+
+    /// The same for one who has found it held, and looks again for a while before it sleeps.
+    #[inline(never)]
+    fn locked_at_last(&self, rt: &impl Wait) -> MutexGuard<'_, Locked<L>> {
         for _ in 0..LOOKS {
             if let Some(guard) = self.state.try_lock() {
                 return guard;

@@ -399,8 +399,12 @@ fn takes_turns<L: Ledger, R: AllocGlobal + Abort + Wait>(
         if accepted >= turns {
             break;
         }
-        let glance = segment.glance(rt, rt.alloc(), &seat).expect(rt, "a glance");
-        let decided = decide_in(rt.alloc(), glance, &mut says).expect(rt, "a decision");
+        let Ok(glance) = segment.glance(rt, rt.alloc(), &seat) else {
+            panic!(rt; "no glance");
+        };
+        let Ok(decided) = decide_in(rt.alloc(), glance, &mut says) else {
+            panic!(rt; "no decision");
+        };
         match segment.commit_decided(rt, rt.alloc(), &mut seat, decided) {
             Ok(_) => accepted += 1,
             Err(CommitFault::Stale { .. }) => {}
