@@ -25,8 +25,8 @@ def build(folder, name):
 
 
 def build_ours():
-    """'./ringplay' builds the program where a source is newer than it."""
-    if subprocess.run([f"{TOP}/ringplay", "decode"], stdin=subprocess.DEVNULL).returncode != 0:
+    """Proves and builds the program where a source is newer than it."""
+    if subprocess.run([f"{TOP}/ringplay", "prove"], stdin=subprocess.DEVNULL).returncode != 0:
         sys.exit("bench: no program to measure")
 
 

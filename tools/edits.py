@@ -1,10 +1,13 @@
-"""Edits of a crate, as must-fail/, more-edits/ and misuse/ have them: a line 'file: PATH', then pairs of lines
-'old: TEXT' and 'new: TEXT', where each old text stands once in what the pairs before it made. A line '# body: NAME' names the
-function whose body alone the edit changes, a line '# breaks: NAME' one that it must leave unproved by changing something else.
+"""Edits of a crate: a line 'file: PATH', then pairs of lines 'old: TEXT' and 'new: TEXT', where each old text stands once in
+what the pairs before it made. A line '# body: NAME' names the function whose body alone the edit changes, a line
+'# breaks: NAME' one that it must leave unproved by changing something else.
+
+They stand in a crate's folder: in must-fail/ and misuse/ a file each, in gate.edits and more.edits many in one file (txtar.py).
+One of more.edits that changes a definition may name no function: then any may lose its proof.
 
     tools/edits.py apply EDIT CRATE     writes the edited files into the crate's folder
-    tools/edits.py stale CRATE..        names each edit of must-fail/ and more-edits/ that can't be applied, whose line
-                                        '# body:' isn't true, or that names a function which the prover doesn't know
+    tools/edits.py stale CRATE..        names each edit that can't be applied, whose line '# body:' isn't true, or that names a
+                                        function which the prover doesn't know
 """
 
 import dataclasses
@@ -13,17 +16,22 @@ import pathlib
 import re
 import sys
 
+import txtar
+
+# Where a crate's edits stand, but for those that must not compile.
+HOMES = ("must-fail", "gate.edits", "more.edits")
+
 
 @dataclasses.dataclass
 class Edit:
-    path: pathlib.Path
+    label: str
     pairs: list[tuple[str, str, str]]
     body: str = ""
     breaks: str = ""
 
     @property
     def target(self):
-        """The function that must lose its proof; none where any of the crate's may."""
+        """The function that must lose its proof."""
         return self.body or self.breaks
 
 
@@ -37,9 +45,23 @@ class Span:
     edit: Edit
 
 
+def of_crate(crate, home):
+    """The edits that stand in one home in a crate's folder."""
+    path = crate / home
+    if home == "must-fail":
+        return [read(it) for it in sorted(path.glob("*.edit"))]
+    texts = txtar.texts(path) if path.exists() else {}
+    return [parsed(f"{crate.name}/{home}: {name}", text.decode()) for name, text in texts.items()]
+
+
 def read(path):
-    edit, file, old = Edit(path, []), None, None
-    for line in path.read_text().splitlines():
+    """The edit that is a file of its own."""
+    return parsed("/".join(path.parts[-3:]), path.read_text())
+
+
+def parsed(label, text):
+    edit, file, old = Edit(label, []), None, None
+    for line in text.splitlines():
         key, _, text = line.removeprefix("# ").partition(":")
         text = text.removeprefix(" ")
         if key == "file":
@@ -60,7 +82,7 @@ def spans(edit, crate):
     for file, old, new in edit.pairs:
         found = texts[file].count(old)
         if found != 1:
-            raise ValueError(f"{edit.path}: the text stands {found} times: {old}")
+            raise ValueError(f"{edit.label}: the text stands {found} times: {old}")
         texts[file] = texts[file].replace(old, new)
     return {file: span(were[file], text, edit) for file, text in texts.items()}
 
@@ -84,14 +106,23 @@ def apply(edits, crate):
         (crate / file).write_text(text)
 
 
-def is_in_body(part, name, text):
-    """Whether what is changed lies in the body of a function of this name, which as rt fmt sets it ends at a brace as far in as it begins."""
-    for head in re.finditer(rf"^( *)(?:pub(?:\(\w+\))? )?(?:const )?(?:unsafe )?fn {re.escape(name)}\b", text, re.M):
+def places(name, text):
+    """Where the functions of a name begin, where their bodies do, and where they end: as rt fmt sets one, at a brace as far in as its head."""
+    for head in re.finditer(rf"^( *)(?:pub(?:\(\w+\))? )?(?:const )?(?:unsafe )?(?:extern .C. )?fn {re.escape(name)}\b", text, re.M):
         opens = re.compile(rf"^{head[1]}\{{$| \{{$", re.M).search(text, head.end())
         closes = re.compile(rf"^{head[1]}\}}$", re.M).search(text, head.end())
-        if opens and closes and opens.end() <= part.start and part.end < closes.end():
-            return True
-    return False
+        if opens and closes:
+            yield head.start(), opens.end(), closes.end()
+
+
+def is_in_body(part, name, text):
+    """Whether what is changed lies in the body of a function of this name."""
+    return any(begin <= part.start and part.end < end for _, begin, end in places(name, text))
+
+
+def is_line_of(name, text, line):
+    """Whether a line, counted from 1, is one of a function of this name."""
+    return any(text.count("\n", 0, begin) < line <= text.count("\n", 0, end) + 1 for begin, _, end in places(name, text))
 
 
 def is_known(name, crate):
@@ -106,16 +137,17 @@ def is_known(name, crate):
     return owner.startswith(tuple(types))
 
 
-def faults(path, crate):
+def faults(edit, crate):
     """What is wrong with an edit."""
     try:
-        edit = read(path)
         changed = spans(edit, crate)
+        if not edit.target and "/more.edits: " not in edit.label:
+            yield f"{edit.label}: it names no function"
         name = edit.body.split("::")[-1]
         if name and not all(is_in_body(it, name, (crate / file).read_text()) for file, it in changed.items()):
-            yield f"{path}: it changes more than the body of {edit.body}"
+            yield f"{edit.label}: it changes more than the body of {edit.body}"
         if not is_known(edit.target, crate):
-            yield f"{path}: the type of {edit.target} is another module's"
+            yield f"{edit.label}: the type of {edit.target} is another module's"
     except (ValueError, OSError) as wrong:
         yield str(wrong)
 
@@ -128,7 +160,7 @@ def main(verb, *paths):
         except (ValueError, OSError) as wrong:
             sys.exit(str(wrong))
     else:
-        found = [it for crate in paths for path in sorted(crate.glob("m*-*/*.edit")) for it in faults(path, crate)]
+        found = [it for crate in paths for home in HOMES for edit in of_crate(crate, home) for it in faults(edit, crate)]
         print(*found, sep="\n", end="\n" if found else "")
         sys.exit(bool(found))
 

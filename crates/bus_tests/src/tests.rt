@@ -1,12 +1,18 @@
+//! Tests of a world: its events, glances and decisions, audits, and its limits.
+
+mod edges;
 mod memory;
+mod reasons;
 mod stations;
+mod stretches;
 mod telegrams;
+mod traces;
 
 ghost use Rattle.std.specs.Prelude.{◌≡◌, true};
 
 use arrayvec::ArrayVec;
 use pb_cycles::{Outcome, Request, Service};
-use pb_station::{SendBuffer, decide, decide_in};
+use pb_station::{SendBuffer, Station, decide, decide_in};
 use pb_timers::BusParams;
 use pb_world::{
     AuditFault, Entry, Event, Heard, Kind, NewFault, Reply, TapSpec, World, WorldFault, audit,
@@ -183,6 +189,7 @@ fn a_turn_is_decided_outside_the_world(rt: HostRuntime) {
     let mut world = silent_for_800(&rt);
     assert_eq!(rt; world.taps(), 2);
     let glance = world.glance_of(alloc, 0).expect(&rt, "a glance");
+    assert!(rt; is_at(&world, 0, &glance.station));
     equal(
         &rt,
         &(glance.tap, glance.now.get(), glance.marks.len()),
@@ -194,17 +201,33 @@ fn a_turn_is_decided_outside_the_world(rt: HostRuntime) {
     equal(&rt, &said.as_slice(), &[0xdc, 1, 1].as_slice());
     let glance = world.glance_of(alloc, 0).expect(&rt, "a glance");
     let again = decide(alloc, glance).expect(&rt, "a decision");
-    let phase = decision.after.phase().name();
     assert!(rt; world.fits(&again));
     assert!(rt; world.fits(&decision));
     let taken = world.take(alloc, decision).expect(&rt, "a turn");
-    equal(&rt, &phase_name(&world, 0), &Some(phase));
+    assert!(rt; is_at(&world, 0, &again.after));
     assert!(rt; !world.fits(&again));
     let mut other = silent_for_800(&rt);
     let turn = other.apply(alloc, Event::Turn(0)).expect(&rt, "a turn");
-    equal(&rt, &turn.copy(), &taken);
-    equal(&rt, &phase_name(&other, 0), &Some(phase));
+    equal(&rt, &taken, &turn);
+    assert!(rt; are_same(&world, &other));
+    equal(&rt, &phase_name(&world, 0), &Some("Claim"));
     equal(&rt, &world.into_trace().len(), &1);
+}
+
+/// Whether the station at a tap is equal to one in all that it keeps.
+fn is_at(world: &World, tap: usize, station: &Station) -> bool {
+    match world.station(tap) {
+        Some(found) => found.is_same(station),
+        None => false,
+    }
+}
+
+/// Whether both stations of a world are equal to those of another.
+fn are_same(world: &World, other: &World) -> bool {
+    match (other.station(0), other.station(1)) {
+        (Some(first), Some(second)) => is_at(world, 0, first) && is_at(world, 1, second),
+        _ => false,
+    }
 }
 
 /// Turns that are decided on glances in the room of replaced stations are those that the world takes by itself.
@@ -220,7 +243,7 @@ fn glances_take_the_room_of_replaced_stations(rt: HostRuntime) {
         let taken = take_decided(&rt, &mut world, tap, &mut says);
         let turn = other.apply(alloc, Event::Turn(tap)).expect(&rt, "a turn");
         equal(&rt, &taken, &Some(turn));
-        equal(&rt, &phase_name(&world, tap), &phase_name(&other, tap));
+        assert!(rt; are_same(&world, &other));
     }
     equal(&rt, &world.into_trace().len(), &1);
 }
@@ -271,6 +294,16 @@ fn refusals_are_known_before(rt: HostRuntime) {
         &Some(WorldFault::ClockFull),
     );
     equal(&rt, &world.refusal(&Event::Start(0), false), &None);
+    for (event, fault) in [
+        (Event::Noise(0), WorldFault::ZeroTime),
+        (
+            Event::Unheard { tap: 1, speaker: 0 },
+            WorldFault::NothingInAir,
+        ),
+    ] {
+        equal(&rt, &world.apply(alloc, event).err(), &Some(fault));
+        equal(&rt, &(world.now().get(), world.trace().len()), &(0, 0));
+    }
     world = silent_for_800(&rt);
     equal(
         &rt,
@@ -354,6 +387,8 @@ fn a_run_is_judged(rt: HostRuntime) {
     equal(&rt, &no_taps, &Some(AuditFault::New(NewFault::NoTaps)));
     let twice = audit(alloc, params, &specs, &[Event::Start(0), Event::Start(0)]).err();
     equal(&rt, &twice, &Some(AuditFault::At(1, WorldFault::Running)));
+    let ninth = audit(alloc, params, &specs, &[Event::Turn(9)]).err();
+    equal(&rt, &ninth, &Some(AuditFault::At(0, WorldFault::NoSuchTap)));
 }
 
 /// The same of a list that lends its events, one of them twice.

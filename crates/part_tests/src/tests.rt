@@ -1,5 +1,8 @@
+//! Tests of telegrams and their text, times, tables, states and message cycles: what is common to them.
+
 mod changed_octets;
 mod cycles;
+mod edges;
 mod first_half;
 mod heard;
 mod lists;

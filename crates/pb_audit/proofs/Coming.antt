@@ -1,33 +1,35 @@
 -- A watched bus comes on by events.
 use Rattle.std.proofs.Common.{◌≡◌, ◌∙◌, ap, sym, subst, refl, List, [], ◌∷◌, ◌++◌, None, Ok}
 use Rattle.pb_model.specs.World.{World, Event, Reply}
-use Rattle.pb_model.specs.Step.{RunsTo, step}
+use Rattle.pb_model.specs.Step.{step}
+use Rattle.pb_model.specs.Laws.{IsEvent}
 use Rattle.pb_theorem.specs.Premises.{Course}
 use Rattle.pb_theorem.specs.Watching.{StandsFor}
 use Rattle.pb_theorem.proofs.Watching.{stands-new}
-use Rattle.pb_bus.proofs.Running.{runs-on}
+use Rattle.pb_live.specs.Promises.{LeadTo}
+use Rattle.pb_live.proofs.Promising.{run_leads_on}
 use Rattle.pb_audit.specs.Premises.{watched_of, course_at, GoesOn}
 use Rattle.pb_audit.specs.Watched.{GoesOnBy, HasCome, IsWatched, world_in}
 use Rattle.pb_audit.specs.declared.watched.Watched.{Watched}
 use Rattle.pb_audit.proofs.Premising.{course-more, world-followed}
 
 -- to a new one nothing has happened
-pub comes-new : (w : Watched) → IsWatched w → watched_of w.watch ≡ record { waited = None; broken = None } → HasCome w (world_in w) []
-comes-new w watched none = record {
+pub comes-new : (w : Watched) → IsWatched w → LeadTo (world_in w) [] (world_in w) → watched_of w.watch ≡ record { waited = None; broken = None } → HasCome w (world_in w) []
+comes-new w watched lead none = record {
   watched = watched;
-  runs = refl;
+  lead = lead;
   here = refl;
   stands = subst (λ v. StandsFor v (course_at (world_in w) [])) (sym none) (stands-new (world_in w));
 }
 
 -- one event more
-pub comes-by : (w next : Watched) (e : Event) (reply : Reply) → IsWatched next → step (world_in w) e ≡ Ok (world_in next, reply) → GoesOn w.watch (world_in w) e next.watch → GoesOnBy w e next
-comes-by w next e reply watched goes stands start events came =
+pub comes-by : (w next : Watched) (e : Event) (reply : Reply) → IsWatched next → IsEvent e → step (world_in w) e ≡ Ok (world_in next, reply) → GoesOn w.watch (world_in w) e next.watch → GoesOnBy w e next
+comes-by w next e reply watched is goes stands start events came =
     let course = course_at start events in
     let more : course_at start (events ++ e ∷ []) ≡ _ = course-more (course_at start []) events e in
     record {
       watched = watched;
-      runs = runs-on start (world_in w) (world_in next) events e reply came.runs goes;
+      lead = (run_leads_on (world_in w) (world_in next) (e ∷ []) (is, tt) (world_in next, reply, goes, refl) start events came.lead).0;
       here = ap (λ (x : Course). x.world) more ∙ world-followed course (world_in w) (world_in next) e reply came.here goes;
       stands = subst (StandsFor (watched_of next.watch)) (sym more) (stands course came.here came.stands);
     }

@@ -58,7 +58,7 @@ none-active : (w : World) (over to tap : ℕ) → IsCut w.params.ttd w.now over 
 none-active w over to tap cut none = sym (active-recent w over to tap cut) ∙ ap (λ es. is_active w.params.ttd w.now to es tap) none
 
 -- an event that is accepted ends when it can
-pass-ends : (w next : World) (bits : ℕ) (reply : Reply) → step_pass w bits ≡ Ok (next, reply) → w.now + bits ≤ clock_limit
+pub pass-ends : (w next : World) (bits : ℕ) (reply : Reply) → step_pass w bits ≡ Ok (next, reply) → w.now + bits ≤ clock_limit
 pass-ends w next bits reply ok =
     let to = w.now + bits in
     let taps = told w.params.ttd w.trace w.now to 0 w.taps in

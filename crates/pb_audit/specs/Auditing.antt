@@ -2,13 +2,12 @@
 use Rattle.std.specs.Prelude.{◌≡◌, ℕ, List, None, Ok}
 use Rattle.std.specs.Option.{option_map}
 use Rattle.pb_timers.specs.Timers.{Params}
-use Rattle.pb_timers.specs.ParamRules.{IsValid}
 use Rattle.pb_model.specs.Medium.{TapSpec}
 use Rattle.pb_model.specs.World.{World, Event, new_world}
-use Rattle.pb_model.specs.Laws.{AllFit, AreEvents}
 use Rattle.pb_theorem.specs.Headline.{specs_of}
 use Rattle.pb_theorem.specs.Legality.{first_illegal}
 use Rattle.pb_theorem.specs.Premises.{Broken, first_broken}
+use Rattle.pb_live.specs.Promises.{KeepsPromises}
 use Rattle.pb_taps.specs.Faults.{RefusesNew}
 use Rattle.pb_model.specs.Step.{RunsTo}
 use Rattle.pb_bus.specs.Worlds.{StopsAt}
@@ -20,14 +19,15 @@ use Rattle.pb_audit.specs.declared.findings.AuditFault.TheVariants as audit
 abbrev pub broken_at : ℕ × ℕ → Broken
 broken_at b = record { number = b.0; clock = b.1 }
 
--- the events lead from the new world to one; the premise is the first that they break, and the record the first of its trace that is illegal
+-- The events lead from the new world to one that keeps the promises; the premise is the first that they break, and the record the first of its trace that is
+-- illegal.
 abbrev pub Finds : Params → List TapSpec → List Event → Audit → Type 0
 Finds p specs events found = (new w : World) × (new_world p specs ≡ Ok new) × RunsTo new events w
-    × (option_map broken_at found.premise ≡ first_broken new events) × (found.illegal ≡ first_illegal w.params (specs_of w) w.trace)
+    × (option_map broken_at found.premise ≡ first_broken new events) × (found.illegal ≡ first_illegal w.params (specs_of w) w.trace) × KeepsPromises new events w
 
--- a run that breaks no premise has no illegal telegram
-abbrev pub FindsLegal : Params → List TapSpec → List Event → Audit → Type 0
-FindsLegal p specs events found = IsValid p → AllFit specs → AreEvents events → found.premise ≡ None → found.illegal ≡ None
+-- where no premise is broken, no telegram is illegal
+abbrev pub IsLegalIfKept : Audit → Type 0
+IsLegalIfKept found = found.premise ≡ None → found.illegal ≡ None
 
 -- there is no new world, or it leads to one that refuses the event at a place
 abbrev pub RefusesAudit : Params → List TapSpec → List Event → AuditFault → Type 0

@@ -3,13 +3,20 @@ use Rattle.std.specs.Prelude.{List, map}
 use Rattle.pb_model.specs.Medium as model
 use Rattle.pb_theorem.specs.Judging as judging
 use Rattle.pb_medium.specs.Entries.{record_of}
-use Rattle.pb_taps.specs.Taps.{tap_of}
+use Rattle.pb_taps.specs.Taps.{spec_of, tap_of}
+use Rattle.pb_audit.specs.declared.addresses.Addresses.{Addresses}
+use Rattle.pb_audit.specs.declared.addresses.Addresses.TheVariants as addresses
 use Rattle.pb_audit.specs.declared.last.LastInitiator.{LastInitiator}
 use Rattle.pb_taps.specs.declared.taps.Tap.{Tap}
 
 abbrev pub last_of : LastInitiator → judging.LastInitiator
 last_of last = record { telegram = record_of last.telegram.now; silent = last.silent }
 
--- what each of some taps is
+-- what each tap of a bus is
 abbrev pub specs_at : List Tap → List model.TapSpec
 specs_at taps = map (λ t. t.spec) (map tap_of taps)
+
+-- what each tap is, wherever its address is read
+abbrev pub specs_in : Addresses → List model.TapSpec
+specs_in (addresses.OfTaps taps) = specs_at taps.now
+specs_in (addresses.OfSpecs specs) = map spec_of specs.now

@@ -4,3 +4,6 @@ pub mod Ends
 pub mod Auditing
 pub mod Watched
 pub mod Meanings
+pub mod Traces
+pub mod Reasons
+pub mod Liveness

@@ -3,10 +3,10 @@ use Rattle.std.specs.Prelude.{◌≡◌, List, [], ◌∷◌, ◌++◌, Ok}
 use Rattle.pb_timers.specs.Timers.{Params}
 use Rattle.pb_model.specs.Medium.{TapSpec}
 use Rattle.pb_model.specs.World.{World, Event, new_world}
-use Rattle.pb_model.specs.Step.{RunsTo}
 use Rattle.pb_theorem.specs.Watching.{StandsFor}
 use Rattle.pb_bus.specs.Buses.{world_of, IsKept}
-use Rattle.pb_audit.specs.Auditing.{Finds, FindsLegal}
+use Rattle.pb_live.specs.Promises.{LeadTo}
+use Rattle.pb_audit.specs.Auditing.{Finds, IsLegalIfKept}
 use Rattle.pb_audit.specs.Premises.{Knows, course_at, watched_of}
 use Rattle.pb_audit.specs.declared.findings.Audit.{Audit}
 use Rattle.pb_audit.specs.declared.watched.Watched.{Watched}
@@ -19,10 +19,10 @@ pub record IsWatched (w : Watched) : Type 0 where
   pub kept : IsKept w.bus
   pub knows : Knows w.watch (world_in w)
 
--- it has come from a world to which nothing had happened by some events, and its watch stands for all of them
+-- it has come from a new world by some events, and its watch stands for all of them
 pub record HasCome (w : Watched) (start : World) (events : List Event) : Type 0 where
   pub watched : IsWatched w
-  pub runs : RunsTo start events (world_in w)
+  pub lead : LeadTo start events (world_in w)
   pub here : (course_at start events).world ≡ world_in w
   pub stands : StandsFor (watched_of w.watch) (course_at start events)
 
@@ -37,4 +37,4 @@ IsOfNew w = (p : Params) × (specs : List TapSpec) × (start : World) × (events
 -- an audit finds what there is to find in the events by which it has come, from whatever new world that was
 abbrev pub FindsIn : Watched → Audit → Type 0
 FindsIn w found = (p : Params) (specs : List TapSpec) (start : World) (events : List Event) → new_world p specs ≡ Ok start → HasCome w start events
-    → Finds p specs events found × FindsLegal p specs events found
+    → Finds p specs events found × IsLegalIfKept found

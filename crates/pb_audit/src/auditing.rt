@@ -1,5 +1,7 @@
+//! The audit of a list of events.
+
 ghost use Rattle.std.specs.Prelude.{[], IfOk, IfErr, OnOk, map};
-ghost use Rattle.pb_audit.specs.Auditing.{Finds, FindsLegal, RefusesAudit};
+ghost use Rattle.pb_audit.specs.Auditing.{Finds, IsLegalIfKept, RefusesAudit};
 ghost use Rattle.pb_audit.specs.Watched.{HasCome, world_in};
 ghost use Rattle.pb_taps.specs.Events.{event_of};
 ghost use Rattle.pb_taps.specs.Taps.{spec_of};
@@ -16,8 +18,10 @@ use std::alloc::Global;
 ///
 /// The premises, by their numbers: 1, no two running taps have equal addresses; 2, no telegram is lost at a tap
 /// but by damage; 3, no turn is later than the lag; 4, no two masters have waited out their time-outs at clocks a
-/// cable delay apart at most, each by what was active at its own tap while it ran. Where it finds none broken, no
-/// telegram is illegal: so the contract says of valid parameters, data to reply that fit, and requests as requests are.
+/// cable delay apart at most, each by what was active at its own tap while it ran. Where it finds none broken, it finds no
+/// illegal record, and one station at most may initiate after the events, which the trace names (medium access: token
+/// passing). Where no event loses a telegram at a tap and no turn is late, no running master that isn't offline has been
+/// left in silence for longer than its time-out and the lag.
 ///
 /// Faults, the first that applies: `New` with that of the new bus; `At` with the place of the first event that
 /// is refused, counted from 0, and its fault.
@@ -28,7 +32,7 @@ pub fn audit(
     events: &[Event],
 ) -> Result<Audit, AuditFault>
     ensures ok { IfOk result (Finds params (map spec_of specs.now) (map event_of events.now)) }
-    ensures legal { IfOk result (FindsLegal params (map spec_of specs.now) (map event_of events.now)) }
+    ensures legal { IfOk result IsLegalIfKept }
     ensures fault { IfErr result (RefusesAudit params (map spec_of specs.now) (map event_of events.now)) }
 {
     let mut watched = match new_watched(alloc, params, specs) {
@@ -49,8 +53,7 @@ pub fn audit_shared(
     events: &[&Event],
 ) -> Result<Audit, AuditFault>
     ensures ok { IfOk result (Finds params (map spec_of specs.now) (map lent_event events.now)) }
-    ensures legal { IfOk result
-        (FindsLegal params (map spec_of specs.now) (map lent_event events.now)) }
+    ensures legal { IfOk result IsLegalIfKept }
     ensures fault { IfErr result
         (RefusesAudit params (map spec_of specs.now) (map lent_event events.now)) }
 {

@@ -1,3 +1,5 @@
+//! What a telegram says, as far as it matters who may send it.
+
 ghost use Rattle.std.specs.Prelude.{◌≡◌};
 ghost use Rattle.pb_core.specs.Arrivals.{brings};
 ghost use Rattle.pb_turn.specs.Arrivals.{Arrival};
@@ -31,7 +33,7 @@ pub(crate) fn meaning_in(entry: &Entry) -> Meaning
 }
 
 /// What the telegram says that was meant, also where it was cut: most are tokens, which are read at once.
-fn meaning_of(sent: &Record) -> Meaning
+pub(crate) fn meaning_of(sent: &Record) -> Meaning
     ensures { result ≡ meaning_of (initiators.telegram_of (record_of sent.now)) }
 {
     match spelled_token(&sent.octets) {

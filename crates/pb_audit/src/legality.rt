@@ -1,3 +1,5 @@
+//! The first illegal record of a trace, in one pass.
+
 ghost use Rattle.std.specs.Prelude.{◌≡◌, ◌+◌, ◌≤◌, map, nat_le, slice_get};
 ghost use Rattle.std.specs.Option.{option_map};
 ghost use Rattle.pb_model.specs.Trace.{entry_begin, entry_end};
@@ -7,24 +9,25 @@ ghost use Rattle.pb_theorem.specs.Judging.{IsOrdered, claims_after, goes_on_afte
 ghost use Rattle.pb_theorem.specs.Legality as legality;
 ghost use Rattle.pb_medium.specs.Entries.{entry_of, record_of};
 ghost use Rattle.pb_audit.specs.Ends.{AreEnds};
-ghost use Rattle.pb_audit.specs.Judging.{last_of, specs_at};
+ghost use Rattle.pb_audit.specs.Judging.{last_of, specs_in};
 ghost use Rattle.pb_audit.specs.Meanings.{meaning_in, meaning_of};
 
 use crate::activity::is_active_in;
+use crate::addresses::Addresses;
 use crate::ends::Ends;
 use crate::initiators::{Meaning, claims_for, initiates, meaning_in, offered_by};
 use crate::last::LastInitiator;
 use pb_medium::{Entry, Heard, Record};
-use pb_taps::Tap;
 use pb_timers::BusParams;
 
-/// The address of a tap that is none: a telegram goes to 127 at most.
-const NO_ADDRESS: u8 = 255;
-
 /// The position of the first illegal initiator record of a trace that stands in order, in one pass.
-pub(crate) fn first_illegal(params: &BusParams, taps: &[Tap], trace: &[Entry]) -> Option<usize>
+pub(crate) fn first_illegal(
+    params: &BusParams,
+    taps: Addresses<'_>,
+    trace: &[Entry],
+) -> Option<usize>
     requires { IsOrdered (map entry_of trace.now) }
-    ensures { result ≡ legality.first_illegal params.now (specs_at taps.now) (map entry_of trace.now) }
+    ensures { result ≡ legality.first_illegal params.now (specs_in taps.entry) (map entry_of trace.now) }
 {
     let mut ends = Ends::none(taps.len());
     let mut last = None;
@@ -43,7 +46,7 @@ pub(crate) fn first_illegal(params: &BusParams, taps: &[Tap], trace: &[Entry]) -
 /// Whether an entry is no illegal initiator record behind the earlier ones.
 fn may_come(
     params: &BusParams,
-    taps: &[Tap],
+    taps: Addresses<'_>,
     earlier: &[Entry],
     ends: &Ends,
     last: Option<LastInitiator>,
@@ -53,7 +56,7 @@ fn may_come(
     requires ends { AreEnds params.now.ttd (entry_begin (entry_of entry.now)) (map entry_of earlier.now)
         ends.now }
     requires means { meaning ≡ meaning_in (entry_of entry.now) }
-    ensures { result ≡ may_come params.now (specs_at taps.now) (map entry_of earlier.now)
+    ensures { result ≡ may_come params.now (specs_in taps.entry) (map entry_of earlier.now)
         (option_map last_of last.entry) (entry_of entry.now) }
 {
     match entry {
@@ -64,7 +67,7 @@ fn may_come(
 }
 
 /// The last initiator record behind an entry, which has the earlier ones before it.
-fn last_after<'a>(
+pub(crate) fn last_after<'a>(
     params: &BusParams,
     earlier: &[Entry],
     ends: &Ends,
@@ -105,7 +108,7 @@ fn is_slot_silent(params: &BusParams, earlier: &[Entry], ends: &Ends, telegram: 
 /// Whether an initiator record is legal behind the last one: the first of all has to be a claim.
 fn may_follow(
     params: &BusParams,
-    taps: &[Tap],
+    taps: Addresses<'_>,
     earlier: &[Entry],
     ends: &Ends,
     last: Option<LastInitiator>,
@@ -114,7 +117,7 @@ fn may_follow(
 ) -> bool
     requires ends { AreEnds params.now.ttd telegram.now.begin (map entry_of earlier.now) ends.now }
     requires means { meaning ≡ meaning_of (initiators.telegram_of (record_of telegram.now)) }
-    ensures { result ≡ may_follow params.now (specs_at taps.now) (map entry_of earlier.now)
+    ensures { result ≡ may_follow params.now (specs_in taps.entry) (map entry_of earlier.now)
         (option_map last_of last.entry) (record_of telegram.now) }
 {
     match last {
@@ -148,9 +151,9 @@ fn slot_after<'a>(
 
 /// Whether a telegram follows the last initiator record: after one that offers the token to nobody its
 /// speaker goes on.
-fn follows(params: &BusParams, taps: &[Tap], last: LastInitiator, telegram: &Record) -> bool
+fn follows(params: &BusParams, taps: Addresses<'_>, last: LastInitiator, telegram: &Record) -> bool
     ensures { result
-        ≡ goes_on_after params.now (specs_at taps.now) (last_of last.entry)
+        ≡ goes_on_after params.now (specs_in taps.entry) (last_of last.entry)
         (initiators.offered_to (last_of last.entry).telegram) (record_of telegram.now) }
 {
     match offered_by(last.meaning) {
@@ -163,7 +166,7 @@ fn follows(params: &BusParams, taps: &[Tap], last: LastInitiator, telegram: &Rec
 /// active at the speaker for its time-out.
 fn claims(
     params: &BusParams,
-    taps: &[Tap],
+    taps: Addresses<'_>,
     earlier: &[Entry],
     ends: &Ends,
     telegram: &Record,
@@ -171,10 +174,10 @@ fn claims(
 ) -> bool
     requires ends { AreEnds params.now.ttd telegram.now.begin (map entry_of earlier.now) ends.now }
     requires means { meaning ≡ meaning_of (initiators.telegram_of (record_of telegram.now)) }
-    ensures { result ≡ claims_after params.now (specs_at taps.now) (map entry_of earlier.now)
+    ensures { result ≡ claims_after params.now (specs_in taps.entry) (map entry_of earlier.now)
         (record_of telegram.now) }
 {
-    let address = address_at(taps, telegram.tap);
+    let address = taps.at(telegram.tap);
     let begin = telegram.begin;
     let from = begin.saturating_sub(params.tto(address));
     claims_for(meaning, address) && ends.is_silent(earlier, params.ttd(), telegram.tap, from, begin)
@@ -193,39 +196,30 @@ fn is_in_slot(params: &BusParams, telegram: &Record, entry: &Entry) -> bool
 /// the station that heard it whole has taken it within the slot.
 fn follows_token(
     params: &BusParams,
-    taps: &[Tap],
+    taps: Addresses<'_>,
     last: LastInitiator,
     to: u8,
     telegram: &Record,
 ) -> bool
     ensures { result
-        ≡ takes_after params.now (specs_at taps.now) (last_of last.entry) to (record_of telegram.now) }
+        ≡ takes_after params.now (specs_in taps.entry) (last_of last.entry) to (record_of telegram.now) }
 {
     let is_late = is_slot_over(last.telegram.end, params.tsl(), telegram.begin);
     if last.telegram.tap == telegram.tap {
         return is_late && last.silent;
     }
-    to == address_at(taps, telegram.tap) && is_whole(last.telegram, telegram.tap) && !is_late
-}
-
-fn address_at(taps: &[Tap], tap: usize) -> u8
-    ensures { result ≡ legality.address_at (specs_at taps.now) tap }
-{
-    match taps.get(tap) {
-        Some(tap) => tap.station.address(),
-        None => NO_ADDRESS,
-    }
+    to == taps.at(telegram.tap) && is_whole(last.telegram, telegram.tap) && !is_late
 }
 
 /// Whether the slot behind an end is over at a moment.
-fn is_slot_over(end: u64, slot: u32, moment: u64) -> bool
+pub(crate) fn is_slot_over(end: u64, slot: u32, moment: u64) -> bool
     ensures { result ≡ nat_le (end + slot) moment }
 {
     end <= moment && u64::from(slot) <= moment - end
 }
 
 /// Whether a telegram came whole to a tap.
-fn is_whole(telegram: &Record, tap: usize) -> bool
+pub(crate) fn is_whole(telegram: &Record, tap: usize) -> bool
     ensures { result ≡ legality.is_whole (slice_get (record_of telegram.now).heard tap) }
 {
     matches!(telegram.heard.get(tap), Some(Heard::Whole))

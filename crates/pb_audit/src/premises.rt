@@ -1,6 +1,9 @@
+//! The premises of a run: a watch over its events, to the first premise that breaks.
+
 ghost use Rattle.std.specs.Prelude.{◌≡◌, ◌+◌, ◌-◌, ◌≤◌, ◌&&◌, nat_le, IfErr, OnOk, Ok, length, map};
 ghost use Rattle.std.specs.List.{list_any};
 ghost use Rattle.std.specs.Option.{option_map};
+ghost use Rattle.pb_model.specs.Laws.{IsEvent};
 ghost use Rattle.pb_model.specs.Step.{step};
 ghost use Rattle.pb_model.specs.World as model;
 ghost use Rattle.pb_theorem.specs.Premises as premises;
@@ -44,9 +47,9 @@ pub(crate) struct Breach {
 
 /// A tap that had waited out its time-out, and when.
 #[derive(Clone, Copy, Debug)]
-struct Waited {
-    tap: usize,
-    moment: Moment,
+pub(crate) struct Waited {
+    pub(crate) tap: usize,
+    pub(crate) moment: Moment,
 }
 
 /// The taps that have waited out their time-outs at a clock.
@@ -71,14 +74,14 @@ pub(crate) struct Foresight {
 #[derive(Clone, Copy, Debug)]
 pub(crate) struct Watch {
     /// The moment since which each tap has been in silence, in bit times.
-    quiet: [u64; TAP_LIMIT],
+    pub(crate) quiet: [u64; TAP_LIMIT],
     /// No tap has been in silence since before this moment.
     oldest: u64,
     /// Whether two running taps have one address.
     namesakes: bool,
     /// The tap that was the last to wait out its time-out, and when. As long as no two have met, it decides
     /// whether a later one meets any.
-    waited: Option<Waited>,
+    pub(crate) waited: Option<Waited>,
     /// The first premise that broke.
     broken: Option<Breach>,
 }
@@ -137,6 +140,7 @@ pub(crate) fn follow(
     requires kept { IsKept bus.old }
     requires knows { Knows watch.old (world_of bus.old) }
     ensures kept { IsKept bus.new }
+    ensures event { IsEvent (event_of event.now) }
     ensures steps { OnOk result ((reply : model.Reply)
         × (step (world_of bus.old) (event_of event.now) ≡ Ok (world_of bus.new, reply))) }
     ensures knows { OnOk result (Knows watch.new (world_of bus.new)) }
@@ -172,7 +176,7 @@ fn listen(quiet: &mut [u64; TAP_LIMIT], oldest: u64, bus: &Bus, event: &Event) -
 }
 
 /// How much time passes in an event, if it does.
-fn time_in(event: &Event) -> Option<u64>
+pub(crate) fn time_in(event: &Event) -> Option<u64>
     ensures { result ≡ time_in (event_of event.now) }
 {
     match event {
@@ -322,7 +326,7 @@ fn has_waited(bus: &Bus, position: usize, tap: &Tap, quiet: u64) -> bool
 }
 
 /// The first tap from a position on that has waited out its time-out.
-fn first_waiting(bus: &Bus, quiet: &[u64; TAP_LIMIT], from: usize) -> Option<usize>
+pub(crate) fn first_waiting(bus: &Bus, quiet: &[u64; TAP_LIMIT], from: usize) -> Option<usize>
     requires kept { IsKept bus.now }
     requires silent { IsQuiet (world_of bus.now) quiet.now }
     requires place { from ≤ length bus.now.taps.items }

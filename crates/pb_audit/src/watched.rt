@@ -1,3 +1,5 @@
+//! A bus that is watched from its first event on.
+
 ghost use Rattle.std.specs.Prelude.{◌≡◌, [], Ok, IfOk, IfErr, map};
 ghost use Rattle.std.specs.Option.{option_map};
 ghost use Rattle.pb_model.specs.World.{new_world};
@@ -7,6 +9,7 @@ ghost use Rattle.pb_audit.specs.Watched.{HasCome, world_in};
 ghost use Rattle.pb_taps.specs.Faults.{RefusesNew};
 ghost use Rattle.pb_taps.specs.Taps.{spec_of};
 
+use crate::addresses::Addresses;
 use crate::findings::Audit;
 use crate::legality::first_illegal;
 use crate::premises::{Breach, Watch, follow};
@@ -50,6 +53,7 @@ impl Watched {
     /// Faults: those of the event on a bus; after one, nothing more can be watched.
     pub fn follow(&mut self, alloc: Global, event: &Event) -> Result<(), WorldFault>
         requires { IsWatched self.old }
+        ensures watched { OnOk result (IsWatched self.new) }
         ensures came { OnOk result (GoesOnBy self.old (event_of event.now) self.new) }
         ensures steps { OnOk result ((reply : model.Reply)
             × (step (world_in self.old) (event_of event.now) ≡ Ok (world_in self.new, reply))) }
@@ -69,7 +73,11 @@ impl Watched {
     {
         Audit {
             premise: numbered(self.watch.first_broken()),
-            illegal: first_illegal(&self.bus.params, &self.bus.taps, self.bus.trace.entries()),
+            illegal: first_illegal(
+                &self.bus.params,
+                Addresses::OfTaps(&self.bus.taps),
+                self.bus.trace.entries(),
+            ),
         }
     }
 

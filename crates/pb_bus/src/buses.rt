@@ -27,7 +27,9 @@ pub struct Bus {
 
 impl Bus {
     ghost use Rattle.std.specs.Prelude.{◌≡◌, ◌+◌, ◌<◌, None, IsTrue, ◌↔◌, IfOk, MatchOption, length, slice_get};
+    ghost use Rattle.pb_model.specs.Laws.{IsEvent};
     ghost use Rattle.pb_model.specs.World as events;
+    ghost use Rattle.pb_turn.specs.Laws.{IsRequest};
     ghost use Rattle.pb_core.specs.Clocks.{is_past};
     ghost use Rattle.pb_bus.specs.Buses.{world_of, Does, IsKept};
     ghost use Rattle.pb_medium.specs.Entries.{hit_of};
@@ -35,8 +37,9 @@ impl Bus {
     ghost use Rattle.pb_bus.specs.Worlds.{due_at, IsStationAt};
     ghost use Rattle.pb_bus.specs.Glances.{CanBeDecided, Fits, IsGlance};
 
-    /// Does an event. What a station says in it stands in `sent`. It is called, and not put in place, so that a caller
-    /// doesn't clear at each event the room that a seldom one takes.
+    /// Does an event. What a station says in it stands in `sent`. A request of the event has an address and data that a
+    /// request may have, by its type. It is a call of its own, so that a caller doesn't clear at each event the memory
+    /// that a rare one takes.
     ///
     /// Faults: those of the event ([`WorldFault`]), the first that applies.
     #[inline(never)]
@@ -44,6 +47,7 @@ impl Bus {
         requires { IsKept self.old }
         ensures follows { Does self.old (event_of event.now) result self.new }
         ensures kept { IsKept self.new }
+        ensures event { IsEvent (event_of event.now) }
     {
         match event {
             Event::Turn(tap) => self.turn(alloc, *tap),
@@ -169,6 +173,7 @@ impl Bus {
         requires { IsKept self.old }
         ensures follows { Does self.old (events.Queue tap request.now) result self.new }
         ensures kept { IsKept self.new }
+        ensures request { IsRequest request.now }
     {
         queue(&mut self.taps, tap, request.copy())?;
         self.sent.clear();

@@ -1,4 +1,8 @@
-ghost use Rattle.std.specs.Prelude.{◌≡◌, Ok, IfOk, IfErr, map};
+//! Makes a new bus.
+
+ghost use Rattle.std.specs.Prelude.{◌≡◌, Ok, IfOk, IfErr, OnOk, map};
+ghost use Rattle.pb_timers.specs.ParamRules.{IsValid};
+ghost use Rattle.pb_model.specs.Laws.{AllFit};
 ghost use Rattle.pb_model.specs.World.{new_world};
 ghost use Rattle.pb_bus.specs.Buses.{world_of, IsBlank, IsKept};
 ghost use Rattle.pb_taps.specs.Faults.{RefusesNew};
@@ -14,10 +18,14 @@ use std::alloc::Global;
 
 /// A bus whose taps don't run yet, at clock 0.
 ///
+/// The parameters meet their rules and the data to reply fit into telegrams, by their types.
+///
 /// Faults: those of a new world ([`NewFault`]), the first that applies.
 pub fn new_bus(alloc: Global, params: BusParams, specs: &[TapSpec]) -> Result<Bus, NewFault>
     ensures ok { IfOk result (λ bus. new_world params (map spec_of specs.now) ≡ Ok (world_of bus)) }
     ensures kept { IfOk result IsKept }
+    ensures valid { IsValid params }
+    ensures fit { OnOk result (AllFit (map spec_of specs.now)) }
     ensures blank { IfOk result (λ bus. IsBlank (world_of bus)) }
     ensures fault { IfErr result (RefusesNew (new_world params (map spec_of specs.now))) }
 {

@@ -1,9 +1,12 @@
 -- What the program may be asked.
+use Rattle.pb_cli.specs.Bounding.{IsBaud}
 use Rattle.pb_cli.specs.Playing.{IsUpTo, line_limit, worker_limit}
 use Rattle.pb_cli.specs.declared.words.Ask.{Ask}
-use Rattle.pb_cli.specs.declared.words.Ask.TheVariants.{Decode, Run, Audit}
+use Rattle.pb_cli.specs.declared.words.Ask.TheVariants.{Decode, Run, Audit, Bounds, Version}
 
 abbrev pub IsWithinLimits : Ask → Type 0
 IsWithinLimits Decode = Unit {0}
 IsWithinLimits (Run file workers last) = IsUpTo worker_limit workers × IsUpTo line_limit last
 IsWithinLimits (Audit file) = Unit {0}
+IsWithinLimits Version = Unit {0}
+IsWithinLimits (Bounds file baud json) = IsBaud baud

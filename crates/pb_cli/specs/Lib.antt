@@ -1,4 +1,5 @@
 pub mod Asking
+pub mod Bounding
 pub mod Counted
 pub mod Counts
 pub mod Playing

@@ -1,3 +1,5 @@
+//! The audit of a scenario file.
+
 ghost use Rattle.std.specs.Prelude.{◌≡◌, ◌≢◌, ◌≤◌, ◌<◌, ◌+◌, length, Err, IfOk, IfErr, OnOk, IfSome, IsErrOf};
 ghost use Rattle.std.specs.Io.KnownBytes.{Appends, Keeps};
 ghost use Rattle.pb_show.specs.Files.{audit_of};
@@ -9,7 +11,7 @@ use crate::faults::{CliFault, Status};
 use crate::reading::read_input;
 use crate::streams::{Sink, Source};
 use crate::writing::write_out;
-use pb_show::audited;
+use pb_show::{Reasons, audited};
 use std::alloc::Global;
 
 /// Reads a scenario file to the end of the reader, and writes the audit of its run on one thread: a line for the first
@@ -57,8 +59,62 @@ pub fn audit_file<R: Source, W: Sink>(
     ensures nothing { IfErr result (λ fault. fault ≢ CliFault.Write
         → Keeps (W.contents writer.old) (W.contents writer.new)) }
 {
+    Ok(audit_with_reasons(alloc, reader, writer)?.status)
+}
+
+/// How an audit ended that wrote its whole text, and what it found.
+#[derive(Clone, Copy, Debug, PartialEq, Eq)]
+pub struct Found {
+    /// The status, as [`audit_file`] gives it.
+    pub status: Status,
+    /// What the audit found, and why; none where the file or its run is refused.
+    pub reasons: Option<Reasons>,
+}
+
+/// Reads and writes as [`audit_file`] does, and answers why the audit found what it found too.
+///
+/// Faults: those of `audit_file`.
+pub fn audit_with_reasons<R: Source, W: Sink>(
+    alloc: Global,
+    reader: &mut R,
+    writer: &mut W,
+) -> Result<Found, CliFault>
+    ensures text { OnOk result (IfSome (R.remaining reader.old) (λ file.
+        Appends (W.contents writer.old) (W.contents writer.new) (audit_of file).text)) }
+    ensures status { IfOk result (λ found. IfSome (R.remaining reader.old) (λ file.
+        found.status ≡ status_of (audit_of file).is_refused)) }
+    ensures fits { OnOk result (IfSome (R.remaining reader.old) (λ file. length file ≤ byte_limit)) }
+
+    ensures write_fits { IsErrOf result CliFault.Write
+        → IfSome (R.remaining reader.old) (λ file. length file ≤ byte_limit) }
+    ensures calls { R.calls reader.new ≤ R.calls reader.old + call_limit }
+
+    // A fault comes only where its cause is.
+    ensures read { IsErrOf result CliFault.Read
+        → IsReadCause (R.failures reader.old) (R.failures reader.new)
+        (R.calls reader.old) (R.calls reader.new) (R.interruptions reader.old) (R.interruptions reader.new) }
+    ensures too_long { IsErrOf result CliFault.TooLong
+        → IfSome (R.remaining reader.old) (λ file. byte_limit < length file) }
+    ensures write { IsErrOf result CliFault.Write
+        → IsWriteCause (W.failures writer.old) (W.failures writer.new)
+        (W.interruptions writer.old) (W.interruptions writer.new) (W.in_a_row writer.new) }
+
+    // A failure of the reader or of the writer is told.
+    ensures reader_failed { result ≢ Err CliFault.Read → R.failures reader.new ≡ R.failures reader.old }
+    ensures writer_failed { result ≢ Err CliFault.Write → W.failures writer.new ≡ W.failures writer.old }
+
+    // After a failed write a front of the text went out, after another fault nothing.
+    ensures front { IsErrOf result CliFault.Write → IfSome (R.remaining reader.old) (λ file.
+        AppendsFront (W.contents writer.old) (W.contents writer.new) (audit_of file).text) }
+    ensures nothing { IfErr result (λ fault. fault ≢ CliFault.Write
+        → Keeps (W.contents writer.old) (W.contents writer.new)) }
+{
     let file = read_input(alloc, reader)?;
-    let shown = audited(alloc, &file)?;
+    let mut reasons = None;
+    let shown = audited(alloc, &file, &mut reasons)?;
     write_out(writer, &shown.text)?;
-    Ok(Status::of(shown.is_refused))
+    Ok(Found {
+        status: Status::of(shown.is_refused),
+        reasons,
+    })
 }

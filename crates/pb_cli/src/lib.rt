@@ -1,7 +1,7 @@
 //! What the program `ringplay` does, over any reader and writer.
 //!
 //! [`ask`] reads the program's words, [`decode_lines`] turns lines of hex into lines of text, [`play`]
-//! plays a scenario file with some workers, and [`audit_file`] judges its run. The contracts name the bytes: what is
+//! plays a scenario file with some workers, [`audit_file`] judges its run, and [`bounds_file`] tells the bounds of its bus. The contracts name the bytes: what is
 //! written is a stated function of what is read, and `Read`, `TooLong` and `Write` come only where their cause is.
 //! [`Source`] and [`Sink`] are what is read from and written to; [`CountedReader`] and [`CountedWriter`] make them of
 //! any reader and writer of std.
@@ -10,6 +10,7 @@
 mod answers;
 mod asking;
 mod auditing;
+mod bounding;
 mod counted_reader;
 mod counted_writer;
 mod decoding;
@@ -20,12 +21,14 @@ mod streams;
 mod words;
 mod writing;
 
-pub use asking::ask;
-pub use auditing::audit_file;
+pub use asking::{VERSION, ask, ask_with_options};
+pub use auditing::{Found, audit_file, audit_with_reasons};
+pub use bounding::bounds_file;
 pub use counted_reader::CountedReader;
 pub use counted_writer::CountedWriter;
 pub use decoding::decode_lines;
 pub use faults::{CliFault, Status};
 pub use playing::play;
+pub use reading::read_input;
 pub use streams::{ReadFault, Sink, Source, WriteFault};
-pub use words::{Ask, AskFault};
+pub use words::{Ask, AskFault, Asked};

@@ -1,3 +1,5 @@
+//! The run of a scenario file.
+
 ghost use Rattle.std.specs.Prelude.{◌≡◌, ◌≢◌, ◌≤◌, ◌<◌, ◌+◌, length, Err, IfOk, IfErr, OnOk, IfSome, IsErrOf};
 ghost use Rattle.std.specs.Io.KnownBytes.{Keeps};
 ghost use Rattle.pb_show.specs.FleetFaults.{IsCrew};
@@ -12,7 +14,8 @@ use crate::faults::{CliFault, Status};
 use crate::reading::read_input;
 use crate::streams::{Sink, Source};
 use crate::writing::write_out;
-use pb_show::{Gate, Scenario, Shown, described, refused_file, refused_fleet, run_fleet, traced};
+use pb_fleet::{Gate, run_fleet};
+use pb_show::{Scenario, Shown, described, refused_file, refused_fleet, traced};
 use std::alloc::{AllocError, Global};
 use std::sync::Wait;
 use std::thread;

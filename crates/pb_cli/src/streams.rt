@@ -1,22 +1,30 @@
+//! What calls read from and write to: streams that count how often they fail.
+
 ghost use Rattle.std.specs.Prelude.{◌≡◌, ◌≤◌, ◌<◌, ℕ, List, Option, length, IfOk};
 ghost use Rattle.std.specs.Io.KnownBytes.{ReadConsumes, WriteAppends};
 ghost use Rattle.pb_cli.specs.Counts.{one_more, read_failures, read_interruptions, write_failures, write_interruptions, writes_in_a_row};
 
+use thiserror::Error;
+
 /// Why a read gave no bytes.
-#[derive(Clone, Copy, Debug, PartialEq, Eq)]
+#[derive(Clone, Copy, Debug, PartialEq, Eq, Error)]
 pub enum ReadFault {
     /// It was interrupted, and may be tried again.
+    #[error("interrupted")]
     Interrupted,
     /// The reader failed.
+    #[error("read fault")]
     Failed,
 }
 
 /// Why a write took no bytes.
-#[derive(Clone, Copy, Debug, PartialEq, Eq)]
+#[derive(Clone, Copy, Debug, PartialEq, Eq, Error)]
 pub enum WriteFault {
     /// It was interrupted, and may be tried again.
+    #[error("interrupted")]
     Interrupted,
     /// The writer failed, or took none of the bytes.
+    #[error("write fault")]
     Failed,
 }
 

@@ -1,3 +1,5 @@
+//! What the program may be asked.
+
 ghost use Rattle.std.specs.Prelude.{◌≡◌};
 ghost use Rattle.pb_cli.specs.declared.words.AskFault.TheVariants.{NoMemory};
 
@@ -23,6 +25,26 @@ pub enum Ask {
         /// The file's path.
         file: String,
     },
+    /// Tell the bounds of a scenario file's bus.
+    Bounds {
+        /// The file's path.
+        file: String,
+        /// How many bits a second the bus has, 9,600 to 12,000,000.
+        baud: u32,
+        /// Whether they are wanted as one JSON object.
+        json: bool,
+    },
+    /// Print the version.
+    Version,
+}
+
+/// What the program is asked, and how much it says.
+#[derive(Debug, PartialEq, Eq, Drop)]
+pub struct Asked {
+    /// What to do.
+    pub ask: Ask,
+    /// Whether hints and warnings are left out.
+    pub is_quiet: bool,
 }
 
 /// Why the program's words ask for nothing that it can do.

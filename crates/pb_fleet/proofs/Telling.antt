@@ -13,13 +13,13 @@ use Rattle.pb_runs.specs.Histories.{Leads, IsSoAfter}
 use Rattle.pb_runs.specs.Laws.{Look, AreLooks, IsRunOf}
 use Rattle.pb_runs.specs.Scenarios.{Scenario, trace_of}
 use Rattle.pb_runs.proofs.OnTheBus.{history-is-run}
-use Rattle.pb_segment.specs.Histories.{Happened, Replays}
-use Rattle.pb_segment.specs.Origins.{Origin, IsMadeOf, IsNew, origin_of}
+use Rattle.pb_segment.specs.Histories.{Happened, Replays, events_in}
+use Rattle.pb_segment.specs.Origins.{Origin, IsMadeOf, origin_of}
 use Rattle.pb_segment.specs.Outlooks.{IsOutlookOf}
 use Rattle.pb_segment.specs.Reports.{ReportView, IsReport}
 use Rattle.pb_segment.specs.declared.outlooks.Outlook.{Outlook}
-use Rattle.pb_segment.proofs.NewWorlds.{new_is, made_specs, made_new}
-use Rattle.pb_fleet.specs.Played.{LeavesToken, begins, events_in, looks_of}
+use Rattle.pb_segment.proofs.NewWorlds.{new_is, made_specs}
+use Rattle.pb_fleet.specs.Played.{IsPlayed, begins, looks_of}
 
 -- ---- histories
 
@@ -67,14 +67,15 @@ is_the_run s r origin is run =
     (leads r.history is.first is.last is.replays) known run in
     end ∙ ap (λ (t : List Entry). Some (Ok t)) (sym is.trace)
 
-pub leaves_token : (s : Scenario) (r : ReportView) → r.origin ≡ begins s → IsReport r → LeavesToken s r
-leaves_token s r origin is = record {
+pub is_played : (s : Scenario) (r : ReportView) → r.origin ≡ begins s → IsReport r → IsPlayed s r
+is_played s r origin is = record {
   first = is.first;
   last = is.last;
   made = made_of s r.origin is.first origin is.made;
   replays = is.replays;
   trace = is.trace;
-  token = is.token;
+  lead = is.lead;
+  promises = is.promises;
 }
 
 -- ---- of what a scenario's new world is made
@@ -84,6 +85,3 @@ begins_so s w new =
     let params : w.params ≡ s.params = ap (λ (z : World). z.params) (sym (new_is s.params s.taps w new)) in
     let specs : specs_of w ≡ s.taps = made_specs (begins s) w new in
     ap (λ (p : Params). record { params = p; specs = specs_of w }) params ∙ ap (λ (l : List TapSpec). record { params = s.params; specs = l }) specs
-
-pub is_new : (s : Scenario) (w : World) → new_world s.params s.taps ≡ Ok w → IsNew w
-is_new s w new = made_new s.params s.taps w new

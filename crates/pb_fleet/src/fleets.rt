@@ -1,11 +1,14 @@
+//! Plays a scenario with a crew of workers.
+
 ghost use Rattle.std.specs.Prelude.{◌≡◌, ◌+◌, ◌≤◌, true, Some, Ok, IfOk, IfErr, OnOk, length, map};
 ghost use Rattle.pb_model.specs.World.{new_world};
 ghost use Rattle.pb_runs.specs.Laws.{IsRunOf};
 ghost use Rattle.pb_runs.specs.Scenarios.{trace_of};
+ghost use Rattle.pb_segment.specs.Histories.{events_in};
 ghost use Rattle.pb_segment.specs.Origins.{IsNew, origin_of};
 ghost use Rattle.pb_segment.specs.Reports.{IsReport};
 ghost use Rattle.pb_fleet.specs.Faults.{IsCrew, RefusesFleet};
-ghost use Rattle.pb_fleet.specs.Played.{LeavesToken, begins, events_in, looks_of};
+ghost use Rattle.pb_fleet.specs.Played.{IsPlayed, begins, looks_of};
 
 use crate::conductors::Conductor;
 use crate::drawers::{Drawer, helpers};
@@ -29,8 +32,10 @@ const MOST_WORKERS: usize = 64;
 
 /// Plays a scenario with some workers, one in this thread and each other in one of its own, and gives the report of all
 /// that has happened. The report's trace is that of the scenario's run on one thread, for every number of workers,
-/// every schedule and every gate; and it has one token while the premises are kept (medium access: token
-/// passing).
+/// every schedule and every gate. Where the events of its history break no premise, one station at most may initiate after
+/// them, the trace names it, and each initiator telegram is legal (medium access: token passing). Where none of them loses
+/// a telegram or lets a turn come late, no running master that isn't offline has been left in silence for longer than its
+/// time-out and the lag.
 ///
 /// A conductor drives the steps of the scenario, and time from one instant to the next. In each instant it
 /// offers the turns of all taps that are due and aren't withheld, all together. Workers, the conductor among
@@ -52,7 +57,7 @@ pub fn run_fleet<R: Threads + Wait + Sync, G: Gate>(
     gate: &G,
 ) -> Result<Report, FleetFault>
     ensures run { IfOk result (λ r. trace_of scenario.now.scenario ≡ Some (Ok r.trace)) }
-    ensures token { IfOk result (LeavesToken scenario.now.scenario) }
+    ensures played { IfOk result (IsPlayed scenario.now.scenario) }
     ensures crew { OnOk result (IsCrew workers) }
     ensures refused { IfErr result (RefusesFleet workers
         (new_world scenario.now.scenario.params scenario.now.scenario.taps)) }
@@ -87,7 +92,7 @@ fn fleet<L: Ledger + Send + Sync, R: Threads + Wait + Sync, G: Gate>(
     requires origin { origin_of world ≡ begins scenario.now.scenario }
     requires crew { IsCrew workers }
     ensures run { IfOk result (λ r. trace_of scenario.now.scenario ≡ Some (Ok r.trace)) }
-    ensures token { IfOk result (LeavesToken scenario.now.scenario) }
+    ensures played { IfOk result (IsPlayed scenario.now.scenario) }
 {
     let (segment, seat, seats) = SharedSegment::<L>::new(alloc, blank, world)?;
     let crew = workers.min(seats.len()).max(1);
@@ -127,7 +132,7 @@ fn reviewed(scenario: &Scenario, report: Report, is_run: bool) -> Result<Report,
     requires review { is_run ≡ true
         → IsRunOf scenario.now.scenario (looks_of report.outlooks) (events_in report.history) }
     ensures run { IfOk result (λ r. trace_of scenario.now.scenario ≡ Some (Ok r.trace)) }
-    ensures token { IfOk result (LeavesToken scenario.now.scenario) }
+    ensures played { IfOk result (IsPlayed scenario.now.scenario) }
 {
     if is_run {
         Ok(report)

@@ -1,6 +1,9 @@
+//! Reviews what has happened on a segment: whether it is the run of a scenario.
+
 ghost use Rattle.std.specs.Prelude.{◌≡◌, true, IfOk};
 ghost use Rattle.pb_runs.specs.Laws.{IsRunOf};
-ghost use Rattle.pb_fleet.specs.Played.{events_in, looks_of};
+ghost use Rattle.pb_segment.specs.Histories.{events_in};
+ghost use Rattle.pb_fleet.specs.Played.{looks_of};
 
 use pb_review::{Look, is_run};
 use pb_scenario::Scenario;
@@ -14,7 +17,8 @@ struct Played<'a> {
 }
 
 impl<'a> pb_review::Report for Played<'a> {
-    ghost use Rattle.pb_fleet.specs.Played.{events_in, looks_of};
+    ghost use Rattle.pb_segment.specs.Histories.{events_in};
+    ghost use Rattle.pb_fleet.specs.Played.{looks_of};
 
     ghost events = { λ p. events_in p.draft.history };
 

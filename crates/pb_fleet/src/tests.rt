@@ -1,10 +1,12 @@
+//! Tests of fleets: what no contract says of workers that play side by side, and of the faults that end them.
+
 use crate::{FleetFault, Gate, run_fleet};
 use pb_scenario::{Scenario, read};
 use pb_segment::{CommitFault, Entry, NewFault, WorldFault};
 use std::alloc::{AllocError, Global};
 use std::process::Abort;
 use std::sync::Wait;
-use std::sync::atomic::{AtomicBool, Ordering};
+use std::sync::atomic::{AtomicBool, AtomicUsize, Ordering};
 use std::thread::Threads;
 
 /// Two masters that start at 0, up to 1,400.
@@ -192,6 +194,129 @@ fn workers_run_side_by_side(rt: HostRuntime) {
     }
 }
 
+/// With so many taps as fill words of eight and lists, and one more or less, the trace is that of the one master. Memory is
+/// ample, and no call says that more is wanted; and all helpers leave.
+#[test]
+fn plays_with_any_number_of_taps(rt: HostRuntime) {
+    for taps in [1, 7, 8, 9, 15, 16, 17, 31, 33, 63, 65, 127] {
+        plays(&rt, taps, 2);
+    }
+    for taps in [4, 9, 64] {
+        plays(&rt, taps, taps);
+    }
+}
+
+/// A segment of so many taps is played by some workers.
+fn plays<R: AllocGlobal + Abort + Threads + Wait + Sync>(rt: &R, taps: usize, workers: usize) {
+    let alloc = rt.alloc();
+    let text = segment(rt, taps);
+    let scenario = scenario(rt, alloc, text.as_str());
+    let report = run_fleet(rt, alloc, &scenario, workers, &Open).expect(rt, "a report");
+    let begins = [800u64, 870, 940];
+    assert!(rt; report.trace().iter().map(begin_of).eq(begins), "{taps}");
+}
+
+/// A file of a master and passive stations at so many taps in all, which all start at 0, up to 1,000.
+fn segment(rt: &(impl AllocGlobal + Abort), taps: usize) -> String {
+    let mut tables = String::new(rt.alloc());
+    for tap in 0..taps {
+        let kind = if tap == 0 { "master" } else { "passive" };
+        write!(
+            tables,
+            "[[tap]]\nname = 't{tap}'\nkind = '{kind}'\naddress = 1\n[[step]]\nat = 0\ndo = 'start'\ntap = 't{tap}'\n"
+        )
+        .expect(rt, "memory");
+    }
+    format!(in rt.alloc();
+        "version = 2
+until = 1000
+bus = {{ tsl = 100, tid1 = 37, tid2 = 60, tsdr = 11, lag = 0, ttr = 10000, gap = 10, hsa = 5, retries = 1, ttd = 0 }}
+{tables}"
+    )
+    .expect(rt, "memory")
+}
+
+/// Of two who come to it in one instant the first waits for the second, and one of them is not let through. As the
+/// conductor is one of them, the other is a helper.
+#[derive(Drop)]
+struct Ambush {
+    come: AtomicUsize,
+    refused: usize,
+}
+
+impl Gate for Ambush {
+    fn between(&self, tap: usize) -> bool {
+        if tap == 0 {
+            return true;
+        }
+        let place = self.come.fetch_add(1, Ordering::SeqCst);
+        for _ in 0..1_000_000_000u64 {
+            if self.come.load(Ordering::SeqCst) > 1 {
+                break;
+            }
+        }
+        place != self.refused
+    }
+}
+
+/// The fault of a turn is told, whether the conductor has met it or a helper.
+#[test]
+fn tells_the_fault_of_a_helper(rt: HostRuntime) {
+    let alloc = rt.alloc();
+    let scenario = scenario(&rt, alloc, THREE_MASTERS);
+    for refused in [0, 1] {
+        let gate = Ambush {
+            come: AtomicUsize::new(0),
+            refused,
+        };
+        let fault = run_fleet(&rt, alloc, &scenario, 2, &gate).err();
+        assert!(rt;
+            matches!(fault, Some(FleetFault::GateClosed(1 | 2))),
+            "{refused}"
+        );
+    }
+}
+
+/// Lets each tap through, and keeps which have come.
+#[derive(Drop)]
+struct Seen {
+    taps: [AtomicBool; 2],
+}
+
+impl Gate for Seen {
+    fn between(&self, tap: usize) -> bool {
+        if let Some(seen) = self.taps.get(tap) {
+            seen.store(true, Ordering::SeqCst);
+        }
+        true
+    }
+}
+
+impl Seen {
+    fn has_seen(&self, tap: usize) -> bool {
+        match self.taps.get(tap) {
+            Some(seen) => seen.load(Ordering::SeqCst),
+            None => false,
+        }
+    }
+
+    /// The number of a fault for want of memory: 2 of a commit, which comes behind the gate, 3 of a drive, 5 of a
+    /// thread, where others than the conductor work, and 7 of all else. None of another fault.
+    fn number(&self, fault: FleetFault, workers: usize) -> Option<u8> {
+        const REFUSED: CommitFault = CommitFault::World(WorldFault::NoMemory);
+        match fault {
+            FleetFault::Commit { tap, now, fault } => {
+                let is_behind = self.has_seen(tap) && now >= 800;
+                (fault == REFUSED && is_behind).then_some(2)
+            }
+            FleetFault::Drive { fault, .. } => (fault == REFUSED).then_some(3),
+            FleetFault::NoThread => (workers > 1).then_some(5),
+            FleetFault::NoMemory => Some(7),
+            _ => None,
+        }
+    }
+}
+
 /// Run with one allocation refused: a fleet plays, or memory was refused.
 #[test]
 fn refused_memory_in_a_fleet_of_one(rt: HostRuntime) {
@@ -212,20 +337,17 @@ fn is_refused_or_plays<R: AllocGlobal + Abort + Print + Threads + Wait + Sync>(
         let _ = println!(rt; "refused");
         return;
     };
-    match run_fleet(rt, alloc, &scenario, workers, &Open) {
-        Ok(report) => assert_eq!(rt; report.trace().len(), 7),
+    let gate = Seen {
+        taps: [AtomicBool::new(false), AtomicBool::new(false)],
+    };
+    match run_fleet(rt, alloc, &scenario, workers, &gate) {
+        Ok(report) => {
+            let begins = [800u64, 870, 940, 1017, 1120, 1190, 1356];
+            assert!(rt; report.trace().iter().map(begin_of).eq(begins));
+        }
         Err(fault) => {
-            assert!(rt; is_want_of_memory(fault), "{fault}");
+            assert!(rt; gate.number(fault, workers).is_some(), "{fault}");
             let _ = println!(rt; "refused");
         }
-    }
-}
-
-fn is_want_of_memory(fault: FleetFault) -> bool {
-    const REFUSED: CommitFault = CommitFault::World(WorldFault::NoMemory);
-    match fault {
-        FleetFault::Commit { fault, .. } | FleetFault::Drive { fault, .. } => fault == REFUSED,
-        FleetFault::NoThread | FleetFault::NoMemory => true,
-        _ => false,
     }
 }

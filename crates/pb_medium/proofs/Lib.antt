@@ -4,6 +4,8 @@ pub mod Entering
 pub mod Hitting
 pub mod Lending
 pub mod Receiving
+pub mod HeardLists
+pub mod Compared
 pub mod Sensing
 pub mod Settled
 pub mod Widening

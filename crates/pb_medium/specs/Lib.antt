@@ -1,5 +1,8 @@
 pub mod Receptions
 pub mod Entries
+pub mod Making
+pub mod Comparing
+pub mod Walking
 pub mod Traces
 pub mod Senses
 pub mod Lone

@@ -1,3 +1,5 @@
+//! The entries of a trace: telegrams and noise.
+
 ghost use Rattle.std.specs.Prelude.{◌≤◌};
 ghost use Rattle.pb_timers.specs.Timers.{last_moment};
 
@@ -28,7 +30,7 @@ pub struct Hit {
     pub place: Option<u8>,
 }
 
-/// One telegram on the bus.
+/// One telegram on the bus. Two are equal where their speakers, octets, begins and ends are, and each tap heard them alike.
 #[derive(Debug, Drop)]
 pub struct Record {
     /// The tap that sent it, counted from 0.
@@ -48,7 +50,7 @@ pub struct Record {
 }
 
 /// One entry of the trace.
-#[derive(Debug, Drop)]
+#[derive(Debug, PartialEq, Eq, Drop)]
 pub enum Entry {
     /// A telegram.
     Sent(Record),
@@ -112,7 +114,7 @@ impl Entry {
     ghost use Rattle.pb_medium.specs.Entries.{entry_of};
 
     /// When it ends, in bit times.
-    pub(crate) fn end(&self) -> u64
+    pub fn end(&self) -> u64
         ensures { result ≡ entry_end (entry_of self.now) }
     {
         match self {
@@ -160,7 +162,7 @@ impl Entry {
     }
 
     /// Whether it goes before another in the trace.
-    pub(crate) fn goes_before(&self, other: &Entry) -> bool
+    pub fn goes_before(&self, other: &Entry) -> bool
         ensures { result ≡ goes_before (entry_of self.now) (entry_of other.now) }
     {
         self.begin() < other.begin() || (self.begin() == other.begin() && self.ranks_below(other))

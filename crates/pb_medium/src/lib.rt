@@ -3,11 +3,14 @@
 #![tactic(auto)]
 
 mod changing;
+mod comparing;
 mod cutting;
 mod damaging;
 mod entries;
+mod hearing;
 mod lone;
 mod losing;
+mod making;
 mod noising;
 mod placing;
 mod receptions;
@@ -20,7 +23,9 @@ mod traces;
 
 pub use changing::{next_begin, something_lasts};
 pub use entries::{Entry, Heard, Hit, Record};
+pub use hearing::HeardByTap;
 pub use lone::{Lone, lone_in};
+pub use making::RecordFault;
 pub use receptions::Reception;
 pub use senses::{
     begin_between, end_between, filling_telegram, is_in_air_by, is_reached, next_end,

@@ -31,12 +31,13 @@ impl Model for Reception {
 }
 
 impl Reception {
-    ghost use Rattle.std.specs.Prelude.{◌≡◌, ◌≤◌, ◌<◌, ℕ, IsTrue, List, false, get_or, length, slice_get, slice_set, Some};
+    ghost use Rattle.std.specs.Prelude.{◌≡◌, ◌≤◌, ◌<◌, ℕ, IsTrue, List, true, false, get_or, length, map, slice_get, slice_set, Some};
     ghost use Rattle.std.specs.Option.{option_map};
     ghost use Rattle.pb_model.specs.Medium as model;
     ghost use Rattle.pb_model.specs.Trace as trace;
     ghost use Rattle.pb_model.specs.World.{tap_limit};
     ghost use Rattle.pb_medium.specs.Entries.{heard_of};
+    ghost use Rattle.pb_medium.specs.Making.{is_own_alone, own_or_pending};
 
     /// What a telegram that has just begun is to so many taps: own to its speaker, pending to the others.
     pub(crate) fn at_first(speaker: usize, taps: usize) -> Reception
@@ -49,6 +50,40 @@ impl Reception {
             whole: TapSet::none(),
             damaged: TapSet::none(),
             unheard: TapSet::none(),
+        }
+    }
+
+    /// How a telegram of a speaker reached each of some taps: it is the speaker's own and no other's, the caller's
+    /// condition.
+    pub(crate) fn of(speaker: usize, heard: &[Heard]) -> Reception
+        requires few { length heard.now ≤ tap_limit }
+        requires own { is_own_alone speaker 0 (map heard_of heard.now) ≡ true }
+        ensures { result ≡ map heard_of heard.now }
+    {
+        let mut reception = Reception {
+            taps: heard.len(),
+            speaker,
+            whole: TapSet::none(),
+            damaged: TapSet::none(),
+            unheard: TapSet::none(),
+        };
+        for tap in 0..heard.len() {
+            reception.note(tap, heard[tap]);
+        }
+        reception
+    }
+
+    /// How it reached a tap to which it was pending, or that sent it.
+    fn note(&mut self, tap: usize, how: Heard)
+        requires inside { tap < length self.old }
+        requires first { get_or self.old tap trace.Pending ≡ own_or_pending (heard_of how) }
+        ensures { self.new ≡ slice_set self.old tap (heard_of how) }
+    {
+        match how {
+            Heard::Whole => self.settle(tap, true),
+            Heard::Damaged => self.settle(tap, false),
+            Heard::Unheard => self.lose(tap),
+            Heard::Own | Heard::Pending => (),
         }
     }
 

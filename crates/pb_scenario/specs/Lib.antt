@@ -8,6 +8,7 @@ pub mod Faults
 pub mod Stages
 pub mod Watching
 pub mod Recording
+pub mod Courses
 pub mod Plays
 pub mod Judged
 pub mod Fields

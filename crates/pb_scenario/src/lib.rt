@@ -2,6 +2,7 @@
 //! or judged as they happen. The text of a trace.
 #![tactic(auto)]
 
+mod courses;
 mod faults;
 mod fields;
 mod files;
@@ -17,12 +18,15 @@ mod texts;
 mod versions;
 mod words;
 
+pub use courses::{Course, course_of};
 pub use faults::{RunFault, ScenarioFault};
 pub use files::read;
 pub use keys::{Key, Path, Section, UnknownKey};
-pub use pb_audit::Audit;
+pub use pb_audit::{Audit, Cause, Illegal, Reasons, Rule};
 pub use pb_medium::Entry;
-pub use pb_taps::{NewFault, WorldFault};
-pub use runs::{audit_of, events_of};
+pub use pb_plan::{Deed, Step};
+pub use pb_station::NoMemory;
+pub use pb_taps::{Event, Kind, NewFault, TapSpec, WorldFault};
+pub use runs::{audit_of, events_of, reasons_of};
 pub use scenarios::Scenario;
-pub use texts::{push_number, trace_text};
+pub use texts::{push_number, push_trace, trace_text};

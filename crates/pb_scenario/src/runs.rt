@@ -8,7 +8,7 @@ use crate::faults::RunFault;
 use crate::plays::play;
 use crate::recorded::Recorded;
 use crate::scenarios::Scenario;
-use pb_audit::{Audit, new_watched};
+use pb_audit::{Audit, Inquiry, Reasons, new_watched};
 use pb_bus::new_bus;
 use pb_taps::Event;
 use std::alloc::Global;
@@ -46,4 +46,20 @@ pub fn audit_of(alloc: Global, scenario: &Scenario) -> Result<Audit, RunFault>
     };
     play(alloc, scenario, &mut watched)?;
     Ok(watched.judge())
+}
+
+/// What an audit of the events of a scenario's run on one thread finds, as [`audit_of`], and why: it costs more for each
+/// event.
+///
+/// Faults: those of [`events_of`].
+pub fn reasons_of(alloc: Global, scenario: &Scenario) -> Result<Reasons, RunFault>
+    ensures ok { IfOk result (λ reasons. FindsInRun scenario.now.scenario reasons.found) }
+    ensures fault { IfErr result (EndsBy scenario.now.scenario) }
+{
+    let mut inquiry = match new_watched(alloc, *scenario.params(), scenario.taps()) {
+        Ok(watched) => Inquiry::new(watched),
+        Err(fault) => return Err(RunFault::New(fault)),
+    };
+    play(alloc, scenario, &mut inquiry)?;
+    Ok(inquiry.judge_with_reasons())
 }

@@ -3,7 +3,7 @@ ghost use Rattle.pb_bus.specs.Buses.{world_of, IsKept};
 ghost use Rattle.pb_taps.specs.Events.{event_of};
 ghost use Rattle.pb_scenario.specs.Stages.{StageView, IsReady, Takes};
 
-use pb_audit::Watched;
+use pb_audit::{Inquiry, Watched};
 use pb_bus::Bus;
 use pb_taps::{Event, WorldFault};
 use std::alloc::Global;
@@ -29,6 +29,20 @@ impl Stage for Watched {
     ghost use Rattle.pb_scenario.specs.Watching.{watched_view};
 
     ghost view = { watched_view };
+
+    fn apply(&mut self, alloc: Global, event: &Event) -> Result<(), WorldFault> {
+        self.follow(alloc, event)
+    }
+
+    fn bus(&self) -> &Bus {
+        self.bus()
+    }
+}
+
+impl Stage for Inquiry {
+    ghost use Rattle.pb_scenario.specs.Watching.{inquiry_view};
+
+    ghost view = { inquiry_view };
 
     fn apply(&mut self, alloc: Global, event: &Event) -> Result<(), WorldFault> {
         self.follow(alloc, event)

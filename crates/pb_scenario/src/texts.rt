@@ -1,3 +1,5 @@
+//! The text of a trace.
+
 ghost use Rattle.std.specs.Prelude.{◌≡◌, ◌++◌, OnOk, IfOk, [], codes, map, slice_index_or};
 ghost use Rattle.hex.specs.Hex.{encode_lower};
 ghost use Rattle.pb_medium.specs.Entries.{entry_of, heard_of};
@@ -8,6 +10,7 @@ use crate::scenarios::Scenario;
 use arrayvec::ArrayVec;
 use itoa::{Buffer, Integer};
 use pb_medium::{Entry, Heard, Reception, Record};
+use pb_station::NoMemory;
 use std::alloc::{AllocError, Global};
 
 /// The most octets that a telegram has.
@@ -15,19 +18,34 @@ const LONGEST: usize = 255;
 
 /// The text of a trace, a line for each entry: begin and end, the name of the tap that sent it, its octets,
 /// and a letter for each tap that says how it reached that; or begin, end and `~ noise`. The entries' taps
-/// are the scenario's; another tap has no name. The fault: memory was refused.
+/// are the scenario's; another tap has no name.
+///
+/// Fault: `NoMemory` where memory was refused.
 pub fn trace_text(
     alloc: Global,
     scenario: &Scenario,
     entries: &[Entry],
-) -> Result<Vec<u8>, AllocError>
+) -> Result<Vec<u8>, NoMemory>
     ensures { IfOk result (λ text. text.items ≡ entries_text scenario.now.names (map entry_of entries.now)) }
 {
     let mut text = Vec::new(alloc);
-    for entry in entries {
-        push_entry(&mut text, scenario, entry)?;
-    }
+    push_trace(&mut text, scenario, entries)?;
     Ok(text)
+}
+
+/// Appends the text of a trace, as [`trace_text`] gives it. The fault: memory was refused.
+pub fn push_trace(
+    text: &mut Vec<u8>,
+    scenario: &Scenario,
+    entries: &[Entry],
+) -> Result<(), AllocError>
+    ensures { OnOk result
+        (text.new.items ≡ text.old.items ++ entries_text scenario.now.names (map entry_of entries.now)) }
+{
+    for entry in entries {
+        push_entry(text, scenario, entry)?;
+    }
+    Ok(())
 }
 
 /// Appends a number in decimal digits.

@@ -4,4 +4,5 @@ pub mod Standing
 pub mod Replaying
 pub mod Agreeing
 pub mod Noting
+pub mod Replies
 mod Placed

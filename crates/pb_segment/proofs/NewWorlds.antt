@@ -7,7 +7,7 @@ use Rattle.pb_model.specs.Medium.{Tap, TapSpec}
 use Rattle.pb_model.specs.World.{World, stopped_tap, new_faults, new_world}
 use Rattle.pb_model.proofs.Worlds.{unless-Ok}
 use Rattle.pb_theorem.specs.Headline.{specs_of}
-use Rattle.pb_segment.specs.Origins.{Origin, IsMadeOf, IsNew}
+use Rattle.pb_segment.specs.Origins.{Origin, IsMadeOf, IsMade, IsNew}
 
 abbrev made : Params → List TapSpec → World
 made p specs = record { params = p; now = 0; trace = []; taps = map (stopped_tap p) specs }
@@ -23,12 +23,16 @@ specs_back p (spec ∷ specs) = ap (λ l. spec ∷ l) (specs_back p specs)
 pub made_specs : (o : Origin) (w : World) → IsMadeOf o w → specs_of w ≡ o.specs
 made_specs o w new = ap (λ (z : World). specs_of z) (sym (new_is o.params o.specs w new)) ∙ specs_back o.params o.specs
 
-pub made_new : (p : Params) (specs : List TapSpec) (w : World) → new_world p specs ≡ Ok w → IsNew w
+made_new : (p : Params) (specs : List TapSpec) (w : World) → new_world p specs ≡ Ok w → IsMade w
 made_new p specs w new =
     let is = new_is p specs w new in
     let params : w.params ≡ p = ap (λ (z : World). z.params) (sym is) in
     let same : specs_of w ≡ specs = made_specs (record { params = p; specs = specs }) w new in
     ap (λ (q : Params). new_world q (specs_of w)) params ∙ ap (λ l. new_world p l) same ∙ new
+
+-- a new world is made of its own origin
+pub own_origin : (w : World) → IsNew w → IsMade w
+own_origin w new = made_new new.p new.specs w new.run.made
 
 some_tap : (p : Params) (specs : List TapSpec) → (new_world p specs ≡ Ok (made p specs)) → slice_get (map (stopped_tap p) specs) 0 ≡ None → ⊥
 some_tap p [] new none = absurd cc
@@ -40,13 +44,13 @@ address_at p (spec ∷ specs) zero t at = let same = same_Some (stopped_tap p sp
 address_at p (spec ∷ specs) (suc k) t at = address_at p specs k t at
 
 -- a new world has a tap
-pub new_has_tap : (w : World) → IsNew w → slice_get w.taps 0 ≡ None → ⊥
+pub new_has_tap : (w : World) → IsMade w → slice_get w.taps 0 ≡ None → ⊥
 new_has_tap w new none =
     let is = new_is w.params (specs_of w) w new in
     some_tap w.params (specs_of w) (new ∙ ap (λ (z : World). Ok z) (sym is)) (ap (λ (z : World). slice_get z.taps 0) is ∙ none)
 
 -- its stations have the addresses that their taps were given
-pub new_address : (w : World) (k : ℕ) (t : Tap) → IsNew w → slice_get w.taps k ≡ Some t → t.station.address ≡ t.spec.address
+pub new_address : (w : World) (k : ℕ) (t : Tap) → IsMade w → slice_get w.taps k ≡ Some t → t.station.address ≡ t.spec.address
 new_address w k t new at =
     let is = new_is w.params (specs_of w) w new in
     address_at w.params (specs_of w) k t (ap (λ (z : World). slice_get z.taps k) is ∙ at)

@@ -1,9 +1,10 @@
 -- What is kept of an event that happens, and the fault of one that doesn't.
-use Rattle.std.proofs.Common.{◌≡◌, ◌∙◌, ℕ, ◌<◌, [], ◌∷◌, ◌++◌, length, Ok, Err, refl, sym, ap}
+use Rattle.std.proofs.Common.{◌≡◌, ◌∙◌, ℕ, ◌<◌, [], ◌∷◌, ◌++◌, length, Ok, Err, refl, sym, ap, subst}
 use Rattle.std.specs.Prelude.{Result}
 use Rattle.pb_model.specs.World.{World, Event, Reply, Fault}
 use Rattle.pb_model.specs.Step.{step}
 use Rattle.pb_bus.specs.Refusals.{fault_of}
+use Rattle.pb_live.specs.Promises.{LeadOn}
 use Rattle.pb_segment.specs.declared.faults.CommitFault.{CommitFault}
 use Rattle.pb_segment.specs.declared.faults.CommitFault.TheVariants as commit
 use Rattle.pb_segment.specs.declared.notes.Note.{Note}
@@ -32,9 +33,10 @@ noted_reply w u event place n told is ok =
 
 -- what is under the lock stays as it is to be, with the event at the end of the history
 pub noted_push : (l : LockedView) (u : World) (event : Event) (place : ℕ) (n : Note) (told : Reply) → IsKept l → length l.history < l.limit → IsNoteOf l.world event place n
-    → step l.world event ≡ Ok (u, told)
+    → step l.world event ≡ Ok (u, told) → LeadOn l.world (event ∷ []) u
     → IsKept (view_of u l.origin (l.history ++ n.happened ∷ []) (counted l.turns n.happened.event) (counted_drives l.drives n.happened.event) l.outlooks l.limit)
-noted_push l u event place n told k room is ok = kept_push l n.happened u k room (noted_step l.world u event place n told is ok)
+noted_push l u event place n told k room is ok on =
+    kept_push l n.happened u k room (noted_step l.world u event place n told is ok) (subst (λ (e : Event). LeadOn l.world (e ∷ []) u) (sym is.event) on)
 
 -- ---- faults
 

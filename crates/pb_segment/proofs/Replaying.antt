@@ -10,15 +10,15 @@ use Rattle.pb_model.specs.World.{World, Event, Turn, Pass, Damage, Start, Stop, 
 use Rattle.pb_model.specs.Step.{step, RunsTo}
 use Rattle.pb_model.specs.Trace.{Entry}
 use Rattle.pb_theorem.specs.Headline.{specs_of}
-use Rattle.pb_token.specs.Promises.{LeavesOneToken}
+use Rattle.pb_live.specs.Promises.{KeepsPromises, LeadOn, LeadTo}
 use Rattle.pb_token.proofs.JoinedRuns.{runs_same}
-use Rattle.pb_token.proofs.Readers.{run_leaves_one}
+use Rattle.pb_live.proofs.Promising.{kept_promises}
 use Rattle.pb_token.proofs.Stays.{same_bus}
 use Rattle.pb_segment.specs.declared.outlooks.Outlook.{Outlook}
 use Rattle.pb_segment.specs.Counts.{counted, counted_drives}
-use Rattle.pb_segment.specs.Histories.{Happened, Receipt, Replays, is_turn_of, is_driven, told_if, told_from, told}
+use Rattle.pb_segment.specs.Histories.{Happened, Receipt, Replays, events_in, is_turn_of, is_driven, told_if, told_from, told}
 use Rattle.pb_segment.specs.Locked.{LockedView, IsKept, AreCounts, view_of}
-use Rattle.pb_segment.specs.Origins.{Origin, IsMadeOf}
+use Rattle.pb_segment.specs.Origins.{Origin, IsMadeOf, IsNew}
 use Rattle.pb_segment.specs.Reports.{IsReport, report_of}
 use Rattle.pb_segment.specs.Outlooks.{IsOutlookOf, AreOutlooksOf, ShowsWorld}
 use Rattle.pb_segment.proofs.NewWorlds.{made_specs}
@@ -35,8 +35,15 @@ unfolding Replays
 replays_runs [] w v run = run
 replays_runs (h ∷ hs) w v run = (run.0, h.reply, run.1, replays_runs hs run.0 v run.2)
 
-pub replay_leaves_one : (hs : List Happened) (w v : World) → Replays w hs v → LeavesOneToken w (map (λ (h : Happened). h.event) hs) v
-replay_leaves_one hs w v run = run_leaves_one w v (map (λ (h : Happened). h.event) hs) (replays_runs hs w v run)
+events_push : (hs : List Happened) (h : Happened) → events_in (hs ++ h ∷ []) ≡ events_in hs ++ h.event ∷ []
+events_push [] h = refl
+events_push (x ∷ hs) h = ap (λ (es : List Event). x.event ∷ es) (events_push hs h)
+
+-- what events lead on to keeps the promises of all events so far
+led_push : (first w u : World) (hs : List Happened) (h : Happened) → LeadTo first (events_in hs) w → LeadOn w (h.event ∷ []) u
+    → LeadTo first (events_in (hs ++ h ∷ [])) u × KeepsPromises first (events_in (hs ++ h ∷ [])) u
+led_push first w u hs h lead on =
+    subst (λ (es : List Event). LeadTo first es u × KeepsPromises first es u) (sym (events_push hs h)) (on first (events_in hs) lead)
 
 pub replay_specs : (hs : List Happened) (w v : World) → Replays w hs v → specs_of v ≡ specs_of w
 replay_specs hs w v run = (runs_same (map (λ (h : Happened). h.event) hs) w v (replays_runs hs w v run)).specs
@@ -149,12 +156,14 @@ outlooks_longer first hs more os all = All-weaker (IsOutlookOf first hs) (IsOutl
 
 -- ---- the locked state
 
-pub kept_push : (l : LockedView) (h : Happened) (u : World) → IsKept l → length l.history < l.limit → step l.world h.event ≡ Ok (u, h.reply)
+pub kept_push : (l : LockedView) (h : Happened) (u : World) → IsKept l → length l.history < l.limit → step l.world h.event ≡ Ok (u, h.reply) → LeadOn l.world (h.event ∷ []) u
     → IsKept (view_of u l.origin (l.history ++ h ∷ []) (counted l.turns h.event) (counted_drives l.drives h.event) l.outlooks l.limit)
-kept_push l h u k room ok = record {
+kept_push l h u k room ok on = record {
   first = k.first;
   made = k.made;
   replays = replays_push l.history h k.first l.world u k.replays ok;
+  lead = (led_push k.first l.world u l.history h k.lead on).0;
+  promises = (led_push k.first l.world u l.history h k.lead on).1;
   taps = taps_length l.world u (same_bus l.world u h.event h.reply ok).specs ∙ k.taps ∙ sym (counted_length l.turns h.event);
   counts = counts_push l.history l.turns l.drives h k.counts;
   outlooks = outlooks_longer k.first l.history (h ∷ []) l.outlooks k.outlooks;
@@ -170,6 +179,8 @@ kept_look l o k place shows =
       first = k.first;
       made = k.made;
       replays = k.replays;
+      lead = k.lead;
+      promises = k.promises;
       taps = k.taps;
       counts = k.counts;
       outlooks = All-push (IsOutlookOf k.first l.history) l.outlooks o k.outlooks (record {
@@ -182,14 +193,16 @@ kept_look l o k place shows =
       limit = k.limit;
     }
 
-pub kept_new : (o : Origin) (w : World) (turns : List ℕ) (limit : ℕ) → IsMadeOf o w → turns ≡ replicate (length w.taps) 0 → limit ≤ 1000000 → IsKept (view_of w o [] turns 0 [] limit)
+pub kept_new : (o : Origin) (w : World) (turns : List ℕ) (limit : ℕ) → IsMadeOf o w → IsNew w → turns ≡ replicate (length w.taps) 0 → limit ≤ 1000000 → IsKept (view_of w o [] turns 0 [] limit)
 unfolding Replays told_from
-kept_new o w turns limit made zeros bound =
+kept_new o w turns limit made new zeros bound =
     let len : length turns ≡ length w.taps = ap (λ (l : List ℕ). length l) zeros ∙ length-replicate (length w.taps) 0 in
     record {
       first = w;
       made = made;
       replays = refl;
+      lead = new;
+      promises = kept_promises w w [] new;
       taps = sym len;
       counts = record {
         turns = λ i small. let inside : i < length w.taps = omega (arith, len, small) in ap (λ (l : List ℕ). slice_index l i) zeros ∙ get_or-replicate (length w.taps) i 0 0 inside;
@@ -208,7 +221,8 @@ kept_report l trace k same = record {
   made = k.made;
   replays = k.replays;
   trace = same;
-  token = replay_leaves_one l.history k.first l.world k.replays;
+  lead = k.lead;
+  promises = k.promises;
   taps = sym k.taps ∙ taps_of_origin l.origin l.history k.first l.world k.made k.replays;
   turns = k.counts.turns;
   outlooks = k.outlooks;

@@ -1,5 +1,5 @@
 -- Histories: the events that a segment has accepted, each with its reply, and what stands in them of one seat.
-use Rattle.std.specs.Prelude.{◌≡◌, ◌≤◌, ℕ, ◌+◌, ◌==◌, Bool, true, false, not, List, [], ◌∷◌, Some, Ok, slice_get, if◌then◌else◌}
+use Rattle.std.specs.Prelude.{◌≡◌, ◌≤◌, ℕ, ◌+◌, ◌==◌, Bool, true, false, not, List, [], ◌∷◌, map, Some, Ok, slice_get, if◌then◌else◌}
 use Rattle.pb_model.specs.World.{World, Event, Turn, Pass, Damage, Start, Stop, Queue, Noise, Unheard, Reply}
 use Rattle.pb_model.specs.Step.{step}
 use Rattle.pb_segment.specs.declared.receipts.Owner.{Owner}
@@ -14,6 +14,10 @@ pub record Happened : Type 0 where
 pub record Receipt : Type 0 where
   pub place : ℕ
   pub reply : Reply
+
+-- the events of a history
+abbrev pub events_in : List Happened → List Event
+events_in history = map (λ h. h.event) history
 
 -- ---- replay
 

@@ -6,12 +6,13 @@ use Rattle.pb_taps.specs.Faults.{world_fault}
 use Rattle.pb_taps.specs.declared.faults.WorldFault.TheVariants as world
 use Rattle.pb_station.specs.Decisions.{DecisionView}
 use Rattle.pb_bus.specs.Glances.{Fits}
+use Rattle.pb_live.specs.Promises.{KeepsPromises, LeadTo}
 use Rattle.pb_segment.specs.declared.faults.CommitFault.{CommitFault}
 use Rattle.pb_segment.specs.declared.faults.CommitFault.TheVariants as commit
 use Rattle.pb_segment.specs.declared.faults.GlanceFault.{GlanceFault}
 use Rattle.pb_segment.specs.declared.faults.GlanceFault.TheVariants as glance
 use Rattle.pb_segment.specs.declared.outlooks.Outlook.{Outlook}
-use Rattle.pb_segment.specs.Histories.{Happened, Receipt, Replays, told, is_turn, is_turn_of, is_driven}
+use Rattle.pb_segment.specs.Histories.{Happened, Receipt, Replays, events_in, told, is_turn, is_turn_of, is_driven}
 use Rattle.pb_segment.specs.Origins.{Origin, IsMadeOf}
 use Rattle.pb_segment.specs.Outlooks.{AreOutlooksOf}
 use Rattle.pb_segment.specs.Seats.{SeatView, ConductorView}
@@ -41,11 +42,14 @@ pub record AreCounts (history : List Happened) (by_tap : List ℕ) (by_conductor
   pub turns : (tap : ℕ) → tap < length by_tap → slice_index by_tap tap ≡ length (told (is_turn_of tap) history)
   pub drives : by_conductor ≡ length (told is_driven history)
 
--- the world is the replay of the history, from the new world of its bus and taps
+-- The world is the replay of the history, from the new world of its bus and taps, and the events of the history have led to it: so it keeps the promises of the token
+-- and of silence.
 pub record IsKept (l : LockedView) : Type 0 where
   pub first : World
   pub made : IsMadeOf l.origin first
   pub replays : Replays first l.history l.world
+  pub lead : LeadTo first (events_in l.history) l.world
+  pub promises : KeepsPromises first (events_in l.history) l.world
   pub taps : length l.world.taps ≡ length l.turns
   pub counts : AreCounts l.history l.turns l.drives
   pub outlooks : AreOutlooksOf first l.history l.outlooks

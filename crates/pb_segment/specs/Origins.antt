@@ -1,9 +1,10 @@
 -- Of what a new world is made.
-use Rattle.std.specs.Prelude.{◌≡◌, List, Ok}
+use Rattle.std.specs.Prelude.{◌≡◌, List, [], Ok}
 use Rattle.pb_timers.specs.Timers.{Params}
 use Rattle.pb_model.specs.Medium.{TapSpec}
 use Rattle.pb_model.specs.World.{World, new_world}
 use Rattle.pb_theorem.specs.Headline.{specs_of}
+use Rattle.pb_live.specs.Promises.{LeadTo}
 
 -- the parameters of its bus, and what each tap is
 pub record Origin : Type 0 where
@@ -17,6 +18,10 @@ IsMadeOf o first = new_world o.params o.specs ≡ Ok first
 abbrev pub origin_of : World → Origin
 origin_of w = record { params = w.params; specs = specs_of w }
 
--- nothing has happened in a world yet: it is the new world of its bus and taps
+-- a world is made of its own parameters and taps, and nothing has happened in it yet
+abbrev pub IsMade : World → Type 0
+IsMade w = IsMadeOf (origin_of w) w
+
+-- a world is the new world of a bus: no events have led to it yet
 abbrev pub IsNew : World → Type 0
-IsNew w = IsMadeOf (origin_of w) w
+IsNew w = LeadTo w [] w

@@ -1,5 +1,9 @@
 -- What contracts see of seats.
-use Rattle.std.specs.Prelude.{◌≡◌, ℕ, List, [], ◌∷◌, ◌++◌, length}
+use Rattle.std.specs.Prelude.{◌≡◌, ℕ, List, [], ◌∷◌, ◌++◌, length, None}
+use Rattle.pb_model.specs.World.{Reply}
+use Rattle.pb_station.specs.Decisions.{DecisionView}
+use Rattle.pb_segment.specs.declared.faults.CommitFault.{CommitFault}
+use Rattle.pb_segment.specs.declared.faults.CommitFault.TheVariants as commit
 use Rattle.pb_segment.specs.Histories.{Happened, Receipt, is_turn_of, told}
 use Rattle.pb_segment.specs.declared.outlooks.Outlook.{Outlook}
 
@@ -17,9 +21,25 @@ pub record ConductorView : Type 0 where
 abbrev pub accepted : SeatView → ℕ
 accepted s = length s.receipts
 
--- a seat was told of one more event
-abbrev pub HasOneMore : List Receipt → List Receipt → Type 0
-HasOneMore before after = (r : Receipt) × (after ≡ before ++ r ∷ [])
+-- a seat was told of one more event, and of its reply
+abbrev pub IsTold : List Receipt → List Receipt → (Reply → Type 0) → Type 0
+IsTold before after Is = (r : Receipt) × (after ≡ before ++ r ∷ []) × Is r.reply
+
+-- a reply has the clock of a decision, and the octets that it speaks
+abbrev pub Answers : DecisionView → Reply → Type 0
+Answers d reply = reply ≡ record { now = d.now; spoke = d.speak }
+
+-- nothing is spoken in a reply
+abbrev pub IsSilent : Reply → Type 0
+IsSilent reply = reply.spoke ≡ None
+
+-- a stale decision is refused with a number of turns
+abbrev pub CountsTurns : ℕ → CommitFault → Type 0
+CountsTurns turns commit.WrongTap = Unit {0}
+CountsTurns turns commit.Disagree = Unit {0}
+CountsTurns turns (commit.Stale counted now) = counted ≡ turns
+CountsTurns turns (commit.World fault) = Unit {0}
+CountsTurns turns commit.HistoryFull = Unit {0}
 
 -- what a seat was told is what stands in a history
 abbrev pub Agrees : List Happened → SeatView → Type 0

@@ -1,3 +1,5 @@
+//! What stands under the lock: a world, and the history that led to it.
+
 ghost use Rattle.std.specs.Prelude.{◌≡◌, ◌+◌, ◌<◌, ◌++◌, ◌∷◌, [], ℕ, length, slice_index, vec_len, vec_capacity};
 ghost use Rattle.pb_taps.specs.Events.{event_of};
 ghost use Rattle.pb_segment.specs.Blocks.{HasRoom, happened_in};
@@ -58,11 +60,11 @@ impl<L: Ledger> Locked<L> {
     ghost use Rattle.pb_model.specs.World.{Turn};
     ghost use Rattle.pb_taps.specs.Events.{event_of};
     ghost use Rattle.pb_bus.specs.Glances.{CanBeDecided, Fits, IsGlance};
-    ghost use Rattle.pb_token.specs.Promises.{LeavesOneToken};
     ghost use Rattle.pb_segment.specs.Histories.{is_turn};
     ghost use Rattle.pb_segment.specs.Locked.{AppendsTo, IsAllowed, IsPresent, KnowsDrives, KnowsTurns};
     ghost use Rattle.pb_segment.specs.Locked.{RefusesDecision, RefusesEvent, RefusesToKeep, RefusesToShow};
     ghost use Rattle.pb_segment.specs.Outlooks.{ShowsWorld};
+    ghost use Rattle.pb_segment.specs.Seats.{Answers, CountsTurns, IsSilent, IsTold};
 
     /// What the tap of a seat shows.
     pub(crate) fn glance(&mut self, alloc: Global, seat: &TapSeat<L>) -> Result<Glance, GlanceFault>
@@ -91,8 +93,10 @@ impl<L: Ledger> Locked<L> {
             (AppendsTo self.old self.new (Turn seat.old.tap) seat.old.receipts seat.new.receipts) }
         ensures present { OnOk result (IsPresent self.old seat.old decided.entry) }
         ensures told { OnOk result (seat.new ≡ record seat.old { receipts = seat.new.receipts }) }
-        ensures token { OnOk result (LeavesOneToken self.old.world (Turn seat.old.tap ∷ []) self.new.world) }
+        ensures reply { OnOk result
+            (IsTold seat.old.receipts seat.new.receipts (Answers decided.entry)) }
         ensures err { IfErr result (RefusesDecision self.old seat.old decided.entry) }
+        ensures turns { IfErr result (CountsTurns (length seat.old.receipts)) }
         ensures same { OnErr result ((self.new ≡ self.old) × (seat.new ≡ seat.old)) }
     {
         if decided.tap != seat.tap {
@@ -121,7 +125,7 @@ impl<L: Ledger> Locked<L> {
             (AppendsTo self.old self.new (event_of event) seat.old.receipts seat.new.receipts) }
         ensures allowed { OnOk result (IsAllowed self.old seat.old (event_of event)) }
         ensures told { OnOk result (seat.new ≡ record seat.old { receipts = seat.new.receipts }) }
-        ensures token { OnOk result (LeavesOneToken self.old.world (event_of event ∷ []) self.new.world) }
+        ensures reply { OnOk result (IsTold seat.old.receipts seat.new.receipts IsSilent) }
         ensures err { IfErr result (RefusesEvent self.old seat.old (event_of event)) }
         ensures same { OnErr result ((self.new ≡ self.old) × (seat.new ≡ seat.old)) }
     {
@@ -179,8 +183,6 @@ impl<L: Ledger> Locked<L> {
         ensures ok { OnOk result
             (AppendsTo self.old self.new (Turn decided.entry.tap) receipts.old.items receipts.new.items) }
         ensures counted { OnOk result (share.new.amount ≡ share.old.amount + 1) }
-        ensures token { OnOk result
-            (LeavesOneToken self.old.world (Turn decided.entry.tap ∷ []) self.new.world) }
         ensures part { share.new.parts ≡ 1 }
         ensures err { IfErr result (RefusesToKeep self.old (Turn decided.entry.tap)) }
         ensures same { OnErr result ((self.new ≡ self.old)
@@ -219,7 +221,6 @@ impl<L: Ledger> Locked<L> {
         ensures ok { OnOk result
             (AppendsTo self.old self.new (event_of event) receipts.old.items receipts.new.items) }
         ensures counted { OnOk result (share.new.amount ≡ share.old.amount + 1) }
-        ensures token { OnOk result (LeavesOneToken self.old.world (event_of event ∷ []) self.new.world) }
         ensures part { share.new.parts ≡ 1 }
         ensures err { IfErr result (RefusesToKeep self.old (event_of event)) }
         ensures same { OnErr result ((self.new ≡ self.old)

@@ -1,6 +1,8 @@
+//! Of what the new world of a segment is made.
+
 ghost use Rattle.std.specs.Prelude.{◌≡◌, ◌<◌, ◌↔◌, IsTrue, IfOk, Some, length, slice_get};
 ghost use Rattle.pb_theorem.specs.Headline.{specs_of};
-ghost use Rattle.pb_segment.specs.Origins.{IsNew};
+ghost use Rattle.pb_segment.specs.Origins.{IsMade};
 
 use pb_timers::BusParams;
 use pb_world::World;
@@ -41,11 +43,11 @@ impl Model for Member {
 
 impl Origin {
     ghost use Rattle.std.specs.Prelude.{◌≡◌, ◌↔◌, IsTrue, IfOk};
-    ghost use Rattle.pb_segment.specs.Origins.{IsNew, origin_of};
+    ghost use Rattle.pb_segment.specs.Origins.{IsMade, origin_of};
 
     /// Of what a new world is made. Its fault: memory was refused.
     pub(crate) fn of(alloc: Global, world: &World) -> Result<Origin, AllocError>
-        requires { IsNew world.now }
+        requires { IsMade world.now }
         ensures { IfOk result (λ o. o ≡ origin_of world.entry.now) }
     {
         let params = params_of(world);
@@ -63,10 +65,11 @@ impl Origin {
 
 /// The parameters of the bus of a new world, as its first station knows them.
 fn params_of(world: &World) -> BusParams
-    requires { IsNew world.now }
+    requires { IsMade world.now }
     ensures { result ≡ world.entry.now.params }
 {
     let Some(first) = world.station(0) else {
+        // `World::new` refuses an empty list of taps.
         unreachable!()
     };
     *first.params()
@@ -75,7 +78,7 @@ fn params_of(world: &World) -> BusParams
 /// What the taps of a new world are.
 #[tactic(auto, using(crate::proofs::NewWorlds::next_spec))]
 fn members_of(alloc: Global, world: &World) -> Result<Vec<Member>, AllocError>
-    requires { IsNew world.now }
+    requires { IsMade world.now }
     ensures { IfOk result (λ members. members.items ≡ specs_of world.entry.now) }
 {
     let mut members = Vec::new(alloc);
@@ -87,11 +90,12 @@ fn members_of(alloc: Global, world: &World) -> Result<Vec<Member>, AllocError>
 
 /// What the tap of a new world at a position is.
 fn member_at(alloc: Global, world: &World, tap: usize) -> Result<Member, AllocError>
-    requires new { IsNew world.now }
+    requires new { IsMade world.now }
     requires inside { tap < length world.now.taps }
     ensures { IfOk result (λ member. slice_get (specs_of world.entry.now) tap ≡ Some member) }
 {
     let Some(station) = world.station(tap) else {
+        // Each tap of a world has a station, and this one is in the list.
         unreachable!()
     };
     let mut reply = Vec::new(alloc);

@@ -1,3 +1,5 @@
+//! What has happened on a segment that is closed.
+
 use crate::closing::audit;
 use crate::histories::History;
 use crate::locked::Locked;
@@ -9,7 +11,8 @@ use std::marker::Model;
 use std::sync::ledger::Ledger;
 
 /// What has happened on a segment that is closed: its history, the trace of the history's replay, how many
-/// turns each tap took, and what the conductor was shown. [`close`](crate::SharedSegment::close) alone makes one.
+/// turns each tap took, and what the conductor was shown. Only [`close`](crate::SharedSegment::close)
+/// and [`close_beside`](crate::SharedSegment::close_beside) make one.
 #[derive(Drop)]
 pub struct Report {
     origin: Origin,

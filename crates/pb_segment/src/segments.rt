@@ -1,3 +1,5 @@
+//! One bus for many threads: a world and its history under one lock.
+
 ghost use Rattle.std.specs.Prelude.{◌≡◌, ◌<◌, ◌++◌, ◌∷◌, [], List, length};
 ghost use Rattle.pb_segment.specs.Histories as specs;
 
@@ -52,7 +54,7 @@ impl<L: Ledger> SharedSegment<L> {
     ghost use Rattle.pb_segment.specs.Drafts.{DraftView, draft_of};
     ghost use Rattle.pb_segment.specs.Histories.{is_driven, is_turn, told};
     ghost use Rattle.pb_segment.specs.Reports.{IsReport};
-    ghost use Rattle.pb_segment.specs.Seats.{Agrees, HasOneMore, accepted};
+    ghost use Rattle.pb_segment.specs.Seats.{Agrees, Answers, CountsTurns, IsSilent, IsTold, accepted};
 
     /// What the tap of a seat shows after all turns that its seat had accepted: its station, its unread marks
     /// and the clock. It may wait for the lock.
@@ -71,13 +73,13 @@ impl<L: Ledger> SharedSegment<L> {
         self.locked(rt).glance(alloc, seat)
     }
 
-    /// The tap takes the turn of a decision, if that was made on the tap as it is; the seat is given a receipt.
-    /// It may wait for the lock. A refused turn changes nothing.
+    /// The tap takes the turn of a decision, if that was made on the tap as it is; the seat is given a receipt, whose reply
+    /// has the decision's clock and octets. It may wait for the lock. A refused turn changes nothing.
     ///
     /// Faults, the first that applies: `WrongTap` where the decision is another tap's; `Disagree` where another
     /// number of the tap's turns was accepted than the seat knows of; `Stale` where the tap's station, its unread
-    /// marks or the clock are not the decision's; `World` with the world's fault; `HistoryFull`;
-    /// `World(NoMemory)`.
+    /// marks or the clock are not the decision's, with the number of turns that the seat had accepted; `World` with the
+    /// world's fault; `HistoryFull`; `World(NoMemory)`.
     #[inline(always)]
     pub fn commit(
         &self,
@@ -88,8 +90,10 @@ impl<L: Ledger> SharedSegment<L> {
     ) -> Result<Receipt, CommitFault>
         ensures told { IfOk result
             (λ r. seat.new ≡ record seat.old { receipts = seat.old.receipts ++ r ∷ [] }) }
+        ensures reply { IfOk result (λ r. Answers decision r.reply) }
         ensures same { OnErr result (seat.new ≡ seat.old) }
         ensures wrong { (result ≡ Err WrongTap) ↔ (decision.tap ≢ seat.old.tap) }
+        ensures turns { IfErr result (CountsTurns (length seat.old.receipts)) }
     {
         let mut octets = None;
         self.commit_decided(rt, alloc, seat, decision.lend(&mut octets))?;
@@ -107,16 +111,18 @@ impl<L: Ledger> SharedSegment<L> {
         seat: &mut TapSeat<L>,
         decided: Decided<'_>,
     ) -> Result<(), CommitFault>
-        ensures told { OnOk result (HasOneMore seat.old.receipts seat.new.receipts) }
+        ensures told { OnOk result
+            (IsTold seat.old.receipts seat.new.receipts (Answers decided.entry)) }
         ensures tap { seat.new.tap ≡ seat.old.tap }
         ensures same { OnErr result (seat.new ≡ seat.old) }
         ensures wrong { (result ≡ Err WrongTap) ↔ (decided.entry.tap ≢ seat.old.tap) }
+        ensures turns { IfErr result (CountsTurns (length seat.old.receipts)) }
     {
         self.locked(rt).commit(alloc, seat, decided)
     }
 
-    /// Lets an event happen that is no turn; the conductor's seat is given a receipt. It may wait for the lock. A
-    /// refused event changes nothing.
+    /// Lets an event happen that is no turn; the conductor's seat is given a receipt, in which nothing is spoken. It may
+    /// wait for the lock. A refused event changes nothing.
     ///
     /// Faults, the first that applies: `WrongTap` for a turn; `Disagree` where another number of such events was
     /// accepted than the seat knows of; `World` with the world's fault; `HistoryFull`; `World(NoMemory)`.
@@ -130,6 +136,7 @@ impl<L: Ledger> SharedSegment<L> {
     ) -> Result<Receipt, CommitFault>
         ensures told { IfOk result
             (λ r. seat.new ≡ record seat.old { receipts = seat.old.receipts ++ r ∷ [] }) }
+        ensures silent { IfOk result (λ r. IsSilent r.reply) }
         ensures same { OnErr result (seat.new ≡ seat.old) }
         ensures wrong { (result ≡ Err WrongTap) ↔ IsTrue (is_turn (event_of event)) }
     {
@@ -157,7 +164,9 @@ impl<L: Ledger> SharedSegment<L> {
     }
 
     /// Ends it. The receipts of each seat are then the places of its events in the history, with the replies there,
-    /// and each outlook shows the world after the events before it. It waits for nobody, and takes no memory.
+    /// and each outlook shows the world after the events before it. The trace is that of a world with one token, where the
+    /// events of the history break no premise, and with no master left in silence for longer than its time-out and the lag,
+    /// where none of them loses a telegram or lets a turn come late. It waits for nobody, and takes no memory.
     ///
     /// Faults, the first that applies, with all that was handed in: `MissingSeat` where there are more or fewer
     /// seats of taps than taps; `Disagree` where what the seats were told or shown is not what stands in the
@@ -178,7 +187,7 @@ impl<L: Ledger> SharedSegment<L> {
         ensures full { OnOk result (length seats.items + 1 ≡ L.parts) }
         ensures missing { IfErr result (λ e. IsMissing e.fault (length seats.items + 1 ≡ L.parts)) }
         ensures back { IfErr result
-            (λ e. (e.conductor ≡ conductor) × (e.seats ≡ seats) × (e.segment.origin ≡ self.origin)) }
+            (λ e. (e.conductor ≡ conductor) × (e.seats ≡ seats) × (e.segment ≡ self)) }
     {
         let SharedSegment { state, origin } = self;
         let locked = state.into_inner();
@@ -209,7 +218,7 @@ impl<L: Ledger> SharedSegment<L> {
         ensures full { OnOk result (length seats.items + 1 ≡ L.parts) }
         ensures missing { IfErr result (λ e. IsMissing e.fault (length seats.items + 1 ≡ L.parts)) }
         ensures back { IfErr result
-            (λ e. (e.conductor ≡ conductor) × (e.seats ≡ seats) × (e.segment.origin ≡ self.origin)) }
+            (λ e. (e.conductor ≡ conductor) × (e.seats ≡ seats) × (e.segment ≡ self)) }
     {
         let SharedSegment { state, origin } = self;
         let locked = state.into_inner();

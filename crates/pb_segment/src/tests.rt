@@ -1,11 +1,14 @@
+//! Tests of a segment: what seats are told and shown, how it is closed, and three threads at once.
+
+mod edges;
 mod idle;
+mod memory;
 
 ghost use Rattle.std.specs.Prelude.{◌≡◌, ◌+◌, ◌<◌, ◌≤◌, true, length};
 ghost use Rattle.pb_segment.specs.Origins.{IsNew};
 
 use crate::{
-    CloseFault, Closed, CommitFault, ConductorSeat, Draft, GlanceFault, History, Outlook, Receipt,
-    SharedSegment, TapSeat,
+    CloseFault, Closed, CommitFault, ConductorSeat, Draft, History, Outlook, SharedSegment, TapSeat,
 };
 use arrayvec::ArrayVec;
 use pb_station::{SendBuffer, decide, decide_in};
@@ -90,6 +93,10 @@ fn two_decisions<L: Ledger, R: AllocGlobal + Abort + Wait>(rt: &R, blank: Blank,
     let other = segment.glance(rt, alloc, &first).expect(rt, "a glance");
     let decision = decide(alloc, glance).expect(rt, "a decision");
     let stale = decide(alloc, again).expect(rt, "a decision");
+    for claim in [&decision.speak, &stale.speak] {
+        let octets = claim.as_ref().expect(rt, "a telegram");
+        equal(rt, &octets.as_slice(), &[0xdc, 1, 1].as_slice());
+    }
     let foreign = decide(alloc, other).expect(rt, "a decision");
     let receipt = segment
         .commit(rt, alloc, &mut first, decision)
@@ -431,121 +438,4 @@ fn three_threads_have_their_events_accepted(rt: HostRuntime) {
     let world = two_masters(&rt);
     let blank = Blank::new(world.taps() as u64 + 1);
     three_threads::<Brand, HostRuntime>(&rt, blank, world);
-}
-
-/// Run with one allocation refused: the call that it refuses changes nothing, and answers as ever the next time.
-fn refused_once<L: Ledger, R: AllocGlobal + Abort + Print + Wait>(
-    rt: &R,
-    blank: Blank,
-    world: World,
-)
-    requires name { blank.name ≡ L.name }
-    requires parts { blank.parts ≡ L.parts }
-    requires one_each { blank.parts ≡ length world.taps + 1 }
-    requires new { IsNew world }
-{
-    let Ok((segment, mut conductor, mut seats)) = SharedSegment::<L>::new(rt.alloc(), blank, world)
-    else {
-        refused(rt);
-        return;
-    };
-    let last = seats.pop().expect(rt, "the second seat");
-    let mut first = seats.pop().expect(rt, "the first seat");
-    for (place, event) in [Event::Start(0), Event::Start(1), Event::Pass(800)]
-        .into_iter()
-        .enumerate()
-    {
-        equal(
-            rt,
-            &driven(rt, &segment, &mut conductor, event).place,
-            &place,
-        );
-    }
-    let receipt = match turn(rt, &segment, &mut first) {
-        Some(receipt) => receipt,
-        None => {
-            refused(rt);
-            turn(rt, &segment, &mut first).expect(rt, "a turn")
-        }
-    };
-    equal(rt, &receipt.place, &3);
-    let after = shown(rt, &segment, &mut conductor);
-    equal(rt, &(after.place, after.now.get()), &(4, 800));
-    equal(
-        rt,
-        &(due(&after, 0), due(&after, 1)),
-        &(Some(870), Some(1000)),
-    );
-    if seats.push(first).is_err() {
-        refused(rt);
-        return;
-    }
-    closes(rt, segment, conductor, seats, last);
-}
-
-fn refused(rt: &impl Print) {
-    let _ = println!(rt; "refused");
-}
-
-fn driven<L: Ledger, R: AllocGlobal + Abort + Print + Wait>(
-    rt: &R,
-    segment: &SharedSegment<L>,
-    conductor: &mut ConductorSeat<L>,
-    event: Event,
-) -> Receipt {
-    match segment.drive(rt, rt.alloc(), conductor, event.copy()) {
-        Ok(receipt) => receipt,
-        Err(fault) => {
-            equal(rt, &fault, &CommitFault::World(WorldFault::NoMemory));
-            refused(rt);
-            segment
-                .drive(rt, rt.alloc(), conductor, event)
-                .expect(rt, "an event")
-        }
-    }
-}
-
-fn shown<L: Ledger, R: AllocGlobal + Abort + Print + Wait>(
-    rt: &R,
-    segment: &SharedSegment<L>,
-    conductor: &mut ConductorSeat<L>,
-) -> Outlook {
-    match segment.outlook(rt, rt.alloc(), conductor) {
-        Ok(outlook) => outlook,
-        Err(fault) => {
-            equal(rt, &fault, &GlanceFault::NoMemory);
-            refused(rt);
-            segment
-                .outlook(rt, rt.alloc(), conductor)
-                .expect(rt, "an outlook")
-        }
-    }
-}
-
-/// The receipt of a turn. None where memory was refused.
-fn turn<L: Ledger, R: AllocGlobal + Abort + Wait>(
-    rt: &R,
-    segment: &SharedSegment<L>,
-    seat: &mut TapSeat<L>,
-) -> Option<Receipt> {
-    let glance = segment.glance(rt, rt.alloc(), seat).ok()?;
-    let decision = decide(rt.alloc(), glance).ok()?;
-    match segment.commit(rt, rt.alloc(), seat, decision) {
-        Ok(receipt) => Some(receipt),
-        Err(fault) => {
-            equal(rt, &fault, &CommitFault::World(WorldFault::NoMemory));
-            None
-        }
-    }
-}
-
-#[test]
-fn refused_memory_in_a_segment(rt: HostRuntime) {
-    let specs = [master(1), master(2)];
-    let Ok(world) = World::new(rt.alloc(), usual(&rt), &specs) else {
-        refused(&rt);
-        return;
-    };
-    let blank = Blank::new(world.taps() as u64 + 1);
-    refused_once::<Brand, HostRuntime>(&rt, blank, world);
 }

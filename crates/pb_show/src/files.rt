@@ -8,18 +8,23 @@ use crate::audits::findings;
 use crate::faults::{run_line, scenario_line};
 use crate::shown::Shown;
 use pb_runs::the_events_of_a_run_lead_to_its_end;
-use pb_scenario::{Scenario, ScenarioFault, audit_of, read};
+use pb_scenario::{Reasons, Scenario, ScenarioFault, read, reasons_of};
 use std::alloc::{AllocError, Global};
 
 /// What is written for the audit of a scenario file: a line for the first premise that its run on one thread breaks,
-/// and a line for the first illegal record of its trace; or the line of the fault of the file or of the run.
+/// and a line for the first illegal record of its trace; or the line of the fault of the file or of the run. Where there
+/// is an audit, `reasons` becomes what it finds, and why.
 ///
 /// Fault: memory was refused.
-pub fn audited(alloc: Global, file: &[u8]) -> Result<Shown, AllocError>
+pub fn audited(
+    alloc: Global,
+    file: &[u8],
+    reasons: &mut Option<Reasons>,
+) -> Result<Shown, AllocError>
     ensures { IfOk result (λ shown. shown_of shown ≡ audit_of file.now) }
 {
     match described(alloc, file) {
-        Ok(scenario) => audited_scenario(alloc, &scenario),
+        Ok(scenario) => audited_scenario(alloc, &scenario, reasons),
         Err(fault) => refused_file(alloc, &fault),
     }
 }
@@ -44,13 +49,20 @@ pub fn refused_file(alloc: Global, fault: &ScenarioFault) -> Result<Shown, Alloc
     Ok(Shown::refusal(scenario_line(alloc, fault)?))
 }
 
-/// What is written for the audit of a scenario.
-fn audited_scenario(alloc: Global, scenario: &Scenario) -> Result<Shown, AllocError>
+/// What is written for the audit of a scenario, with what it finds, and why.
+fn audited_scenario(
+    alloc: Global,
+    scenario: &Scenario,
+    reasons: &mut Option<Reasons>,
+) -> Result<Shown, AllocError>
     ensures { IfOk result (λ shown. shown_of shown ≡ audit_of_scenario scenario.now.scenario) }
 {
     the_events_of_a_run_lead_to_its_end();
-    match audit_of(alloc, scenario) {
-        Ok(audit) => findings(alloc, &audit),
+    match reasons_of(alloc, scenario) {
+        Ok(why) => {
+            *reasons = Some(why);
+            findings(alloc, &why.found)
+        }
         Err(fault) => Ok(Shown::refusal(run_line(alloc, fault)?)),
     }
 }

@@ -14,8 +14,7 @@ mod shown;
 mod tails;
 
 pub use files::{audited, described, refused_file};
-pub use pb_fleet::{Gate, run_fleet};
-pub use pb_scenario::Scenario;
+pub use pb_scenario::{Reasons, Scenario};
 pub use plays::{refused_fleet, traced};
 pub use shown::Shown;
 

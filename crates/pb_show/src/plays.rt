@@ -1,3 +1,5 @@
+//! What is written for a run: its trace, or the line of a fleet's fault.
+
 ghost use Rattle.std.specs.Prelude.{◌≡◌, ◌≢◌, ◌≤◌, IfOk, OnOk, map};
 ghost use Rattle.pb_medium.specs.Entries.{entry_of};
 ghost use Rattle.pb_fleet.specs.declared.faults.FleetFault.{FleetFault};
@@ -9,7 +11,7 @@ use crate::faults::{new_line, refused_line};
 use crate::shown::Shown;
 use crate::tails::last_lines;
 use pb_fleet::{CommitFault, FleetFault};
-use pb_scenario::{Entry, Scenario, trace_text};
+use pb_scenario::{Entry, Scenario, push_trace};
 use std::alloc::{AllocError, Global};
 
 /// What is written for the trace of a scenario's run: a line for each entry, or the last lines of them.
@@ -24,7 +26,8 @@ pub fn traced(
     ensures { IfOk result
         (λ shown. shown_of shown ≡ trace_shown last scenario.now.names (map entry_of entries.now)) }
 {
-    let whole = trace_text(alloc, scenario, entries)?;
+    let mut whole = Vec::new(alloc);
+    push_trace(&mut whole, scenario, entries)?;
     let text = match last {
         None => whole,
         Some(lines) => last_lines(alloc, &whole, lines)?,
@@ -54,6 +57,7 @@ fn fleet_line(alloc: Global, fault: FleetFault) -> Result<Vec<u8>, AllocError>
     ensures told { OnOk result (IsToldFleet fault) }
 {
     match fault {
+        // Excluded by what is required: the program asks for numbers of workers within the limits.
         FleetFault::BadWorkers => unreachable!(),
         FleetFault::Commit { now, fault, .. } | FleetFault::Drive { now, fault } => {
             commit_line(alloc, fault, now)

@@ -1,3 +1,5 @@
+//! What is written for an audit, and the lines of faults that no scenario file brings about.
+
 use crate::{audited, refused_fleet};
 use pb_fleet::{CloseFault, CommitFault, FleetFault};
 
@@ -34,7 +36,9 @@ tap = \"a\"
 
 #[test]
 fn an_audit_names_premise_and_record(rt: HostRuntime) {
-    let shown = audited(rt.alloc(), FILE).expect(&rt, "memory");
+    let mut reasons = None;
+    let shown = audited(rt.alloc(), FILE, &mut reasons).expect(&rt, "memory");
+    assert!(rt; reasons.is_some());
     assert!(rt;
         shown.text.as_slice() == b"premise P4 broken at 1000\nrecord 1 illegal\n".as_slice()
     );

@@ -10,10 +10,7 @@ use std::thread::Threads;
 /// Two seats draw in turn.
 #[test]
 fn gives_each_number_once(rt: HostRuntime) {
-    let Ok((tickets, mut first)) = Tickets::new(rt.alloc(), 3, 2) else {
-        let _ = println!(rt; "refused");
-        return;
-    };
+    let (tickets, mut first) = Tickets::new(rt.alloc(), 3, 2).expect(&rt, "tickets");
     let mut second = tickets.split(&mut first);
     assert_eq!(rt; tickets.draw(&mut first), Some(0));
     assert_eq!(rt; tickets.draw(&mut second), Some(1));
@@ -22,6 +19,19 @@ fn gives_each_number_once(rt: HostRuntime) {
     assert_eq!(rt; tickets.draw(&mut second), None);
     tickets.join(&mut first, second);
     assert_eq!(rt; tickets.close(first), 3);
+}
+
+/// The tickets are there and give each number, or memory was refused.
+#[test]
+fn refused_memory_in_tickets(rt: HostRuntime) {
+    let Ok((tickets, mut seat)) = Tickets::new(rt.alloc(), 2, 1) else {
+        let _ = println!(rt; "refused");
+        return;
+    };
+    assert_eq!(rt; tickets.draw(&mut seat), Some(0));
+    assert_eq!(rt; tickets.draw(&mut seat), Some(1));
+    assert_eq!(rt; tickets.draw(&mut seat), None);
+    assert_eq!(rt; tickets.close(seat), 2);
 }
 
 /// Before all are drawn the close tells how many were.

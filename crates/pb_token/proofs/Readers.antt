@@ -1,20 +1,23 @@
 -- The theorem in the words of a world's readers.
-use Rattle.std.proofs.Common.{◌≡◌, ℕ, zero, suc, Bool, true, false, ◌&&◌, List, [], ◌∷◌, ◌++◌, map, refl, sym, ap, ◌∙◌, subst, Some, None, Ok}
+use Rattle.std.proofs.Common.{◌≡◌, ℕ, ◌+◌, ◌<◌, ◌≤◌, zero, suc, Bool, true, false, ◌&&◌, List, [], ◌∷◌, ◌++◌, map, refl, sym, ap, ◌∙◌, subst, Some, None, Ok}
 use Rattle.std.specs.Prelude.{slice_get}
 use Rattle.std.proofs.lemmas.Option.{none-some, same_Some}
-use Rattle.pb_timers.specs.Timers.{Params}
+use Rattle.pb_timers.specs.Timers.{Params, tto}
 use Rattle.pb_timers.specs.ParamRules.{IsValid}
 use Rattle.pb_turn.specs.Phases.{may_initiate, Offline}
 use Rattle.pb_model.specs.Medium.{TapSpec, Tap}
 use Rattle.pb_model.specs.World.{World, Event, stopped_tap, new_faults, new_world}
 use Rattle.pb_model.specs.Step.{RunsTo}
 use Rattle.pb_model.proofs.Worlds.{unless-Ok}
-use Rattle.pb_theorem.specs.Headline.{MayInitiate, HasAtMostOneHolder}
+use Rattle.pb_theorem.specs.Activity.{is_silent}
+use Rattle.pb_theorem.specs.Headline.{MayInitiate, HasAtMostOneHolder, NoneLosesOrComesLate}
 use Rattle.pb_theorem.specs.Premises.{first_broken}
 use Rattle.pb_token.specs.Invariant.{Settled}
-use Rattle.pb_token.specs.Promises.{HasRun, StationMayInitiate, HasOneToken, LeavesOneToken}
+use Rattle.pb_token.specs.Promises.{StationMayInitiate, HasOneToken, OneToken, NoneInSilence}
 use Rattle.pb_token.proofs.Keeping.{fits_valid}
-use Rattle.pb_token.proofs.JoinedRuns.{runs_join, events_join, settled_after}
+use Rattle.pb_token.proofs.BoundedSilence.{silence_at_speakers, silence_at_tap}
+use Rattle.pb_token.proofs.JoinedRuns.{runs_join, runs_same, events_join, settled_after}
+use Rattle.pb_token.proofs.Stays.{new_params}
 use Rattle.pb_token.proofs.Induction.{theorem_of_delay}
 
 -- one that may initiate runs, as one that is stopped is offline
@@ -32,26 +35,21 @@ in_readers_words w s one = record {
   legal = one.legal;
 }
 
-pub one_token : (p : Params) (specs : List TapSpec) (events : List Event) (new w : World) → IsValid p → HasRun p specs events new w → first_broken new events ≡ None → HasOneToken w
+pub one_token : OneToken
 one_token p specs events new w valid run none =
     let fits = fits_valid p valid in in_readers_words w (settled_after p specs events new w fits.highest run) (theorem_of_delay p specs events new w fits run none)
 
--- in a new world no station may initiate
-new_offline : (p : Params) (specs : List TapSpec) (tap : ℕ) (t : Tap) → slice_get (map (stopped_tap p) specs) tap ≡ Some t → may_initiate t.station.phase ≡ true → ⊥
-new_offline p [] tap t at may = none-some t at
-new_offline p (spec ∷ specs) zero t at may = let w : false ≡ true = ap (λ (z : Tap). may_initiate z.station.phase) (same_Some (stopped_tap p spec) t at) ∙ may in cc
-new_offline p (spec ∷ specs) (suc tap) t at may = new_offline p specs tap t at may
+-- ---- silence
 
-pub new_has_one : (p : Params) (specs : List TapSpec) (w : World) → new_world p specs ≡ Ok w → HasOneToken w
-new_has_one p specs w made =
-    let new : World = record { params = p; now = 0; trace = []; taps = map (stopped_tap p) specs } in
-    subst HasOneToken (unless-Ok (new_faults p specs) new w made).1 (record {
-      at_most_one = λ i j a b. absurd (new_offline p specs i a.0 a.1 a.2);
-      is_named = λ i a. absurd (new_offline p specs i a.0 a.1 a.2);
-      legal = refl;
-    })
-
-pub run_leaves_one : (w next : World) (events : List Event) → RunsTo w events next → LeavesOneToken w events next
-run_leaves_one w next events runs p specs before new valid are run none =
-    one_token p specs (before ++ events) new next valid
-    (record { fit = run.fit; are = events_join before events run.are are; made = run.made; runs = runs_join before events new next (w, run.runs, runs) }) none
+pub none_in_silence : NoneInSilence
+none_in_silence p specs events new w valid run none =
+    let fits = fits_valid p valid in
+    let params : w.params ≡ p = (runs_same events new w run.runs).params ∙ new_params p specs new run.made in
+    record {
+      at_the_tap = λ tap m u t is since lt le silent.
+          subst (λ (q : Params). u ≤ m + (tto q t.spec.address + q.lag)) (sym params)
+          (silence_at_tap p specs events new w tap m u t fits run none is since lt le (subst (λ (q : Params). is_silent q.ttd tap w.trace m u ≡ true) params silent));
+      at_speakers = λ tap m u t is since lt le silent.
+          subst (λ (q : Params). u ≤ m + (tto q t.spec.address + q.lag + q.ttd)) (sym params)
+          (silence_at_speakers p specs events new w tap m u t fits run none is since lt le silent);
+    }

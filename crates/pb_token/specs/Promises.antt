@@ -1,5 +1,5 @@
 -- What the token theorem and the silence bound say for every cable delay, and in the words of a world's readers.
-use Rattle.std.specs.Prelude.{◌≡◌, ℕ, ◌+◌, ◌≤◌, ◌<◌, true, List, ◌++◌, slice_get, Some, None, Ok}
+use Rattle.std.specs.Prelude.{◌≡◌, ℕ, ◌+◌, ◌≤◌, ◌<◌, true, List, slice_get, Some, None, Ok}
 use Rattle.pb_timers.specs.Timers.{Params, tto}
 use Rattle.pb_timers.specs.ParamRules.{IsValid}
 use Rattle.pb_turn.specs.Phases.{may_initiate, is_offline}
@@ -40,13 +40,10 @@ pub record HasOneToken (w : World) : Type 0 where
   pub is_named : (i : ℕ) → StationMayInitiate w i → named w.params (specs_of w) w.trace w.now ≡ Some i
   pub legal : first_illegal w.params (specs_of w) w.trace ≡ None
 
--- Events that lead from one world to the next leave one token: whatever events have led to the first from a new world, if they break no premise together.
-abbrev pub LeavesOneToken : World → List Event → World → Type 0
-LeavesOneToken w events next = (p : Params) (specs : List TapSpec) (before : List Event) (new : World) → IsValid p → AreEvents events → HasRun p specs before new w
-    → first_broken new (before ++ events) ≡ None → HasOneToken next
-
-abbrev pub RunsLeaveOneToken : Type 0
-RunsLeaveOneToken = (w next : World) (events : List Event) → RunsTo w events next → LeavesOneToken w events next
+-- the token theorem in the words of a world's readers
+abbrev pub OneToken : Type 0
+OneToken = (p : Params) (specs : List TapSpec) (events : List Event) (new w : World) → IsValid p → HasRun p specs events new w
+    → first_broken new events ≡ None → HasOneToken w
 
 -- ---- silence
 
@@ -83,3 +80,16 @@ pub record IsReached (p : Params) (specs : List TapSpec) (events : List Event) (
   pub within : u ≤ w.now
   pub silent : is_silent 0 tap w.trace m u ≡ true
   pub reached : u ≡ m + (tto p t.spec.address + p.lag + p.ttd)
+
+-- No running master that isn't offline has been left in silence for longer than its bound: its time-out and the lag as it hears the bus, and the cable
+-- delay more where each telegram is taken at its speaker's moments.
+pub record LeavesNoneInSilence (w : World) : Type 0 where
+  pub at_the_tap : (tap m u : ℕ) (t : Tap) → IsMasterAt w tap t → t.since ≤ m → m < u → u ≤ w.now → is_silent w.params.ttd tap w.trace m u ≡ true
+      → u ≤ m + (tto w.params t.spec.address + w.params.lag)
+  pub at_speakers : (tap m u : ℕ) (t : Tap) → IsMasterAt w tap t → t.since ≤ m → m < u → u ≤ w.now → is_silent 0 tap w.trace m u ≡ true
+      → u ≤ m + (tto w.params t.spec.address + w.params.lag + w.params.ttd)
+
+-- the silence bound in the words of a world's readers
+abbrev pub NoneInSilence : Type 0
+NoneInSilence = (p : Params) (specs : List TapSpec) (events : List Event) (new w : World) → IsValid p → HasRun p specs events new w
+    → NoneLosesOrComesLate new events → LeavesNoneInSilence w

@@ -1,5 +1,5 @@
 -- What runs keep, and how they are put together.
-use Rattle.std.specs.Prelude.{◌≡◌, ℕ, ◌≤◌, true, false, List, ◌++◌, Some, None, slice_get}
+use Rattle.std.specs.Prelude.{◌≡◌, ℕ, ◌≤◌, true, false, List, [], ◌∷◌, ◌++◌, Some, None, Ok, slice_get}
 use Rattle.pb_timers.specs.Timers.{Params}
 use Rattle.pb_turn.specs.Laws.{IsSilentWhileBusy}
 use Rattle.pb_turn.specs.Marks.{Mark}
@@ -7,8 +7,8 @@ use Rattle.pb_turn.specs.Phases.{Offline}
 use Rattle.pb_turn.specs.Stations.{Station}
 use Rattle.pb_turn.specs.Turns.{turn_of}
 use Rattle.pb_model.specs.Medium.{TapSpec, Tap}
-use Rattle.pb_model.specs.World.{World, Event}
-use Rattle.pb_model.specs.Step.{RunsTo}
+use Rattle.pb_model.specs.World.{World, Event, Reply, Unheard}
+use Rattle.pb_model.specs.Step.{step, RunsTo}
 use Rattle.pb_theorem.specs.Headline.{specs_of}
 use Rattle.pb_theorem.specs.Premises.{first_broken}
 use Rattle.pb_token.specs.Promises.{HasRun}
@@ -32,6 +32,11 @@ RunsJoin = (w next : World) (xs ys : List Event) → RunsBoth w xs ys next → R
 -- and the other way round
 abbrev pub RunsPart : Type 0
 RunsPart = (w next : World) (xs ys : List Event) → RunsTo w (xs ++ ys) next → RunsBoth w xs ys next
+
+-- a loss that is not refused breaks a premise
+abbrev pub LossesBreak : Type 0
+LossesBreak = (w next : World) (tap speaker : ℕ) (reply : Reply) → step w (Unheard tap speaker) ≡ Ok (next, reply)
+    → first_broken w (Unheard tap speaker ∷ []) ≡ None → ⊥
 
 abbrev pub BeginningsKeepPremises : Type 0
 BeginningsKeepPremises = (w : World) (xs ys : List Event) → first_broken w (xs ++ ys) ≡ None → first_broken w xs ≡ None

@@ -1,7 +1,10 @@
+//! What each kind of event keeps of the invariant.
+
 ghost use Rattle.std.specs.Prelude.{ℕ, Option};
 ghost use Rattle.pb_messages.specs.RequestFields.{RequestFields};
-ghost use Rattle.pb_model.specs.World.{World, Turn, Pass, Damage, Start, Stop, Queue, Noise, Unheard};
+ghost use Rattle.pb_model.specs.World.{World, Turn, Pass, Damage, Start, Stop, Queue, Noise};
 ghost use Rattle.pb_token.specs.Invariant.{BeginsWithInvariant, KeepsInvariant};
+ghost use Rattle.pb_token.specs.Runs.{LossesBreak};
 
 /// A new world has the invariant, where the parameters leave time and what the stations reply fits into
 /// telegrams.
@@ -47,5 +50,5 @@ pub fn noise_keeps_the_invariant()
 
 /// The loss of a telegram at a tap breaks a premise, so nothing is to be kept.
 pub fn a_loss_breaks_a_premise()
-    ensures { (w : World) (tap speaker : ℕ) → KeepsInvariant w (Unheard tap speaker) }
+    ensures { LossesBreak }
 {}

@@ -1,7 +1,9 @@
+//! The silence bound.
+
 ghost use Rattle.std.specs.Prelude.{ℕ};
 ghost use Rattle.pb_model.specs.Scenarios.{two_masters};
 ghost use Rattle.pb_theorem.specs.Headline.{SilenceBound};
-ghost use Rattle.pb_token.specs.Promises.{SilenceAtSpeakers, SilenceAtTap, IsReached};
+ghost use Rattle.pb_token.specs.Promises.{SilenceAtSpeakers, SilenceAtTap, NoneInSilence, IsReached};
 ghost use Rattle.pb_token.specs.Examples.{long_bus, long_silence};
 
 /// No master that runs, and isn't offline, is left in silence for longer than its time-out, the lag and the cable
@@ -10,6 +12,7 @@ pub fn no_master_is_left_in_silence()
     ensures bound { SilenceBound }
     ensures at_speakers { SilenceAtSpeakers }
     ensures at_the_tap { SilenceAtTap }
+    ensures of_a_world { NoneInSilence }
 {}
 
 /// It may be left so long: a master whose token was claimed by a station that stops.

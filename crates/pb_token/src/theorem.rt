@@ -1,11 +1,11 @@
-ghost use Rattle.std.specs.Prelude.{◌≡◌, List, Ok};
-ghost use Rattle.pb_timers.specs.Timers.{Params};
-ghost use Rattle.pb_model.specs.Medium.{TapSpec};
-ghost use Rattle.pb_model.specs.World.{World, new_world};
+//! The token theorem.
+
+ghost use Rattle.std.specs.Prelude.{List};
+ghost use Rattle.pb_model.specs.World.{World};
 ghost use Rattle.pb_theorem.specs.Headline.{HasAtMostOneHolder, TokenTheorem};
 ghost use Rattle.pb_theorem.specs.Premises.{Waited};
 ghost use Rattle.pb_token.specs.Invariant.{Invariant};
-ghost use Rattle.pb_token.specs.Promises.{TokenTheoremOfDelay, HasOneToken, RunsLeaveOneToken};
+ghost use Rattle.pb_token.specs.Promises.{OneToken, TokenTheoremOfDelay};
 
 /// Where the premises hold, no two stations may initiate at once, the one that may is the one that the trace
 /// names, and each telegram that only a holder sends is legal after the one before it: after every list of
@@ -22,6 +22,5 @@ pub fn the_invariant_allows_one_holder()
 
 /// The theorem in the words of a world's readers: a station that has stopped may not initiate either.
 pub fn a_run_leaves_one_token()
-    ensures new { (p : Params) (specs : List TapSpec) (w : World) → new_world p specs ≡ Ok w → HasOneToken w }
-    ensures run { RunsLeaveOneToken }
+    ensures { OneToken }
 {}

@@ -8,8 +8,11 @@
 
 mod worlds;
 
-pub use pb_audit::{Audit, AuditFault, audit, audit_shared};
-pub use pb_medium::{Entry, Heard, Reception, Record};
+pub use pb_audit::{
+    Audit, AuditFault, Cause, Illegal, LongestStretches, Reasons, Rule, Stretch, TraceFault, audit,
+    audit_shared, audit_with_reasons, first_illegal, liveness, longest_without, named,
+};
+pub use pb_medium::{Entry, Heard, HeardByTap, Reception, Record, RecordFault};
 pub use pb_station::Station;
 pub use pb_taps::{Event, Kind, NewFault, Reply, TapSpec, WorldFault};
 pub use worlds::{World, run, run_shared};

@@ -1,8 +1,11 @@
+//! The public face of a bus: `World`, and runs of events on it.
+
 ghost use Rattle.std.specs.Prelude.{◌≡◌, ◌≤◌, OnOk, IfErr, Some, length, map, take};
 ghost use Rattle.pb_taps.specs.Events.{event_of, reply_of};
 ghost use Rattle.pb_bus.specs.Worlds.{lent_event, StopsAt};
 ghost use Rattle.pb_model.specs.Step.{RunsTo};
-ghost use Rattle.pb_token.specs.Promises.{LeavesOneToken};
+ghost use Rattle.pb_model.specs.Laws.{IsEvent};
+ghost use Rattle.pb_live.specs.Promises.{LeadOn};
 
 use pb_bus::{Bus, new_bus};
 use pb_medium::Entry;
@@ -35,6 +38,7 @@ impl Model for World {
 
 impl World {
     ghost use Rattle.std.specs.Prelude.{◌≡◌, ◌<◌, [], ◌∷◌, Ok, None, IsTrue, ◌↔◌, IfOk, IfErr, OnOk, MatchOption, length, map, slice_get};
+    ghost use Rattle.pb_model.specs.Laws.{IsEvent};
     ghost use Rattle.pb_model.specs.Step.{step};
     ghost use Rattle.pb_model.specs.World.{new_world, Turn};
     ghost use Rattle.pb_medium.specs.Entries.{entry_of};
@@ -45,7 +49,7 @@ impl World {
     ghost use Rattle.pb_bus.specs.Worlds.{due_at, Follows, Goes, IsStationAt};
     ghost use Rattle.pb_bus.specs.Glances.{CanBeDecided, Fits, IsGlance};
     ghost use Rattle.pb_runs.specs.Bus.{next_change};
-    ghost use Rattle.pb_token.specs.Promises.{HasOneToken, LeavesOneToken};
+    ghost use Rattle.pb_live.specs.Promises.{KeepsPromises, LeadOn, LeadTo};
 
     /// A world whose taps don't run yet, at clock 0.
     ///
@@ -53,10 +57,12 @@ impl World {
     /// the least tap that is a master with an address over the highest station address, or a passive
     /// station with one over 126; `NoMemory`. Equal addresses are taken.
     ///
-    /// No station may initiate in it, and its trace is legal.
+    /// No station may initiate in it, its trace is legal, and no master has been left in silence. No events have led to it
+    /// yet (`lead`): what calls promise of later worlds starts here.
     pub fn new(alloc: Global, params: BusParams, specs: &[TapSpec]) -> Result<World, NewFault>
         ensures ok { IfOk result (λ w. new_world params (map spec_of specs.now) ≡ Ok w) }
-        ensures token { IfOk result HasOneToken }
+        ensures lead { IfOk result (λ w. LeadTo w [] w) }
+        ensures promises { IfOk result (λ w. KeepsPromises w [] w) }
         ensures fault { IfErr result (RefusesNew (new_world params (map spec_of specs.now))) }
     {
         let bus = new_bus(alloc, params, specs)?;
@@ -90,10 +96,11 @@ impl World {
     ///
     /// Where the events that led to this world, and this one, break no premise, at most one station may initiate
     /// after it, the trace names that one, and each telegram that only a holder sends is legal (medium access: token
-    /// passing): so the contract says of valid parameters, data to reply that fit, and requests as requests are.
+    /// passing). Where none of these events loses a telegram at a tap or lets a turn come late, no running master that
+    /// isn't offline has been left in silence for longer than its time-out and the lag.
     pub fn apply(&mut self, alloc: Global, event: Event) -> Result<Reply, WorldFault>
         ensures follows { Follows self.old (event_of event) result self.new }
-        ensures token { OnOk result (LeavesOneToken self.old (event_of event ∷ []) self.new) }
+        ensures promises { OnOk result (LeadOn self.old (event_of event ∷ []) self.new) }
     {
         self.bus.apply(alloc, &event)?;
         Ok(reply(&self.bus))
@@ -101,7 +108,8 @@ impl World {
 
     /// Does an event, without a reply.
     fn does(&mut self, alloc: Global, event: &Event) -> Result<(), WorldFault>
-        ensures { Goes self.old (event_of event.now) result self.new }
+        ensures goes { Goes self.old (event_of event.now) result self.new }
+        ensures event { IsEvent (event_of event.now) }
     {
         self.bus.apply(alloc, event)
     }
@@ -214,7 +222,7 @@ impl World {
     pub fn take(&mut self, alloc: Global, decision: Decision) -> Result<Reply, WorldFault>
         requires { Fits self.old decision }
         ensures follows { Follows self.old (Turn decision.tap) result self.new }
-        ensures token { OnOk result (LeavesOneToken self.old (Turn decision.tap ∷ []) self.new) }
+        ensures promises { OnOk result (LeadOn self.old (Turn decision.tap ∷ []) self.new) }
     {
         let mut octets = None;
         self.take_decided(alloc, decision.lend(&mut octets))
@@ -228,7 +236,7 @@ impl World {
     pub fn take_decided(&mut self, alloc: Global, decided: Decided<'_>) -> Result<Reply, WorldFault>
         requires { Fits self.old decided }
         ensures follows { Follows self.old (Turn decided.entry.tap) result self.new }
-        ensures token { OnOk result (LeavesOneToken self.old (Turn decided.entry.tap ∷ []) self.new) }
+        ensures promises { OnOk result (LeadOn self.old (Turn decided.entry.tap ∷ []) self.new) }
     {
         self.bus.take(alloc, decided)?;
         Ok(reply(&self.bus))
@@ -273,14 +281,15 @@ fn spoken_reply(now: Moment, octets: &[u8]) -> Reply
 /// counted from 0, and its fault; the events before it stand.
 ///
 /// Where the events that led to the world, and those that it does, break no premise, at most one station may
-/// initiate after them, the trace names that one, and each telegram that only a holder sends is legal: so the
-/// contract says of valid parameters, data to reply that fit, and requests as requests are.
+/// initiate after them, the trace names that one, and each telegram that only a holder sends is legal. Where none of them
+/// loses a telegram at a tap or lets a turn come late, no running master that isn't offline has been left in silence for
+/// longer than its time-out and the lag.
 pub fn run(alloc: Global, world: &mut World, events: &[Event]) -> Result<(), (usize, WorldFault)>
     ensures ok { OnOk result (RunsTo world.old (map event_of events.now) world.new) }
     ensures err { IfErr result (λ e. StopsAt world.old (map event_of events.now) e.0 e.1 world.new) }
-    ensures token { OnOk result (LeavesOneToken world.old (map event_of events.now) world.new) }
-    ensures token_before { IfErr result
-        (λ e. LeavesOneToken world.old (take e.0 (map event_of events.now)) world.new) }
+    ensures promises { OnOk result (LeadOn world.old (map event_of events.now) world.new) }
+    ensures promises_before { IfErr result
+        (λ e. LeadOn world.old (take e.0 (map event_of events.now)) world.new) }
 {
     for (place, event) in events.iter().enumerate() {
         if let Err(fault) = world.does(alloc, event) {
@@ -299,9 +308,9 @@ pub fn run_shared(
 ) -> Result<(), (usize, WorldFault)>
     ensures ok { OnOk result (RunsTo world.old (map lent_event events.now) world.new) }
     ensures err { IfErr result (λ e. StopsAt world.old (map lent_event events.now) e.0 e.1 world.new) }
-    ensures token { OnOk result (LeavesOneToken world.old (map lent_event events.now) world.new) }
-    ensures token_before { IfErr result
-        (λ e. LeavesOneToken world.old (take e.0 (map lent_event events.now)) world.new) }
+    ensures promises { OnOk result (LeadOn world.old (map lent_event events.now) world.new) }
+    ensures promises_before { IfErr result
+        (λ e. LeadOn world.old (take e.0 (map lent_event events.now)) world.new) }
 {
     for (place, event) in events.iter().enumerate() {
         match world.does(alloc, event) {

@@ -7,16 +7,19 @@
 
 ghost use Rattle.std.specs.Prelude.{◌≡◌, IfOk};
 ghost use Rattle.pb_cli.specs.Asking.{IsWithinLimits};
+ghost use Rattle.pb_cli.specs.Bounding.{IsBaud};
 ghost use Rattle.pb_cli.specs.Playing.{IsUpTo, line_limit, worker_limit};
 ghost use Rattle.ringplay.specs.ExitStatus.{exit_status_of, words_status_of};
 
 use pb_cli::{
-    Ask, AskFault, CliFault, CountedReader, CountedWriter, Status, ask, audit_file, decode_lines,
-    play,
+    Ask, AskFault, Asked, CliFault, CountedReader, CountedWriter, Status, VERSION,
+    ask_with_options, audit_with_reasons, bounds_file, decode_lines, play, read_input,
 };
+use pb_hints::{MOST_EVENTS, explain, explain_audit, warn};
+use std::alloc::{AllocError, Global};
 use std::fmt::Display;
 use std::fs::Files;
-use std::io::ErrorKind;
+use std::io::{Error, ErrorKind, Read};
 use std::process::ExitCode;
 use std::rt::Env;
 use std::sync::Wait;
@@ -36,22 +39,25 @@ const STREAM: u8 = 3;
 
 const MEMORY: u8 = 4;
 
+/// What stands for standard input in the place of a file.
+const STANDARD_INPUT: &str = "-";
+
 fn main(rt: HostRuntime) -> ExitCode {
     let status = match asked(&rt) {
-        Ok(ask) => exit_status(&rt, answer(&rt, ask)),
+        Ok(asked) => exit_status(&rt, answer(&rt, asked)),
         Err(fault) => words_status(&rt, fault),
     };
     ExitCode::from(status)
 }
 
 /// What the program's words ask for; a word that is no text is told as one that makes no sense.
-fn asked(rt: &(impl AllocGlobal + Env)) -> Result<Ask, AskFault>
-    ensures { IfOk result IsWithinLimits }
+fn asked(rt: &(impl AllocGlobal + Env)) -> Result<Asked, AskFault>
+    ensures { IfOk result (λ asked. IsWithinLimits asked.ask) }
 {
     match env::args(rt) {
         Ok(words) => {
             let words: Vec<String> = words.collect(rt.alloc())?;
-            ask(rt.alloc(), &words)
+            ask_with_options(rt.alloc(), &words)
         }
         Err(error) if error.kind() == ErrorKind::OutOfMemory => Err(AskFault::NoMemory),
         Err(_) => {
@@ -62,20 +68,23 @@ fn asked(rt: &(impl AllocGlobal + Env)) -> Result<Ask, AskFault>
 }
 
 /// Does what is asked.
-fn answer<T: AllocGlobal + Files + Input + Print + Threads + Wait + Sync>(
+fn answer<T: AllocGlobal + Eprint + Files + Input + Print + Threads + Wait + Sync>(
     rt: &T,
-    ask: Ask,
+    asked: Asked,
 ) -> Result<Status, CliFault>
-    requires { IsWithinLimits ask }
+    requires { IsWithinLimits asked.ask }
 {
+    let Asked { ask, is_quiet } = asked;
     match ask {
         Ask::Decode => decode(rt),
         Ask::Run {
             file,
             workers,
             last,
-        } => run(rt, file.as_str(), workers, last),
-        Ask::Audit { file } => audit(rt, file.as_str()),
+        } => run(rt, file.as_str(), workers, last, is_quiet),
+        Ask::Audit { file } => audit(rt, file.as_str(), is_quiet),
+        Ask::Bounds { file, baud, json } => bounds(rt, file.as_str(), baud, json, is_quiet),
+        Ask::Version => version(rt),
     }
 }
 
@@ -86,34 +95,130 @@ fn decode(rt: &(impl AllocGlobal + Input + Print)) -> Result<Status, CliFault> {
     decode_lines(rt.alloc(), &mut reader, &mut writer)
 }
 
-/// `ringplay run FILE`, to standard output.
-fn run<T: AllocGlobal + Files + Print + Threads + Wait + Sync>(
+/// `ringplay run FILE`, to standard output; hints go to standard error.
+fn run<T: AllocGlobal + Eprint + Files + Input + Print + Threads + Wait + Sync>(
     rt: &T,
     path: &str,
     workers: Option<usize>,
     last: Option<usize>,
+    is_quiet: bool,
 ) -> Result<Status, CliFault>
     requires workers { IsUpTo worker_limit workers }
     requires last { IsUpTo line_limit last }
 {
-    let mut reader = CountedReader::new(opened(rt, path)?);
+    let file = contents(rt, path, is_quiet)?;
+    let mut reader = CountedReader::new(file.as_slice());
     let mut writer = CountedWriter::new(io::writer(rt));
-    play(rt, rt.alloc(), &mut reader, &mut writer, workers, last)
+    let status = play(rt, rt.alloc(), &mut reader, &mut writer, workers, last)?;
+    if !is_quiet {
+        hint(rt, warn(rt.alloc(), shown(path), &file));
+        if let Status::Refused = status {
+            hint(
+                rt,
+                explain(rt.alloc(), shown(path), &file, Some(MOST_EVENTS)),
+            );
+        }
+    }
+    Ok(status)
 }
 
-/// `ringplay audit FILE`, to standard output.
-fn audit(rt: &(impl AllocGlobal + Files + Print), path: &str) -> Result<Status, CliFault> {
-    let mut reader = CountedReader::new(opened(rt, path)?);
+/// `ringplay audit FILE`, to standard output; hints go to standard error.
+fn audit<T: AllocGlobal + Eprint + Files + Input + Print>(
+    rt: &T,
+    path: &str,
+    is_quiet: bool,
+) -> Result<Status, CliFault> {
+    let file = contents(rt, path, is_quiet)?;
+    let mut reader = CountedReader::new(file.as_slice());
     let mut writer = CountedWriter::new(io::writer(rt));
-    audit_file(rt.alloc(), &mut reader, &mut writer)
+    let found = audit_with_reasons(rt.alloc(), &mut reader, &mut writer)?;
+    if !is_quiet {
+        let text = explain_audit(rt.alloc(), shown(path), &file, found.reasons);
+        hint(rt, text);
+    }
+    Ok(found.status)
 }
 
-/// The file at a path; one that can't be opened can't be read.
-fn opened<R: Files>(rt: &R, path: &str) -> Result<R::File, CliFault> {
-    match fs::open(rt, path) {
-        Ok(file) => Ok(file),
+/// `ringplay bounds FILE`, to standard output; hints go to standard error.
+fn bounds<T: AllocGlobal + Eprint + Files + Input + Print>(
+    rt: &T,
+    path: &str,
+    baud: u32,
+    json: bool,
+    is_quiet: bool,
+) -> Result<Status, CliFault>
+    requires { IsBaud baud }
+{
+    let file = contents(rt, path, is_quiet)?;
+    let mut reader = CountedReader::new(file.as_slice());
+    let mut writer = CountedWriter::new(io::writer(rt));
+    let status = bounds_file(rt.alloc(), &mut reader, &mut writer, baud, json)?;
+    if let Status::Refused = status
+        && !is_quiet
+    {
+        hint(rt, explain(rt.alloc(), shown(path), &file, None));
+    }
+    Ok(status)
+}
+
+/// `ringplay --version`, to standard output.
+fn version(rt: &impl Print) -> Result<Status, CliFault> {
+    match println!(rt; "ringplay {VERSION}") {
+        Ok(()) => Ok(Status::Done),
+        Err(_) => Err(CliFault::Write),
+    }
+}
+
+/// What the file at a path has, or standard input. Why it can't be read goes to standard error.
+fn contents<R: AllocGlobal + Eprint + Files + Input>(
+    rt: &R,
+    path: &str,
+    is_quiet: bool,
+) -> Result<Vec<u8>, CliFault> {
+    if path == STANDARD_INPUT {
+        return whole(rt.alloc(), rt.reader());
+    }
+    let read = match fs::open(rt, path) {
+        Ok(file) => whole(rt.alloc(), file),
         Err(error) if error.kind() == ErrorKind::OutOfMemory => Err(CliFault::NoMemory),
         Err(_) => Err(CliFault::Read),
+    };
+    if let Err(CliFault::Read) = read
+        && !is_quiet
+        && let Some(error) = reason(rt, path)
+    {
+        let _ = eprintln!(rt; "{path}: {error}");
+    }
+    read
+}
+
+/// A path as hints name it.
+fn shown(path: &str) -> &str {
+    if path == STANDARD_INPUT {
+        "<stdin>"
+    } else {
+        path
+    }
+}
+
+/// All that a reader has.
+fn whole<R: Read + Drop>(alloc: Global, reader: R) -> Result<Vec<u8>, CliFault> {
+    let mut reader = CountedReader::new(reader);
+    read_input(alloc, &mut reader)
+}
+
+/// Why a file can't be read.
+fn reason<R: Files>(rt: &R, path: &str) -> Option<Error> {
+    match fs::open(rt, path) {
+        Ok(mut file) => file.read(&mut [0]).err(),
+        Err(error) => Some(error),
+    }
+}
+
+/// Says what a person may want to know. A hint for which there is no memory is left out, and one that can't be written.
+fn hint(rt: &impl Eprint, text: Result<String, AllocError>) {
+    if let Ok(text) = text {
+        let _ = rt.eprint(text);
     }
 }
 

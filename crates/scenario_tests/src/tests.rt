@@ -1,4 +1,9 @@
+//! Tests of scenario files: what is read of them, each fault, and their runs.
+
+mod bounds;
+mod edges;
 mod reviews;
+mod two_masters;
 mod walks;
 
 ghost use Rattle.std.specs.Prelude.{◌≡◌, true};
@@ -6,9 +11,7 @@ ghost use Rattle.std.specs.Prelude.{◌≡◌, true};
 use pb_cycles::Service;
 use pb_medium::Entry;
 use pb_plan::Deed;
-use pb_scenario::{
-    Key, Path, RunFault, ScenarioFault, Section, audit_of, events_of, read, trace_text,
-};
+use pb_scenario::{Key, Path, RunFault, Section, audit_of, events_of, read, trace_text};
 use pb_taps::{Event, Kind, NewFault, WorldFault};
 use pb_timers::{Moment, ParamFault};
 use pb_world::{Audit, World, audit, run};
@@ -456,102 +459,3 @@ fn a_run_ends_by_a_fault(rt: HostRuntime) {
     equal(&rt, &told.as_str(), &"BadAddress 1");
     equal(&rt, &fault, &RunFault::New(NewFault::BadAddress(1)));
 }
-
-/// Each prefix of a file describes a scenario, or has a fault.
-#[test]
-fn reads_each_prefix(rt: HostRuntime) {
-    let alloc = rt.alloc();
-    let text = file(alloc, TOP, SECOND, "").expect(&rt, "memory");
-    let octets = text.as_bytes();
-    for end in 0..octets.len() {
-        if let Err(fault) = read(alloc, &octets[..end]) {
-            assert!(rt; 1 <= fault.number() && fault.number() <= 5);
-        }
-    }
-}
-
-/// Run with one allocation refused: a file is read, or memory was refused.
-#[test]
-fn refused_memory_in_reading(rt: HostRuntime) {
-    let Ok(text) = file(rt.alloc(), TOP, SECOND, "") else {
-        let _ = println!(rt; "refused");
-        return;
-    };
-    if let Err(fault) = read(rt.alloc(), text.as_bytes()) {
-        equal(&rt, &fault, &ScenarioFault::NoMemory);
-        let _ = println!(rt; "refused");
-    }
-}
-
-/// Run with one allocation refused: a run has its events, or memory was refused, of the new world or at a moment.
-#[test]
-fn refused_memory_in_a_run(rt: HostRuntime) {
-    let Ok(text) = file(rt.alloc(), "version = 1\nuntil = 900", SECOND, START) else {
-        let _ = println!(rt; "refused");
-        return;
-    };
-    let Ok(scenario) = read(rt.alloc(), text.as_bytes()) else {
-        let _ = println!(rt; "refused");
-        return;
-    };
-    match events_of(rt.alloc(), &scenario) {
-        Ok(events) => equal(&rt, &events.len(), &9),
-        Err(RunFault::New(fault)) => {
-            equal(&rt, &fault, &NewFault::NoMemory);
-            let _ = println!(rt; "refused");
-        }
-        Err(RunFault::At(_, fault)) => {
-            equal(&rt, &fault, &WorldFault::NoMemory);
-            let _ = println!(rt; "refused");
-        }
-    }
-}
-
-/// Run with one allocation refused: a run is judged, or memory was refused, of the new world or at a moment.
-#[test]
-fn refused_memory_in_an_audit(rt: HostRuntime) {
-    let Ok(text) = file(rt.alloc(), "version = 1\nuntil = 900", SECOND, START) else {
-        let _ = println!(rt; "refused");
-        return;
-    };
-    let Ok(scenario) = read(rt.alloc(), text.as_bytes()) else {
-        let _ = println!(rt; "refused");
-        return;
-    };
-    match audit_of(rt.alloc(), &scenario) {
-        Ok(found) => assert!(rt; found.premise.is_none() && found.illegal.is_none()),
-        Err(RunFault::New(fault)) => {
-            equal(&rt, &fault, &NewFault::NoMemory);
-            let _ = println!(rt; "refused");
-        }
-        Err(RunFault::At(_, fault)) => {
-            equal(&rt, &fault, &WorldFault::NoMemory);
-            let _ = println!(rt; "refused");
-        }
-    }
-}
-
-/// Run with one allocation refused: a trace has its text, or memory was refused.
-#[test]
-fn refused_memory_in_a_trace(rt: HostRuntime) {
-    let Ok(text) = file(rt.alloc(), TOP, SECOND, START) else {
-        let _ = println!(rt; "refused");
-        return;
-    };
-    let Ok(scenario) = read(rt.alloc(), text.as_bytes()) else {
-        let _ = println!(rt; "refused");
-        return;
-    };
-    let noise = Entry::Noise {
-        begin: 100,
-        end: 150,
-    };
-    match trace_text(rt.alloc(), &scenario, &[noise]) {
-        Ok(shown) => assert!(rt; shown.as_slice() == b"100 150 ~ noise\n".as_slice()),
-        Err(_) => {
-            let _ = println!(rt; "refused");
-        }
-    }
-}
-
-const START: &str = "[[step]]\nat = 0\ndo = \"start\"\ntap = \"a\"";

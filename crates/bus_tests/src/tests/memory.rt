@@ -1,5 +1,5 @@
 use super::{due, equal, master, next_change, phase_name, two_masters, usual};
-use pb_world::{AuditFault, Entry, Event, NewFault, World, WorldFault, audit};
+use pb_world::{AuditFault, Entry, Event, NewFault, World, WorldFault, audit, audit_with_reasons};
 
 /// Two masters form a ring, with one allocation refused: the fault is `NoMemory` then, nothing has changed, and the
 /// same event done again gives what it gives with ample memory.
@@ -109,6 +109,18 @@ impl Seen {
 fn refused_memory_in_an_audit(rt: HostRuntime) {
     let alloc = rt.alloc();
     let events = [Event::Start(0), Event::Pass(800), Event::Turn(0)];
+    match audit_with_reasons(alloc, usual(&rt), &[master(1), master(2)], &events) {
+        Ok(reasons) => {
+            equal(&rt, &reasons.found.premise, &None);
+            equal(&rt, &reasons.found.illegal, &None);
+        }
+        Err(fault) => {
+            let of_the_bus = fault == AuditFault::New(NewFault::NoMemory);
+            assert!(rt; of_the_bus || fault == AuditFault::At(2, WorldFault::NoMemory));
+            let _ = println!(rt; "refused");
+            return;
+        }
+    }
     match audit(alloc, usual(&rt), &[master(1), master(2)], &events) {
         Ok(audit) => {
             equal(&rt, &audit.premise, &None);

@@ -1,3 +1,5 @@
+//! Telegrams are read and written, from lists of characters and a character at a time; each fault is found.
+
 use super::equal;
 use arrayvec::ArrayVec;
 use pb_telegram::{
@@ -411,6 +413,15 @@ fn damaged_fronts_are_received(
     Ok(())
 }
 
+/// With a damaged character at each place a receiver that is fed all of them answers that place.
+fn damage_is_received(rt: &impl Abort, chars: &mut [RxChar]) {
+    for place in 0..chars.len() {
+        let octet = std::mem::replace(&mut chars[place], RxChar::Bad);
+        equal(rt, &fed(chars), &Err(TelegramFault::Faulty(place)));
+        chars[place] = octet;
+    }
+}
+
 #[test]
 fn fronts_of_telegrams_are_received_as_they_are_parsed(rt: HostRuntime) -> Result<(), Fail> {
     let unit = ArrayVec::try_from([0xff].as_slice())?;
@@ -500,6 +511,7 @@ fn fronts_of_the_longest_telegram_are_received(rt: HostRuntime) -> Result<(), Fa
     let (da, sa, fc) = (2, 1, 0x44);
     equal(&rt, &longest.head(), &Some(Head { da, sa, fc }));
     equal(&rt, &longest.unit(), &[0; 246].as_slice());
+    damage_is_received(&rt, &mut good(rt.alloc(), &octets)?);
     let fronts = Fronts {
         octets: &octets,
         whole: Ok(longest),

@@ -1,5 +1,7 @@
+//! Scenario files are played and audited over readers and writers that fail, are interrupted, and give and take a byte.
+
 use super::equal;
-use pb_cli::{CliFault, CountedReader, CountedWriter, Status, audit_file, play};
+use pb_cli::{CliFault, CountedReader, CountedWriter, Status, audit_file, bounds_file, play};
 use std::io;
 use std::io::{Error, ErrorKind, Read, Write};
 
@@ -143,10 +145,19 @@ fn a_run_prints_its_trace(rt: HostRuntime) {
     }
 }
 
-/// The last lines alone, and all of them where there are no more.
+/// The last lines alone, and all of them where there are no more; memory is ample for any number of them.
 #[test]
 fn a_run_prints_its_last_lines(rt: HostRuntime) {
-    for (last, lines) in [(1, LAST_LINE), (7, TRACE), (10_000, TRACE)] {
+    for (last, lines) in [
+        (1, LAST_LINE),
+        (7, TRACE),
+        (8, TRACE),
+        (1023, TRACE),
+        (1024, TRACE),
+        (1025, TRACE),
+        (9999, TRACE),
+        (10_000, TRACE),
+    ] {
         let mut writer = CountedWriter::new(Vec::new(rt.alloc()));
         let answer = play(
             &rt,
@@ -397,4 +408,42 @@ fn refused_memory_in_audit_file(rt: HostRuntime) {
             let _ = println!(rt; "refused");
         }
     }
+}
+
+/// Two masters of 1 and 2 at 500,000 bits a second.
+const BOUNDS: &[u8] = b"a: time-out 800 bit times, 1.600 ms (a_claim_waits_for_a_time_out)
+a: silence bound 800 bit times, 1.600 ms (no_master_is_left_in_silence)
+a: never-dead bound 33746 bit times, 67.492 ms (the_bus_is_never_dead)
+b: time-out 1000 bit times, 2.000 ms (a_claim_waits_for_a_time_out)
+b: silence bound 1000 bit times, 2.000 ms (no_master_is_left_in_silence)
+b: never-dead bound 33946 bit times, 67.892 ms (the_bus_is_never_dead)
+slot margin of a take 40 bit times, 0.080 ms (TakeLate)
+slot margin of a reply 89 bit times, 0.178 ms (ReplyLate)
+lag margin 39 bit times, 0.078 ms (TakeLate, ReplyLate)
+";
+
+/// The bounds of a bus, or `NoMemory` where an allocation is refused.
+#[test]
+fn refused_memory_in_bounds_file(rt: HostRuntime) {
+    let mut room = [0; 1024];
+    let mut writer = CountedWriter::new(room.as_mut_slice());
+    let answer = bounds_file(
+        rt.alloc(),
+        &mut CountedReader::new(RING),
+        &mut writer,
+        500_000,
+        false,
+    );
+    match answer {
+        Ok(status) => {
+            equal(&rt, &status, &Status::Done);
+            equal(&rt, &writer.writer().len(), &(1024 - BOUNDS.len()));
+        }
+        Err(fault) => {
+            equal(&rt, &fault, &CliFault::NoMemory);
+            let _ = println!(rt; "refused");
+            return;
+        }
+    }
+    assert!(rt; &room[..BOUNDS.len()] == BOUNDS);
 }

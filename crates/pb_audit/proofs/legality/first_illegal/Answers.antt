@@ -7,7 +7,7 @@ use Rattle.pb_theorem.specs.Judging.{last_after, may_come, judged_from, IsOrdere
 use Rattle.pb_theorem.proofs.Judged.{judged}
 use Rattle.pb_medium.specs.Entries.{entry_of}
 use Rattle.pb_audit.specs.Ends.{AreEnds}
-use Rattle.pb_audit.specs.Judging.{last_of, specs_at}
+use Rattle.pb_audit.specs.Judging.{last_of, specs_in}
 use Rattle.pb_taps.proofs.Items.{left-at, passed-at}
 use Rattle.pb_audit.proofs.Legal.{stops-here, goes-on, nothing-left, ends-behind}
 use Rattle.pb_audit.proofs.legality.first_illegal.Goals as goal
@@ -32,7 +32,7 @@ advance-requires c =
 pub returns-then-not-may_come : goal.returns-then-not-may_come
 returns-then-not-may_come c =
     let p = c.args.params.now in
-    let specs = specs_at c.args.taps.now in
+    let specs = specs_in c.args.taps in
     let es = map entry_of c.args.trace.now in
     let place = c.loop-place.place in
     let x = c.index-trace-place.result in
@@ -53,7 +53,7 @@ last_after-last-requires-clause-lasts c =
 pub loop-place-preserved : goal.loop-place-preserved
 loop-place-preserved c =
     let p = c.args.params.now in
-    let specs = specs_at c.args.taps.now in
+    let specs = specs_in c.args.taps in
     let es = map entry_of c.args.trace.now in
     let place = c.loop-place.place in
     let x = c.index-trace-place.result in
@@ -82,7 +82,7 @@ loop-place-preserved c =
 pub returns : goal.returns
 returns c =
     let p = c.args.params.now in
-    let specs = specs_at c.args.taps.now in
+    let specs = specs_in c.args.taps in
     let es = map entry_of c.args.trace.now in
     let place = c.loop-place.place in
     sym (ap (judged_from p specs (take place es) (option_map last_of c.loop-place.last) place) (nothing-left entry_of c.args.trace.now place c.loop-place-test.false))

@@ -4,13 +4,13 @@ use Rattle.std.specs.Option.{option_map}
 use Rattle.pb_theorem.specs.Judging.{judged_from, IsOrderedFrom}
 use Rattle.pb_medium.specs.Entries.{entry_of}
 use Rattle.pb_audit.specs.Ends.{AreEnds}
-use Rattle.pb_audit.specs.Judging.{last_of, specs_at}
+use Rattle.pb_audit.specs.Judging.{last_of, specs_in}
 use Rattle.pb_audit.proofs.legality.first_illegal.Given as goal
 
 abbrev pub invariant-loop-place : goal.invariant-loop-place
 invariant-loop-place l =
     record {
-      judged : judged_from l.params (specs_at l.taps) [] None 0 (map entry_of l.trace)
-          ≡ judged_from l.params (specs_at l.taps) (take l.place (map entry_of l.trace)) (option_map last_of l.last) l.place (drop l.place (map entry_of l.trace));
+      judged : judged_from l.params (specs_in l.taps) [] None 0 (map entry_of l.trace)
+          ≡ judged_from l.params (specs_in l.taps) (take l.place (map entry_of l.trace)) (option_map last_of l.last) l.place (drop l.place (map entry_of l.trace));
       ends : (before : ℕ) × AreEnds l.params.ttd before (take l.place (map entry_of l.trace)) l.ends × IsOrderedFrom before (drop l.place (map entry_of l.trace));
     }

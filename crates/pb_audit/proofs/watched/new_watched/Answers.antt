@@ -3,6 +3,7 @@ use Rattle.std.proofs.lemmas.List.{length-map}
 use Rattle.pb_theorem.specs.Premises.{has_namesakes}
 use Rattle.pb_taps.specs.Taps.{spec_of, tap_of}
 use Rattle.pb_bus.specs.Buses.{world_of}
+use Rattle.pb_live.proofs.Promising.{new_begins}
 use Rattle.pb_audit.proofs.Premising.{quiet-blank}
 use Rattle.pb_audit.proofs.Coming.{comes-new}
 use Rattle.pb_audit.proofs.Lasting.{namesakes-new}
@@ -19,4 +20,4 @@ returns-clause-came c =
         oldest = λ tap there. omega (arith, c.new.ensures.oldest);
         namesakes = c.new.ensures.namesakes ∙ sym (namesakes-new c.args.params (map spec_of c.args.specs.now) (world_of bus) c.in_ok-bus.ensures.ok);
       };
-    }) c.new.ensures.watched
+    }) (new_begins c.args.params (map spec_of c.args.specs.now) (world_of bus) c.in_ok-bus.ensures.valid c.in_ok-bus.ensures.fit c.in_ok-bus.ensures.ok).0 c.new.ensures.watched

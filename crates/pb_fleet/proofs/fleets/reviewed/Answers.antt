@@ -1,4 +1,4 @@
-use Rattle.pb_fleet.proofs.Telling.{is_the_run, leaves_token}
+use Rattle.pb_fleet.proofs.Telling.{is_the_run, is_played}
 use Rattle.pb_fleet.proofs.fleets.reviewed.Goals as goal
 
 pub returns-then-is_run-clause-run : goal.returns-then-is_run-clause-run
@@ -7,6 +7,6 @@ returns-then-is_run-clause-run c =
     let told = c.before.requires in
     is_the_run args.scenario.now.scenario args.report told.origin told.report (told.review c.if-is_run.true)
 
-pub returns-then-is_run-clause-token : goal.returns-then-is_run-clause-token
-returns-then-is_run-clause-token c =
-    let told = c.before.requires in leaves_token c.before.args.scenario.now.scenario c.before.args.report told.origin told.report
+pub returns-then-is_run-clause-played : goal.returns-then-is_run-clause-played
+returns-then-is_run-clause-played c =
+    let told = c.before.requires in is_played c.before.args.scenario.now.scenario c.before.args.report told.origin told.report

@@ -1,4 +1,5 @@
 use Rattle.pb_token.proofs.BoundedSilence.{silence_bound, silence_at_speakers, silence_at_tap}
+use Rattle.pb_token.proofs.Readers.{none_in_silence}
 use Rattle.pb_token.proofs.silence.no_master_is_left_in_silence.Goals as goal
 
 pub returns-clause-bound : goal.returns-clause-bound
@@ -9,3 +10,6 @@ returns-clause-at_speakers c = silence_at_speakers
 
 pub returns-clause-at_the_tap : goal.returns-clause-at_the_tap
 returns-clause-at_the_tap c = silence_at_tap
+
+pub returns-clause-of_a_world : goal.returns-clause-of_a_world
+returns-clause-of_a_world c = none_in_silence

@@ -3,18 +3,19 @@ use Rattle.pb_theorem.specs.Headline.{specs_of}
 use Rattle.pb_theorem.specs.Judging.{IsOrdered}
 use Rattle.pb_theorem.specs.Legality.{first_illegal}
 use Rattle.pb_theorem.proofs.Ordered.{is-ordered, leads-in-order}
+use Rattle.pb_live.proofs.Promising.{kept_promises}
 use Rattle.pb_medium.specs.Entries.{entry_of}
 use Rattle.pb_audit.specs.Auditing.{Finds}
 use Rattle.pb_audit.specs.Judging.{specs_at}
 use Rattle.pb_audit.specs.Watched.{world_in}
-use Rattle.pb_audit.proofs.Tokens.{finds-legal}
+use Rattle.pb_audit.proofs.Tokens.{legal-if-kept}
 use Rattle.pb_audit.proofs.watched.Watched.judge.Goals as goal
 
 pub first_illegal-requires : goal.first_illegal-requires
 first_illegal-requires c =
     let w = world_in c.args.self.now in
     let (p, specs, start, events, made, came) = c.requires in
-    subst IsOrdered (sym c.entries.ensures) (is-ordered w came.watched.kept.sound (leads-in-order p specs events start w made came.runs))
+    subst IsOrdered (sym c.entries.ensures) (is-ordered w came.watched.kept.sound (leads-in-order p specs events start w made came.lead.run.runs))
 
 pub returns : goal.returns
 returns c = λ p specs start events made came.
@@ -23,5 +24,5 @@ returns c = λ p specs start events made came.
     let illegal = c.first_illegal.ensures
     ∙ ap (λ ts. first_illegal w.params (specs_at ts) (map entry_of c.entries.result.now)) c.deref.ensures.value
     ∙ ap (first_illegal w.params (specs_of w)) c.entries.ensures in
-    let finds : Finds p specs events _ = (start, w, made, came.runs, premise, illegal) in
-    (finds, finds-legal p specs events _ finds)
+    let finds : Finds p specs events _ = (start, w, made, came.lead.run.runs, premise, illegal, kept_promises start w events came.lead) in
+    (finds, legal-if-kept p specs events _ finds)

@@ -74,3 +74,9 @@ returns-clause-kept c =
       cut = c.requires.cut;
       ends = in-time (world_of bus) (Queue c.args.tap c.args.request.now) _ _ (returns-clause-follows c) tt c.requires.clock c.requires.sound c.requires.ends;
     }
+
+pub returns-in_err-queue-clause-request : goal.returns-in_err-queue-clause-request
+returns-in_err-queue-clause-request c = subst IsRequest c.copy.ensures c.queue.ensures.request
+
+pub returns-clause-request : goal.returns-clause-request
+returns-clause-request c = subst IsRequest c.copy.ensures c.queue.ensures.request

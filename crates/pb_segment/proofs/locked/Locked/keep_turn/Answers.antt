@@ -26,7 +26,7 @@ invariant_of-self-2 g c =
     let i = c.self.inside in
     let l = view_of i.world i.origin (happened_in i.history) i.turns.items i.drives i.outlooks.items i.limit in
     let n = c.in-Ok.note in
-    let kept = noted_push l c.take_decided.new.self (Turn c.args.decided.tap) _ n _ c.self.invariant.0 c.in-Ok.ensures.inside c.in-Ok.ensures.note c.in_ok-take_decided.ensures.follows in
+    let kept = noted_push l c.take_decided.new.self (Turn c.args.decided.tap) _ n _ c.self.invariant.0 c.in-Ok.ensures.inside c.in-Ok.ensures.note c.in_ok-take_decided.ensures.follows c.in_ok-take_decided.ensures.promises in
     let grown : happened_in c.keep.new.history ≡ happened_in i.history ++ n.happened ∷ [] = search rules in
     let same : length (counted i.turns.items n.happened.event) ≡ length i.turns.items = counted_length i.turns.items n.happened.event in (
       rw (grown, c.count.ensures.turns, c.count.ensures.drives) kept,

@@ -5,8 +5,8 @@ use Rattle.pb_bus.specs.Worlds.{Goes}
 use Rattle.pb_bus.proofs.Running.{goes}
 use Rattle.pb_world.proofs.worlds.World.does.Goals as goal
 
-pub returns : goal.returns
-returns c =
+pub returns-clause-goes : goal.returns-clause-goes
+returns-clause-goes c =
     let event = event_of c.args.event.now in
     let next = world_of c.apply.new.self in
     subst (λ w. Goes w event c.apply.result next) c.self.view_is

@@ -1,0 +1,62 @@
+//! Where a judge of a trace reads the addresses of taps.
+
+ghost use Rattle.std.specs.Prelude.{◌≡◌, map};
+ghost use Rattle.pb_theorem.specs.Legality as legality;
+ghost use Rattle.pb_taps.specs.Taps.{spec_of};
+ghost use Rattle.pb_audit.specs.Judging.{specs_at};
+
+use pb_taps::{Tap, TapSpec};
+
+/// The address of a tap that is none: a telegram goes to 127 at most.
+const NO_ADDRESS: u8 = 255;
+
+/// The addresses of taps: of a bus, or of a list of taps.
+#[derive(Clone, Copy)]
+pub(crate) enum Addresses<'a> {
+    /// Those of the stations of a bus.
+    OfTaps(&'a [Tap]),
+    /// Those of a list.
+    OfSpecs(&'a [TapSpec]),
+}
+
+impl<'a> Addresses<'a> {
+    ghost use Rattle.std.specs.Prelude.{◌≡◌};
+    ghost use Rattle.pb_theorem.specs.Legality as legality;
+    ghost use Rattle.pb_audit.specs.Judging.{specs_in};
+
+    /// How many taps there are.
+    pub(crate) fn len(self) -> usize {
+        match self {
+            Addresses::OfTaps(taps) => taps.len(),
+            Addresses::OfSpecs(specs) => specs.len(),
+        }
+    }
+
+    /// The address of a tap; of a position without one, none that a telegram has.
+    pub(crate) fn at(self, tap: usize) -> u8
+        ensures { result ≡ legality.address_at (specs_in self.entry) tap }
+    {
+        match self {
+            Addresses::OfTaps(taps) => address_of_tap(taps, tap),
+            Addresses::OfSpecs(specs) => address_in_list(specs, tap),
+        }
+    }
+}
+
+fn address_of_tap(taps: &[Tap], tap: usize) -> u8
+    ensures { result ≡ legality.address_at (specs_at taps.now) tap }
+{
+    match taps.get(tap) {
+        Some(tap) => tap.station.address(),
+        None => NO_ADDRESS,
+    }
+}
+
+fn address_in_list(specs: &[TapSpec], tap: usize) -> u8
+    ensures { result ≡ legality.address_at (map spec_of specs.now) tap }
+{
+    match specs.get(tap) {
+        Some(spec) => spec.address,
+        None => NO_ADDRESS,
+    }
+}

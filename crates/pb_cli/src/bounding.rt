@@ -1,0 +1,112 @@
+ghost use Rattle.std.specs.Prelude.{◌≡◌, ◌≢◌, ◌≤◌, ◌<◌, ◌+◌, length, Err, IfOk, IfErr, OnOk, IfSome, IsErrOf};
+ghost use Rattle.std.specs.Io.KnownBytes.{Appends, Keeps};
+ghost use Rattle.pb_show.specs.Shown.{shown_of};
+ghost use Rattle.pb_cli.specs.Bounding.{IsBaud, bounds_of, shown_unless, text_of};
+ghost use Rattle.pb_cli.specs.Statuses.{status_of};
+ghost use Rattle.pb_cli.specs.Reading.{byte_limit, call_limit, IsReadCause};
+ghost use Rattle.pb_cli.specs.Writing.{AppendsFront, IsWriteCause};
+ghost use Rattle.pb_bounds.specs.Bounds.{world_fault};
+
+use crate::faults::{CliFault, Status};
+use crate::reading::read_input;
+use crate::streams::{Sink, Source};
+use crate::writing::write_out;
+use pb_bounds::{bounds_json, bounds_text};
+use pb_fleet::FleetFault;
+use pb_show::{Scenario, Shown, described, refused_file, refused_fleet};
+use std::alloc::{AllocError, Global};
+
+/// The least number of bits a second.
+pub(crate) const LEAST_BAUD: u32 = 9_600;
+
+/// The largest number of bits a second.
+pub(crate) const MOST_BAUD: u32 = 12_000_000;
+
+/// How many bits a second a bus has where no number is given.
+pub(crate) const USUAL_BAUD: u32 = 1_500_000;
+
+/// Reads a scenario file to the end of the reader, and writes the numbers of what is proved of its bus, as lines or as one
+/// JSON object, in bit times and in milliseconds at so many bits a second. Where the file or its world is refused, it
+/// writes the line of that fault. The whole text is made before the first write.
+///
+/// At `Ok` the writer holds that text, and the status is `Refused` exactly where the file or the world is refused. Faults:
+/// as those of [`audit_file`](crate::audit_file).
+pub fn bounds_file<R: Source, W: Sink>(
+    alloc: Global,
+    reader: &mut R,
+    writer: &mut W,
+    baud: u32,
+    json: bool,
+) -> Result<Status, CliFault>
+    requires { IsBaud baud }
+    ensures text { OnOk result (IfSome (R.remaining reader.old) (λ file.
+        Appends (W.contents writer.old) (W.contents writer.new) (bounds_of baud json file).text)) }
+    ensures status { IfOk result (λ status. IfSome (R.remaining reader.old) (λ file.
+        status ≡ status_of (bounds_of baud json file).is_refused)) }
+    ensures fits { OnOk result (IfSome (R.remaining reader.old) (λ file. length file ≤ byte_limit)) }
+
+    ensures write_fits { IsErrOf result CliFault.Write
+        → IfSome (R.remaining reader.old) (λ file. length file ≤ byte_limit) }
+    ensures calls { R.calls reader.new ≤ R.calls reader.old + call_limit }
+
+    // A fault comes only where its cause is.
+    ensures read { IsErrOf result CliFault.Read
+        → IsReadCause (R.failures reader.old) (R.failures reader.new)
+        (R.calls reader.old) (R.calls reader.new) (R.interruptions reader.old) (R.interruptions reader.new) }
+    ensures too_long { IsErrOf result CliFault.TooLong
+        → IfSome (R.remaining reader.old) (λ file. byte_limit < length file) }
+    ensures write { IsErrOf result CliFault.Write
+        → IsWriteCause (W.failures writer.old) (W.failures writer.new)
+        (W.interruptions writer.old) (W.interruptions writer.new) (W.in_a_row writer.new) }
+
+    // A failure of the reader or of the writer is told.
+    ensures reader_failed { result ≢ Err CliFault.Read → R.failures reader.new ≡ R.failures reader.old }
+    ensures writer_failed { result ≢ Err CliFault.Write → W.failures writer.new ≡ W.failures writer.old }
+
+    // After a failed write a front of the text went out, after another fault nothing.
+    ensures front { IsErrOf result CliFault.Write → IfSome (R.remaining reader.old) (λ file.
+        AppendsFront (W.contents writer.old) (W.contents writer.new) (bounds_of baud json file).text) }
+    ensures nothing { IfErr result (λ fault. fault ≢ CliFault.Write
+        → Keeps (W.contents writer.old) (W.contents writer.new)) }
+{
+    let file = read_input(alloc, reader)?;
+    let shown = bounded(alloc, &file, baud, json)?;
+    write_out(writer, &shown.text)?;
+    Ok(Status::of(shown.is_refused))
+}
+
+/// What is written for the bounds of a file's bus. Fault: memory was refused.
+fn bounded(alloc: Global, file: &[u8], baud: u32, json: bool) -> Result<Shown, AllocError>
+    requires { IsBaud baud }
+    ensures { IfOk result (λ shown. shown_of shown ≡ bounds_of baud json file.now) }
+{
+    match described(alloc, file) {
+        Ok(scenario) => bounded_scenario(alloc, &scenario, baud, json),
+        Err(fault) => refused_file(alloc, &fault),
+    }
+}
+
+/// What is written for the bounds of a scenario's bus. Fault: memory was refused.
+fn bounded_scenario(
+    alloc: Global,
+    scenario: &Scenario,
+    baud: u32,
+    json: bool,
+) -> Result<Shown, AllocError>
+    requires { IsBaud baud }
+    ensures { IfOk result (λ shown. shown_of shown
+        ≡ shown_unless (world_fault scenario.now) (text_of baud json scenario.now)) }
+{
+    let made = if json {
+        bounds_json(alloc, scenario, baud)
+    } else {
+        bounds_text(alloc, scenario, baud)
+    };
+    match made {
+        Ok(text) => Ok(Shown {
+            text,
+            is_refused: false,
+        }),
+        Err(fault) => refused_fleet(alloc, FleetFault::New(fault)),
+    }
+}

@@ -1,0 +1,115 @@
+//! What the keys of a scenario file may be, in words.
+
+use pb_scenario::{Key, Section};
+
+const TOP: [&str; 5] = ["version", "until", "bus", "tap", "step"];
+
+const BUS: [&str; 10] = [
+    "tsl", "tid1", "tid2", "tsdr", "lag", "ttr", "gap", "hsa", "retries", "ttd",
+];
+
+const TAP: [&str; 4] = ["name", "kind", "address", "reply"];
+
+const POWER: [&str; 3] = ["at", "do", "tap"];
+
+const QUEUE: [&str; 7] = ["at", "do", "tap", "service", "to", "high", "unit"];
+
+const DAMAGE: [&str; 5] = ["at", "do", "tap", "speaker", "place"];
+
+const NOISE: [&str; 3] = ["at", "do", "bits"];
+
+const UNHEARD: [&str; 4] = ["at", "do", "tap", "speaker"];
+
+const WITHHOLD: [&str; 4] = ["at", "do", "tap", "bits"];
+
+/// What a step may do.
+const DEEDS: [&str; 7] = [
+    "start", "stop", "queue", "damage", "noise", "unheard", "withhold",
+];
+
+/// What a tap may be.
+const KINDS: [&str; 2] = ["master", "passive"];
+
+/// The services that a request may ask for.
+const SERVICES: [&str; 3] = ["sda", "sdn", "srd"];
+
+const NO_WORDS: [&str; 0] = [];
+
+/// A table as people write it.
+pub(crate) fn table_name(section: Section) -> &'static str {
+    match section {
+        Section::Top => "the file",
+        Section::Bus => "[bus]",
+        Section::Tap(_) => "[[tap]]",
+        Section::Step(_) => "[[step]]",
+    }
+}
+
+/// The words of which a key has one for its value; none for other keys.
+pub(crate) fn words_of(key: Key) -> &'static [&'static str] {
+    match key {
+        Key::Do => &DEEDS,
+        Key::Kind => &KINDS,
+        Key::Service => &SERVICES,
+        _ => &NO_WORDS,
+    }
+}
+
+/// The keys that a table of a version may have; those of a step by what it does.
+pub(crate) fn keys_of(section: Section, is_delayed: bool, deed: &[u8]) -> &'static [&'static str] {
+    match section {
+        Section::Top => &TOP,
+        Section::Bus if is_delayed => &BUS,
+        Section::Bus => &BUS[..9],
+        Section::Tap(_) => &TAP,
+        Section::Step(_) => step_keys(deed),
+    }
+}
+
+/// Whether some table may have this key.
+pub(crate) fn is_known(key: &str) -> bool {
+    let tables: [&[&str]; 6] = [&TOP, &BUS, &TAP, &QUEUE, &DAMAGE, &NOISE];
+    tables
+        .iter()
+        .any(|keys| keys.iter().any(|known| *known == key))
+}
+
+/// The keys of a step that does this.
+fn step_keys(deed: &[u8]) -> &'static [&'static str] {
+    match deed {
+        b"\"queue\"" => &QUEUE,
+        b"\"damage\"" => &DAMAGE,
+        b"\"noise\"" => &NOISE,
+        b"\"unheard\"" => &UNHEARD,
+        b"\"withhold\"" => &WITHHOLD,
+        _ => &POWER,
+    }
+}
+
+/// What a key of a table may have for its value.
+pub(crate) fn wanted(section: Section, key: Key) -> &'static str {
+    match key {
+        Key::Version => "1 or 2",
+        Key::Until => "an integer from 1 to 10000000, in bit times, without quotes",
+        Key::Bus => "a table, [bus]",
+        Key::Tap => match section {
+            Section::Step(_) => "the name of a tap, in quotes",
+            _ => "a list of tables, [[tap]] for each",
+        },
+        Key::Step => "a list of tables, [[step]] for each",
+        Key::Tsl | Key::Tid1 | Key::Tid2 | Key::Tsdr | Key::Lag | Key::Ttr | Key::Ttd | Key::Bits =>
+            { "an integer from 0 to 4294967295, in bit times, without quotes" }
+        Key::Gap | Key::Hsa | Key::Retries => "an integer from 0 to 4294967295, without quotes",
+        Key::Name => "1 to 16 ASCII letters or digits and nothing else, in quotes",
+        Key::Kind => "\"master\" or \"passive\"",
+        Key::Address | Key::Place => "an integer from 0 to 255, without quotes",
+        Key::Reply | Key::Unit => "at most 246 octets, two hex digits each and no 0x, in quotes",
+        Key::At => "an integer from 0, in bit times",
+        Key::Do =>
+            "one of \"start\", \"stop\", \"queue\", \"damage\", \"noise\", \"unheard\", \"withhold\"",
+        Key::Service => "\"sda\", \"sdn\" or \"srd\"",
+        Key::To => "an integer from 0 to 126, or 127 with the service \"sdn\"",
+        Key::High => "true or false",
+        Key::Speaker => "the name of a tap, in quotes",
+    }
+}

@@ -1,0 +1,14 @@
+pub mod Tries
+pub mod HoldersRead
+pub mod HoldersSpeak
+pub mod InTime
+pub mod DueReplies
+pub mod Arriving
+pub mod Awaiting
+pub mod ChangedEntries
+pub mod Passes
+pub mod Turns
+pub mod Events
+pub mod NoToken
+pub mod Runs
+pub mod Promising

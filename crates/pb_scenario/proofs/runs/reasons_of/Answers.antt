@@ -1,0 +1,17 @@
+-- What the watched bus has come by is the run, and what its audit finds is what there is to find in that.
+use Rattle.std.proofs.Common.{◌≡◌, Ok, map, subst}
+use Rattle.pb_model.specs.World.{new_world}
+use Rattle.pb_taps.specs.Taps.{spec_of}
+use Rattle.pb_audit.specs.Watched.{HasCome, world_in}
+use Rattle.pb_scenario.proofs.runs.reasons_of.Goals as goal
+
+pub returns-clause-ok : goal.returns-clause-ok
+returns-clause-ok c =
+    let s = c.args.scenario.now.scenario in
+    let start = world_in c.in-Ok.watched in
+    let made : new_world s.params s.taps ≡ Ok start =
+    subst (λ ts. new_world s.params ts ≡ Ok start) c.taps.ensures.specs (subst (λ p. new_world p (map spec_of c.taps.result.now) ≡ Ok start) c.params.ensures c.in-Ok.ensures.new) in
+    let (events, is, came) = c.in_ok-play.ensures.played in
+    let here = subst (λ w. HasCome c.play.new.stage.watched (world_in w) events) c.new-inquiry.ensures came in
+    let found = c.judge_with_reasons.ensures s.params s.taps start events made here in
+    (events, is, found.0, found.1)

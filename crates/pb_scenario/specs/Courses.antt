@@ -1,0 +1,8 @@
+-- A bus that counts the events which it takes.
+use Rattle.pb_bus.specs.Buses.{world_of, IsKept}
+use Rattle.pb_scenario.specs.declared.courses.Counted.{Counted}
+use Rattle.pb_scenario.specs.Stages.{StageView}
+
+-- whatever world it began in, and by which events it has come
+abbrev pub counted_view : Counted → StageView
+counted_view c = record { world = world_of c.bus; comes = λ start events. IsKept c.bus }

@@ -1,4 +1,0 @@
-use Rattle.pb_segment.proofs.tests.refused_memory_in_a_segment.Given as goal
-
-abbrev pub ghosts-refused_once : goal.ghosts-refused_once
-ghosts-refused_once g a = record { name = a.blank.name; parts = a.blank.parts }

@@ -1,0 +1,16 @@
+use Rattle.std.proofs.Common.{◌≡◌, map, take, subst, arith}
+use Rattle.std.proofs.lemmas.Grind.{common_steps}
+use Rattle.pb_telegram.specs.Receiving.{StandsFor}
+use Rattle.pb_telegram.specs.declared.chars.RxChar.TheVariants.{Good}
+use Rattle.pbfdl.proofs.telegrams.received.Goals as goal
+
+pub loop-octet-preserved : goal.loop-octet-preserved
+loop-octet-preserved c =
+    let i = c.loop-octet.octet-index in
+    let stands = c.feed.ensures.stands (map Good (take i c.args.octets.now)) c.loop-octet.invariant in
+    subst (λ l. StandsFor c.feed.new.self l) (grind (arith, common_steps)) stands
+
+pub returns : goal.returns
+returns c =
+    let whole : take c.loop-octet.octet-index c.args.octets.now ≡ c.args.octets.now = grind (arith, common_steps) in
+    subst (λ l. StandsFor c.loop-octet.receiver (map Good l)) whole c.loop-octet.invariant

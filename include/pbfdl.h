@@ -1,0 +1,328 @@
+/* PROFIBUS data link layer (FDL, IEC 61158-4-3): telegrams, bus parameters, and a station at a line.
+ *
+ * Link libpbfdl.a and the toolchain's heap functions (docs/DRIVER.md, "Build"). The functions come from proved code;
+ * docs/DRIVER.md says what a driver owes them, and what they promise in return.
+ *
+ * Times are whole bit times. A moment is the number of bit times since the driver's clock began, 0 to 2^61
+ * (FDL_LAST_MOMENT). Addresses are 0 to 126; 127 is all stations.
+ *
+ * Every function but fdl_port_free answers a code: FDL_OK, or the first fault that applies, in the order in which its
+ * comment names them. A call that answers another code than FDL_OK changes nothing, except where its comment says so.
+ *
+ * Ownership. An fdl_port is memory of the caller; fdl_port_new makes the station that it points to, and fdl_port_free
+ * frees it. Arrays are read or written during the call alone; no pointer to them is kept.
+ *
+ * Threads. One call at a time for a port. Different ports share nothing, but a port stays on the thread that made it. No
+ * call from a signal handler. No function blocks, calls back, or writes to a file; only fdl_port_new takes memory and
+ * only fdl_port_free gives it back.
+ *
+ * The caller owes, and nothing checks: no pointer is NULL, also with a length of 0; an array has as many elements as
+ * is said; a bool is 0 or 1; an fdl_port begins as FDL_PORT_EMPTY and no code but these functions changes or copies it;
+ * what one argument points to is no part of what another one points to. */
+#ifndef PBFDL_H
+#define PBFDL_H
+
+#include <stdbool.h>
+#include <stddef.h>
+#include <stdint.h>
+
+#ifdef __cplusplus
+extern "C" {
+#endif
+
+/* The codes. */
+enum fdl_code {
+    FDL_OK = 0,
+
+    /* Why octets spell no telegram. */
+    FDL_EMPTY = 1,              /* there is no octet */
+    FDL_DAMAGED = 2,            /* a character is damaged */
+    FDL_BAD_START = 3,          /* the first octet starts no telegram */
+    FDL_TRUNCATED = 4,          /* there are fewer octets than the telegram has */
+    FDL_BAD_LENGTH = 5,         /* the length octet is not 4 to 249 */
+    FDL_LENGTHS_DIFFER = 6,     /* the length octet and its repetition differ */
+    FDL_BAD_SECOND_START = 7,   /* the start delimiter is not repeated */
+    FDL_BAD_ADDRESS = 8,        /* a token's address is over 126, or another telegram's source address is 127 */
+    FDL_BAD_CONTROL = 9,        /* bit 7 of the control octet is set */
+    FDL_BAD_CHECK = 10,         /* the check octet is not the sum */
+    FDL_BAD_END = 11,           /* the end delimiter is missing */
+    FDL_TRAILING = 12,          /* octets follow the end */
+
+    /* Why bus parameters are refused. */
+    FDL_PARAM_SLOT = 21,        /* tsl is not 100 to 16383 */
+    FDL_PARAM_IDLE_SHORT = 22,  /* tid1 is under 33 */
+    FDL_PARAM_IDLE_ORDER = 23,  /* tid2 is under tid1 */
+    FDL_PARAM_REPLY_SHORT = 24, /* tsdr is under 11 */
+    FDL_PARAM_ROTATION = 25,    /* ttr is not 256 to 16777215 */
+    FDL_PARAM_GAP_FACTOR = 26,  /* gap is not 1 to 100 */
+    FDL_PARAM_HIGHEST = 27,     /* hsa is not 2 to 126 */
+    FDL_PARAM_RETRIES = 28,     /* retries is over 7 */
+    FDL_PARAM_TAKE_LATE = 29,   /* tid2 + lag + 2 * ttd is not under tsl */
+    FDL_PARAM_REPLY_LATE = 30,  /* tsdr + lag + 2 * ttd is not under tsl */
+
+    /* Why a port refuses a call. */
+    FDL_TOO_LATE = 41,          /* the moment of the call is past FDL_LAST_MOMENT */
+    FDL_BACKWARDS = 42,         /* the moment of the call is before an earlier call's, or a mark's own moment is before
+                                   an earlier mark's, the last turn's or the start's */
+    FDL_AHEAD = 43,             /* a mark's own moment is after that of the call */
+    FDL_TOO_LONG = 44,          /* an end brings more than 255 characters */
+    FDL_INBOX_FULL = 45,        /* 64 marks are unread */
+    FDL_QUEUE_FULL = 46,        /* 16 requests of the priority wait */
+
+    /* Why the border refuses a call. */
+    FDL_NO_PORT = 61,           /* the port is empty */
+    FDL_PORT_IN_USE = 62,       /* the port is not empty */
+    FDL_NO_MEMORY = 63,         /* memory was refused */
+    FDL_BAD_STATION = 64,       /* an address is out of its range */
+    FDL_BAD_SERVICE = 65,       /* there is no such service */
+    FDL_LONG_DATA = 66,         /* there are more than 246 octets of data */
+    FDL_BAD_KIND = 67,          /* there is no such kind of telegram */
+    FDL_NO_ROOM = 68            /* the array is too short */
+};
+
+/* The name of a code, as text that is never freed; "unknown" for a number that is no code. */
+static inline const char *fdl_code_text(uint32_t code)
+{
+    switch (code) {
+    case FDL_OK: return "ok";
+    case FDL_EMPTY: return "empty";
+    case FDL_DAMAGED: return "damaged";
+    case FDL_BAD_START: return "bad start";
+    case FDL_TRUNCATED: return "truncated";
+    case FDL_BAD_LENGTH: return "bad length";
+    case FDL_LENGTHS_DIFFER: return "lengths differ";
+    case FDL_BAD_SECOND_START: return "bad second start";
+    case FDL_BAD_ADDRESS: return "bad address";
+    case FDL_BAD_CONTROL: return "bad control";
+    case FDL_BAD_CHECK: return "bad check";
+    case FDL_BAD_END: return "bad end";
+    case FDL_TRAILING: return "trailing";
+    case FDL_PARAM_SLOT: return "slot time";
+    case FDL_PARAM_IDLE_SHORT: return "idle time 1";
+    case FDL_PARAM_IDLE_ORDER: return "idle time 2 under idle time 1";
+    case FDL_PARAM_REPLY_SHORT: return "reply delay";
+    case FDL_PARAM_ROTATION: return "target rotation time";
+    case FDL_PARAM_GAP_FACTOR: return "GAP factor";
+    case FDL_PARAM_HIGHEST: return "highest station address";
+    case FDL_PARAM_RETRIES: return "retries";
+    case FDL_PARAM_TAKE_LATE: return "a take may miss the slot";
+    case FDL_PARAM_REPLY_LATE: return "a reply may miss the slot";
+    case FDL_TOO_LATE: return "too late";
+    case FDL_BACKWARDS: return "backwards";
+    case FDL_AHEAD: return "ahead";
+    case FDL_TOO_LONG: return "too long";
+    case FDL_INBOX_FULL: return "inbox full";
+    case FDL_QUEUE_FULL: return "queue full";
+    case FDL_NO_PORT: return "no port";
+    case FDL_PORT_IN_USE: return "port in use";
+    case FDL_NO_MEMORY: return "no memory";
+    case FDL_BAD_STATION: return "bad station";
+    case FDL_BAD_SERVICE: return "bad service";
+    case FDL_LONG_DATA: return "long data";
+    case FDL_BAD_KIND: return "bad kind";
+    case FDL_NO_ROOM: return "no room";
+    default: return "unknown";
+    }
+}
+
+/* The last moment: 2^61. */
+#define FDL_LAST_MOMENT ((uint64_t)1 << 61)
+
+/* The moment that fdl_port_due answers where nothing is to come. */
+#define FDL_NEVER UINT64_MAX
+
+/* The longest telegram, and what fdl_port_turn needs room for. */
+#define FDL_TELEGRAM_MAX 255
+
+/* ---- Bus parameters ---- */
+
+/* What all stations of a bus share (IEC 61158-4-3, timing parameters). Times in bit times. */
+struct fdl_params {
+    uint32_t tsl;     /* slot time, 100 to 16383: how long a station waits for a reply */
+    uint32_t tid1;    /* idle time before the next telegram, 33 and more */
+    uint32_t tid2;    /* the same after a request that nobody answers, tid1 and more */
+    uint32_t tsdr;    /* how long a station takes to reply, 11 and more */
+    uint32_t lag;     /* how late a station may take its turn */
+    uint32_t ttr;     /* target rotation time of the token, 256 to 16777215 */
+    uint32_t gap;     /* GAP factor, 1 to 100: target rotation times from one search for new masters to the next */
+    uint32_t hsa;     /* highest address that a master may have, 2 to 126 */
+    uint32_t retries; /* how often a request is sent again, 0 to 7 */
+    uint32_t ttd;     /* cable delay: how much later the others hear a telegram */
+};
+
+/* FDL_OK, or the first fault of the parameters, FDL_PARAM_SLOT to FDL_PARAM_REPLY_LATE in that order. */
+uint32_t fdl_params_fault(const struct fdl_params *params);
+
+/* ---- Telegrams ---- */
+
+/* The kinds of telegrams. */
+enum fdl_kind {
+    FDL_SD1 = 1, /* without data: da, sa, fc */
+    FDL_SD2 = 2, /* with data of variable length: da, sa, fc, 1 to 246 octets of unit */
+    FDL_SD3 = 3, /* with data of fixed length: da, sa, fc, 8 octets of unit */
+    FDL_SD4 = 4, /* token: da, sa */
+    FDL_SC = 5   /* short acknowledgement */
+};
+
+/* A telegram. da and sa are the address octets as they are sent; bit 7 of them says that the unit begins with an address
+ * extension. Fields that its kind doesn't have are 0 in a parsed telegram, and not read in a written one. */
+struct fdl_telegram {
+    uint8_t kind;      /* an fdl_kind */
+    uint8_t da;        /* destination address */
+    uint8_t sa;        /* source address */
+    uint8_t fc;        /* control octet, 0 to 127 */
+    uint8_t count;     /* how many octets of unit there are */
+    uint8_t unit[246]; /* the data; octets from count on have no meaning */
+};
+
+/* The telegram that count octets spell, as one burst brought them.
+ * Codes: FDL_EMPTY, FDL_BAD_START to FDL_TRAILING; the telegram is unchanged then. */
+uint32_t fdl_parse(const uint8_t *octets, size_t count, struct fdl_telegram *telegram);
+
+/* The octets of a telegram, at most FDL_TELEGRAM_MAX, and how many they are; fdl_parse reads the telegram from them. With
+ * a fault *count is 0 and out is unchanged.
+ * Codes: FDL_BAD_KIND where kind is no fdl_kind or count is over 246; the fault of its octets where they spell no telegram,
+ * as for FDL_SD3 with other than 8 octets of unit; FDL_NO_ROOM where there are more than room octets. */
+uint32_t fdl_write(const struct fdl_telegram *telegram, uint8_t *out, size_t room, size_t *count);
+
+/* Characters of one burst as they came off the line: a number under 256 is an octet that came good, any other a damaged
+ * character. A burst begins with a count of 0. */
+struct fdl_receiver {
+    uint16_t count;           /* how many characters there are, at most 255 */
+    uint16_t characters[255]; /* the characters; those from count on have no meaning */
+};
+
+/* Takes the next character of a burst, and answers what the characters spell now. A burst that spells a telegram has ended;
+ * fdl_port_end tells it to a station.
+ * Codes: FDL_TOO_LONG where there are 255 already, with the receiver unchanged. With the character taken: FDL_OK where the
+ * characters spell a telegram; else the first fault, FDL_DAMAGED to FDL_TRAILING, which is FDL_TRUNCATED in the middle of
+ * a telegram without a fault. */
+uint32_t fdl_receive(struct fdl_receiver *receiver, uint16_t character);
+
+/* The telegram that the characters of a burst spell.
+ * Codes: FDL_TOO_LONG for a count over 255; FDL_EMPTY to FDL_TRAILING, the first fault. The telegram is unchanged then. */
+uint32_t fdl_received(const struct fdl_receiver *receiver, struct fdl_telegram *telegram);
+
+/* ---- A station at a line ---- */
+
+/* A station with the marks of what it has heard and not read yet. It is empty where `at` is NULL. */
+struct fdl_port {
+    void *at;
+};
+
+#define FDL_PORT_EMPTY { NULL }
+
+/* The phases of a station (IEC 61158-4-3, states of the data link layer of a master). */
+enum fdl_phase {
+    FDL_OFFLINE = 0,
+    FDL_PASSIVE_IDLE = 1,
+    FDL_LISTENING = 2,
+    FDL_IDLE = 3,
+    FDL_CLAIM = 4,
+    FDL_USE = 5,
+    FDL_AWAIT_DATA = 6,
+    FDL_AWAIT_STATUS = 7,
+    FDL_PASS = 8,
+    FDL_CHECKING = 9
+};
+
+/* The services (IEC 61158-4-3, data link service). */
+enum fdl_service {
+    FDL_SDA = 0, /* send data with acknowledge */
+    FDL_SDN = 1, /* send data with no acknowledge */
+    FDL_SRD = 2  /* send and request data */
+};
+
+/* The outcomes of a request. */
+enum fdl_outcome_kind {
+    FDL_NO_OUTCOME = 0,  /* no request has had an outcome since the start */
+    FDL_ACKED = 1,       /* the data was taken, and none came back */
+    FDL_DATA = 2,        /* data came back */
+    FDL_NO_RESOURCE = 3, /* the station has no resource, or no such service */
+    FDL_NO_ANSWER = 4    /* no reply came, and no retry is left */
+};
+
+/* What came of a request. */
+struct fdl_outcome {
+    uint8_t kind;      /* an fdl_outcome_kind; for FDL_NO_OUTCOME the other fields have no meaning */
+    uint8_t station;   /* the station that was asked */
+    uint8_t count;     /* how many octets of data came back */
+    uint8_t data[246]; /* the data; octets from count on have no meaning */
+};
+
+/* Makes a station that doesn't run, at an empty port: a master or a passive station, and the count octets, at most 246,
+ * that it replies to a request for data. It takes memory, about 62 KB; no later call does.
+ * Codes: FDL_PORT_IN_USE; a fault of the parameters; FDL_BAD_STATION for a master's address over params->hsa, or another's
+ * over 126; FDL_LONG_DATA; FDL_NO_MEMORY. */
+uint32_t fdl_port_new(struct fdl_port *port, const struct fdl_params *params, uint8_t address, bool master,
+                      const uint8_t *reply, size_t count);
+
+/* Frees the station of a port, which is empty then. An empty port stays so. */
+void fdl_port_free(struct fdl_port *port);
+
+/* The station starts at a moment: a master listens for the ring, a passive station waits for requests. All that it knew
+ * and heard is forgotten, and requests that waited.
+ * Codes: FDL_NO_PORT, FDL_TOO_LATE, FDL_BACKWARDS. */
+uint32_t fdl_port_start(struct fdl_port *port, uint64_t now);
+
+/* The station stops: it says nothing more, and drops its unread marks and a reply that it has not sent yet.
+ * Code: FDL_NO_PORT. */
+uint32_t fdl_port_stop(struct fdl_port *port);
+
+/* A request with count octets of data, at most 246, waits behind the others of its priority, for a station with the address
+ * da, or for all stations (127, FDL_SDN alone). A master sends it when it has the token; a start forgets it.
+ * Codes: FDL_BAD_SERVICE, FDL_LONG_DATA, FDL_BAD_STATION, FDL_NO_PORT, FDL_QUEUE_FULL. */
+uint32_t fdl_port_push(struct fdl_port *port, uint8_t da, uint8_t service, bool high, const uint8_t *data,
+                       size_t count);
+
+/* Activity of others has begun on the line at the moment `at`, which is told at the moment `seen`.
+ * Codes: FDL_NO_PORT; FDL_TOO_LATE where seen is past the last moment; FDL_BACKWARDS where seen is before an earlier call, or
+ * at is before an earlier mark's own moment, the last turn or the start; FDL_AHEAD where at is after seen; FDL_INBOX_FULL. */
+uint32_t fdl_port_begin(struct fdl_port *port, uint64_t at, uint64_t seen);
+
+/* Activity of others has ended on the line at the moment `at`, which is told at the moment `seen`, and has brought count
+ * characters: a number under 256 is an octet that came good, any other a damaged character.
+ * Codes: FDL_TOO_LONG; FDL_NO_PORT; those of fdl_port_begin. */
+uint32_t fdl_port_end(struct fdl_port *port, uint64_t at, uint64_t seen, const uint16_t *characters, size_t count);
+
+/* The same of count octets that all came good.
+ * Codes: those of fdl_port_begin, and FDL_TOO_LONG before FDL_INBOX_FULL. */
+uint32_t fdl_port_end_good(struct fdl_port *port, uint64_t at, uint64_t seen, const uint8_t *octets, size_t count);
+
+/* Activity of others has ended on the line at the moment `at`, which is told at the moment `seen`, and was no telegram:
+ * one damaged character.
+ * Codes: those of fdl_port_begin. */
+uint32_t fdl_port_noise(struct fdl_port *port, uint64_t at, uint64_t seen);
+
+/* When the station has to take its turn: the moment goes to *at, FDL_NEVER where nothing is to come. A new mark or request
+ * may change it. The turn may be taken up to `lag` bit times later.
+ * Code: FDL_NO_PORT, with *at unchanged. */
+uint32_t fdl_port_due(struct fdl_port *port, uint64_t *at);
+
+/* The station takes its turn at a moment: it reads its unread marks and its timers in order of time, and sends a telegram if
+ * its moment has come. The octets go to out, their number to *count, 0 where it sends nothing; they are on the line from
+ * `now` on, 11 bit times an octet, without a pause. What out holds behind them is unchanged. With a fault *count is 0.
+ * Codes: FDL_NO_ROOM where room is under FDL_TELEGRAM_MAX; FDL_NO_PORT; FDL_TOO_LATE; FDL_BACKWARDS. */
+uint32_t fdl_port_turn(struct fdl_port *port, uint64_t now, uint8_t *out, size_t room, size_t *count);
+
+/* The station's phase, an fdl_phase, goes to *phase.
+ * Code: FDL_NO_PORT, with *phase unchanged. */
+uint32_t fdl_port_phase(struct fdl_port *port, uint32_t *phase);
+
+/* Whether an address is in the station's list of active stations goes to *active.
+ * Codes, with *active unchanged: FDL_BAD_STATION for an address over 126; FDL_NO_PORT. */
+uint32_t fdl_port_is_active(struct fdl_port *port, uint8_t address, bool *active);
+
+/* How many requests of others the station has executed since its start, without repeats, goes to *count.
+ * Code: FDL_NO_PORT, with *count unchanged. */
+uint32_t fdl_port_executed(struct fdl_port *port, uint64_t *count);
+
+/* What came of the station's last request that had an outcome goes to *outcome.
+ * Code: FDL_NO_PORT, with *outcome unchanged. */
+uint32_t fdl_port_outcome(struct fdl_port *port, struct fdl_outcome *outcome);
+
+#ifdef __cplusplus
+}
+#endif
+
+#endif

@@ -1,0 +1,245 @@
+"""A port of the library for C beside each station of the event lists of tests/events: it is told what its tap hears, and has to
+say in each turn what the list says, and to end in the phase, and with the next turn, that the list says.
+
+    python3 shadow.py LIBRARY
+
+What a tap hears is computed here from what was said: docs/PROTOCOL.md has the rules of the medium. Prints each list that
+differs, and at last how much was compared. Status 0 only where none differs.
+"""
+
+import ctypes
+import json
+import pathlib
+import sys
+from ctypes import byref, c_bool, c_size_t, c_uint8, c_uint16, c_uint32, c_uint64
+
+sys.path.insert(0, str(pathlib.Path(__file__).resolve().parent.parent))
+sys.dont_write_bytecode = True
+
+import cases
+
+library = ctypes.CDLL(sys.argv[1])
+CHARACTER_BITS = 11
+DAMAGED = 256
+NEVER = 2**64 - 1
+PHASES = "Offline PassiveIdle Listening Idle Claim Use AwaitData AwaitStatus Pass Checking".split()
+SERVICES = "sda sdn srd".split()
+
+
+class Params(ctypes.Structure):
+    _fields_ = [(name, c_uint32) for name in "tsl tid1 tid2 tsdr lag ttr gap hsa retries ttd".split()]
+
+
+class Port(ctypes.Structure):
+    _fields_ = [("at", ctypes.c_void_p)]
+
+    def __del__(self):
+        library.fdl_port_free(byref(self))
+
+    def call(self, name, *words):
+        code = getattr(library, f"fdl_port_{name}")(byref(self), *words)
+        assert code == 0, f"{name} has code {code}"
+
+    def end(self, at, seen, characters):
+        """The end of a burst, by the shortest call."""
+        words = [c_uint64(at), c_uint64(seen)]
+        if characters == [DAMAGED]:
+            self.call("noise", *words)
+        elif DAMAGED in characters:
+            self.call("end", *words, (c_uint16 * len(characters))(*characters), c_size_t(len(characters)))
+        else:
+            self.call("end_good", *words, bytes(characters), c_size_t(len(characters)))
+
+    def turn(self, now):
+        out, count = (c_uint8 * 255)(), c_size_t()
+        self.call("turn", c_uint64(now), out, c_size_t(255), byref(count))
+        return bytes(out[: count.value])
+
+    def due(self):
+        at = c_uint64()
+        self.call("due", byref(at))
+        return at.value
+
+    def phase(self):
+        phase = c_uint32()
+        self.call("phase", byref(phase))
+        return PHASES[phase.value]
+
+
+class Sent:
+    """A telegram: its octets are all that were meant."""
+
+    def __init__(self, tap, octets, begin):
+        self.tap, self.octets, self.begin = tap, octets, begin
+        self.end = begin + CHARACTER_BITS * len(octets)
+        self.hits, self.unheard = [], set()
+
+    def cut(self, now):
+        """Its speaker stops: it ends with the character that is on its way."""
+        if now < self.end:
+            self.end = min(self.end, self.begin + CHARACTER_BITS * ((now - self.begin) // CHARACTER_BITS + 1))
+
+    def characters(self, tap):
+        out = self.octets[: (self.end - self.begin) // CHARACTER_BITS]
+        hit = lambda place: any(at == tap and where in (None, place) for at, where in self.hits)
+        return [DAMAGED if hit(place) else octet for place, octet in enumerate(out)]
+
+
+class Noise:
+    def __init__(self, begin, end):
+        self.begin, self.end = begin, end
+
+
+class Tap:
+    def __init__(self, spec, params):
+        self.port, self.running, self.since, self.amid = Port(), False, 0, False
+        reply = bytes.fromhex(spec["reply"])
+        master = c_bool(spec["kind"] == "master")
+        self.port.call("new", byref(params), c_uint8(spec["address"]), master, reply, c_size_t(len(reply)))
+
+
+class Bus:
+    def __init__(self, given):
+        self.delay, self.now, self.trace = given["bus"]["ttd"], 0, []
+        params = Params(**given["bus"])
+        self.taps = [Tap(spec, params) for spec in given["taps"]]
+
+    # ---- what a tap senses
+
+    def at(self, place, entry):
+        """When an entry is at a tap, or None."""
+        if isinstance(entry, Noise):
+            return entry.begin, entry.end
+        if entry.tap == place or place in entry.unheard:
+            return None
+        return entry.begin + self.delay, entry.end + self.delay
+
+    def sensed(self, place):
+        since = self.taps[place].since
+        spans = [self.at(place, entry) for entry in self.trace]
+        return [(max(span[0], since), span[1]) for span in spans if span and since < span[1]]
+
+    def fills_burst(self, place, sent, spans):
+        """Whether a telegram fills a burst of the tap alone."""
+        tap, span = self.taps[place], self.at(place, sent)
+        if span is None or not (tap.since < span[0] or (tap.since == span[0] and not tap.amid)):
+            return False
+        overlaps = lambda a, b: a[0] < b[1] and b[0] < a[1]
+        own = [(it.begin, it.end) for it in self.trace if isinstance(it, Sent) and it.tap == place]
+        return sum(overlaps(span, it) for it in spans) == 1 and not any(overlaps(span, it) for it in own)
+
+    def characters(self, place, end, spans):
+        for entry in self.trace:
+            if isinstance(entry, Sent) and entry.end + self.delay == end and self.fills_burst(place, entry, spans):
+                return entry.characters(place)
+        return [DAMAGED]
+
+    def tell(self, place, old, new):
+        """Tells a tap what has begun from the old clock on, and what has ended until the new one."""
+        spans = self.sensed(place)
+        lasts = lambda moment: any(span[0] < moment < span[1] for span in spans)
+        port = self.taps[place].port
+        for begin in sorted({span[0] for span in spans if old <= span[0] < new and not lasts(span[0])}):
+            port.call("begin", c_uint64(begin), c_uint64(new))
+        for end in sorted({span[1] for span in spans if old < span[1] <= new and not lasts(span[1])}):
+            port.end(end, new, self.characters(place, end, spans))
+
+    # ---- events that were accepted
+
+    def turn(self, place):
+        octets = self.taps[place].port.turn(self.now)
+        if octets:
+            self.trace.append(Sent(place, octets, self.now))
+        return octets
+
+    def pass_on(self, bits):
+        old, self.now = self.now, self.now + bits
+        for place, tap in enumerate(self.taps):
+            if tap.running:
+                self.tell(place, old, self.now)
+        # What is long over is no longer asked for.
+        self.trace = [entry for entry in self.trace if entry.end + 2 * self.delay + 4000 > self.now]
+
+    def start(self, place):
+        tap = self.taps[place]
+        spans = [self.at(place, entry) for entry in self.trace]
+        tap.running, tap.since = True, self.now
+        tap.amid = any(span and span[0] <= self.now < span[1] for span in spans)
+        tap.port.call("start", c_uint64(self.now))
+
+    def stop(self, place):
+        for entry in self.trace:
+            if isinstance(entry, Sent) and entry.tap == place:
+                entry.cut(self.now)
+        self.taps[place].running = False
+        self.taps[place].port.call("stop")
+
+    def damage(self, tap, speaker, place):
+        entry = next(it for it in self.trace if isinstance(it, Sent) and it.tap == speaker and self.now < it.end + self.delay)
+        entry.hits.append((tap, place))
+
+    def noise(self, bits):
+        for entry in self.trace:
+            if isinstance(entry, Noise) and self.now < entry.end:
+                entry.end = max(entry.end, self.now + bits)
+                return
+        self.trace.append(Noise(self.now, self.now + bits))
+
+    def unheard(self, tap, speaker):
+        entry = next(it for it in self.trace if isinstance(it, Sent) and it.tap == speaker and it.begin == self.now)
+        entry.unheard.add(tap)
+
+    def queue(self, request):
+        unit = bytes.fromhex(request["unit"])
+        service = c_uint8(SERVICES.index(request["service"]))
+        words = c_uint8(request["da"]), service, c_bool(request["high"]), unit, c_size_t(len(unit))
+        self.taps[request["tap"]].port.call("push", *words)
+
+    def does(self, event):
+        """Does an event, and answers what was said."""
+        ((kind, it),) = event.items()
+        if kind == "Turn":
+            return self.turn(it)
+        if kind in ("Pass", "Start", "Stop", "Noise", "Queue"):
+            {"Pass": self.pass_on, "Start": self.start, "Stop": self.stop, "Noise": self.noise, "Queue": self.queue}[kind](it)
+        elif kind == "Damage":
+            self.damage(it["tap"], it["speaker"], it["place"])
+        else:
+            self.unheard(it["tap"], it["speaker"])
+        return b""
+
+
+def play(given, counts):
+    """Plays a list's accepted events, and compares what is said and what becomes of each station."""
+    expect = given["expect"]
+    if len(expect) == 1:
+        return
+    bus = Bus(given)
+    counts["ports"] += len(bus.taps)
+    for number, (event, line) in enumerate(zip(given["events"], expect)):
+        if " fault " in line:
+            continue
+        said = bus.does(event)
+        wanted = line.partition(" spoke ")[2]
+        counts["turns"] += "Turn" in event
+        assert said.hex() == wanted, f"event {number} says {said.hex()!r}, not {wanted!r}"
+    for place, tap in enumerate(bus.taps):
+        line = next(it for it in expect if it.startswith(f"tap {place}:"))
+        due = tap.port.due() if tap.running else NEVER
+        said = f"tap {place}: {tap.port.phase()}, due {due}" if due != NEVER else f"tap {place}: {tap.port.phase()}, not due"
+        assert said == line or (due == NEVER and line.startswith(f"tap {place}: {tap.port.phase()}")), f"{said!r}, not {line!r}"
+
+
+def main():
+    counts, differ, lists = {"ports": 0, "turns": 0}, 0, cases.event_lists()
+    for name, text in lists.items():
+        try:
+            play(json.loads(text), counts)
+        except AssertionError as fault:
+            differ += 1
+            print(f"{name}: {fault}")
+    print(f"{len(lists) - differ} equal, {differ} differ; {counts['ports']} ports, {counts['turns']} turns")
+    return differ > 0
+
+
+sys.exit(main())
