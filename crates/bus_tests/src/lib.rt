@@ -1,4 +1,4 @@
-//! Tests of the calls of pb_world, pb_station and pb_core, and no code. What happens on whole buses is tested by event
+//! Tests of the calls of pb_world, pb_station and pb_core. The crate has only tests. Whole buses are tested by event
 //! lists.
 #![tactic(auto)]
 

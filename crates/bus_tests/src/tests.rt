@@ -21,16 +21,16 @@ use pb_world::{
 use std::fmt::Debug;
 use std::process::Abort;
 
-/// Ends the test unless two values are equal. It is a call since the proof of a test that compares in place takes three
-/// times as long; where what follows needs to know it, `assert_eq!` says it in place.
+/// Ends the test unless two values are equal. A call of its own: comparing in place makes the proof of a test take
+/// three times as long. If the following proof needs the equality, `assert_eq!` is used in place.
 fn equal<T: PartialEq + Debug>(rt: &impl Abort, left: &T, right: &T)
     ensures { T.eq left.now right.now ≡ true }
 {
     assert_eq!(rt; *left, *right);
 }
 
-/// A slot of 100, idle times 37 and 60, reply delay 11, no lag, rotation 10,000, GAP factor 10, highest
-/// address 5, one retry.
+/// Slot time 100, idle times 37 and 60, reply delay 11, lag 0, target rotation time 10,000, GAP factor 10, highest
+/// station address 5, one retry, no cable delay.
 fn usual(rt: &impl Abort) -> BusParams {
     BusParams::new(100, 37, 60, 11, 0, 10_000, 10, 5, 1, 0).expect(rt, "the usual parameters")
 }
@@ -43,7 +43,7 @@ fn master(address: u8) -> TapSpec {
     }
 }
 
-/// A passive station that replies an octet.
+/// A passive station that replies with one octet.
 fn replying(address: u8, octet: u8) -> TapSpec {
     let mut reply = ArrayVec::new();
     reply.push(octet);
@@ -54,13 +54,13 @@ fn replying(address: u8, octet: u8) -> TapSpec {
     }
 }
 
-/// Two masters with the addresses 1 and 2, which don't run yet.
+/// Two masters with the addresses 1 and 2 that do not run yet.
 fn two_masters(rt: &(impl AllocGlobal + Abort)) -> World {
     let specs = [master(1), master(2)];
     World::new(rt.alloc(), usual(rt), &specs).expect(rt, "a world")
 }
 
-/// Two masters, of which the first was started 800 bit times ago, and has its turn now.
+/// Two masters; the first one was started 800 bit times ago, and its turn is due now.
 fn silent_for_800(rt: &(impl AllocGlobal + Abort)) -> World {
     let mut world = two_masters(rt);
     world
@@ -111,8 +111,8 @@ fn events_change_a_world(rt: HostRuntime) {
     equal(&rt, &phase_name(&world, 0), &Some("Claim"));
 }
 
-/// What begins can be known one bit time later; then the next change is its end. A tap that starts amid
-/// something knows of it one bit time later.
+/// A begin can be known one bit time later; then the next change is its end. A tap that starts during activity knows of
+/// it one bit time later.
 #[test]
 fn a_world_says_when_it_changes(rt: HostRuntime) {
     let alloc = rt.alloc();
@@ -182,7 +182,7 @@ fn a_master_asks_for_data(rt: HostRuntime) {
     equal(&rt, &second.executed(), &1);
 }
 
-/// A turn that was decided outside the world is the one that the world takes, and no decision fits after it.
+/// A turn that is decided outside the world is the one that the world takes. After it the decision no longer fits.
 #[test]
 fn a_turn_is_decided_outside_the_world(rt: HostRuntime) {
     let alloc = rt.alloc();
@@ -214,7 +214,7 @@ fn a_turn_is_decided_outside_the_world(rt: HostRuntime) {
     equal(&rt, &world.into_trace().len(), &1);
 }
 
-/// Whether the station at a tap is equal to one in all that it keeps.
+/// Whether the station at a tap equals another one in all its state.
 fn is_at(world: &World, tap: usize, station: &Station) -> bool {
     match world.station(tap) {
         Some(found) => found.is_same(station),
@@ -230,7 +230,7 @@ fn are_same(world: &World, other: &World) -> bool {
     }
 }
 
-/// Turns that are decided on glances in the room of replaced stations are those that the world takes by itself.
+/// Turns that are decided from glances in spare boxes are those that the world takes by itself.
 #[test]
 fn glances_take_the_room_of_replaced_stations(rt: HostRuntime) {
     let alloc = rt.alloc();
@@ -248,8 +248,8 @@ fn glances_take_the_room_of_replaced_stations(rt: HostRuntime) {
     equal(&rt, &world.into_trace().len(), &1);
 }
 
-/// The turn of a tap, decided on a glance in the room of replaced stations and with a buffer that is used for each;
-/// none where there is no such tap, or the decision doesn't fit.
+/// The turn of a tap, decided from a glance in a spare box with a reused buffer; `None` if there is no such tap or the
+/// decision does not fit.
 fn take_decided(
     rt: &(impl AllocGlobal + Abort),
     world: &mut World,
@@ -268,7 +268,7 @@ fn take_decided(
     Some(world.take_decided(alloc, decided).expect(rt, "a turn"))
 }
 
-/// Why an event would be refused is known before, and nothing changes by that.
+/// `refusal` returns why an event would be refused, and changes nothing.
 #[test]
 fn refusals_are_known_before(rt: HostRuntime) {
     let alloc = rt.alloc();
@@ -349,7 +349,7 @@ fn a_run_stops_at_the_first_refused_event(rt: HostRuntime) {
     equal(&rt, &run(alloc, &mut world, &[]), &Ok(()));
 }
 
-/// A list that lends its events, one of them twice, is played to its end, or to the first event that is refused.
+/// A list of references to events, one of them twice, is played to its end or the first refused event.
 #[test]
 fn a_run_of_shared_events(rt: HostRuntime) {
     let alloc = rt.alloc();
@@ -363,7 +363,7 @@ fn a_run_of_shared_events(rt: HostRuntime) {
     equal(&rt, &phase_name(&world, 1), &Some("Listening"));
 }
 
-/// Two masters wait for a time-out of 800 and of 1000. Where the first starts at 200, both claim the token at 1000.
+/// Two masters have time-outs of 800 and 1000. If the first starts at 200, both claim the token at 1000.
 #[test]
 fn a_run_is_judged(rt: HostRuntime) {
     let alloc = rt.alloc();
@@ -391,7 +391,7 @@ fn a_run_is_judged(rt: HostRuntime) {
     equal(&rt, &ninth, &Some(AuditFault::At(0, WorldFault::NoSuchTap)));
 }
 
-/// The same of a list that lends its events, one of them twice.
+/// The same for a list of references to events, one of them twice.
 #[test]
 fn a_run_of_shared_events_is_judged(rt: HostRuntime) {
     let alloc = rt.alloc();
@@ -415,7 +415,7 @@ fn a_run_of_shared_events_is_judged(rt: HostRuntime) {
     equal(&rt, &twice, &Some(AuditFault::At(1, WorldFault::Running)));
 }
 
-/// A trace of 100,000 entries takes no more: no noise, and no turn that would speak.
+/// A trace of 100,000 entries accepts no more: no noise, and no turn that would send.
 #[test]
 fn a_full_trace_takes_no_more(rt: HostRuntime) {
     let alloc = rt.alloc();
@@ -446,7 +446,7 @@ fn a_full_trace_takes_no_more(rt: HostRuntime) {
     equal(&rt, &world.trace().len(), &100_000);
 }
 
-/// The clock goes as far as it can, and no further.
+/// The clock reaches its limit and goes no further.
 #[test]
 fn a_full_clock_goes_no_further(rt: HostRuntime) {
     let alloc = rt.alloc();
@@ -462,7 +462,7 @@ fn a_full_clock_goes_no_further(rt: HostRuntime) {
     equal(&rt, &world.now().get(), &1_000_000_000_000);
 }
 
-/// Of each priority 16 requests wait at a tap, and no more.
+/// At most 16 requests of each priority wait at a tap.
 #[test]
 fn full_lists_take_no_more(rt: HostRuntime) {
     let alloc = rt.alloc();
@@ -489,7 +489,7 @@ fn full_lists_take_no_more(rt: HostRuntime) {
     equal(&rt, &(queue.len_high(), queue.len_low()), &(16, 16));
 }
 
-/// An inbox has 64 marks, a begin and an end of each noise. Where one is full, no time passes to a mark beyond.
+/// An inbox has 64 marks, a begin and an end for each noise. If it is full, no time can pass to a further mark.
 #[test]
 fn a_full_inbox_takes_no_more(rt: HostRuntime) {
     let alloc = rt.alloc();
@@ -510,7 +510,7 @@ fn a_full_inbox_takes_no_more(rt: HostRuntime) {
     equal(&rt, &(world.now().get(), unread(&rt, &world, 1)), &(64, 64));
 }
 
-/// How many marks a tap has not read; none where there is no such tap.
+/// How many marks of a tap are unread; 0 if there is no such tap.
 fn unread(rt: &(impl AllocGlobal + Abort), world: &World, tap: usize) -> usize {
     if tap >= world.taps() {
         return 0;
@@ -552,7 +552,7 @@ fn events_are_copied(rt: HostRuntime) {
     assert!(rt; Event::Stop(2).copy() != Event::Start(2));
 }
 
-/// A master and so many passive stations.
+/// A master and this many passive stations.
 fn segment(rt: &(impl AllocGlobal + Abort), passive: usize) -> Vec<TapSpec> {
     let mut specs = Vec::new(rt.alloc());
     specs.push(master(1)).expect(rt, "memory");
@@ -562,7 +562,7 @@ fn segment(rt: &(impl AllocGlobal + Abort), passive: usize) -> Vec<TapSpec> {
     specs
 }
 
-/// A world has 127 taps and no more, and its trace says of each how a telegram reached it.
+/// A world has at most 127 taps, and its trace shows for each how a telegram reached it.
 #[test]
 fn a_world_has_127_taps(rt: HostRuntime) {
     let alloc = rt.alloc();

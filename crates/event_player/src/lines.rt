@@ -1,4 +1,4 @@
-//! The lines that playing an event list prints.
+//! The lines that the program prints for an event list.
 
 use crate::lists::EventList;
 use crate::shared::Usual;
@@ -10,25 +10,24 @@ use pb_world::{
 };
 use std::alloc::{AllocError, Global};
 
-/// What playing an event list prints.
+/// What is printed for an event list.
 #[derive(Debug, Drop)]
 pub enum Played {
-    /// The lines of its events, and of what became of the bus.
+    /// The lines of its events and of the bus after them.
     Run(String),
     /// The fault of a bus whose parameters or taps are refused.
     Refused(String),
 }
 
-/// A bus to which nothing has happened yet, or why there is none.
+/// A bus on which nothing has happened, or why there is none.
 #[derive(Drop)]
 enum NewBus {
     Made(BusParams, World),
     Refused(String),
 }
 
-/// The lines that an event list gives: each event with its reply or its fault, the trace, each tap's
-/// phase and the moment of its next turn, and what an audit of the accepted events finds. A bus that is
-/// refused gives one line, its fault.
+/// The lines for an event list: each event with its reply or its fault, the trace, each tap's phase and the moment of
+/// its next turn, and what an audit of the accepted events finds. If the bus is refused, the only line is that fault.
 ///
 /// A refused event changes nothing, and the next one follows.
 pub fn play(alloc: Global, list: &EventList) -> Result<Played, AllocError> {
@@ -44,8 +43,8 @@ pub fn play(alloc: Global, list: &EventList) -> Result<Played, AllocError> {
     Ok(Played::Run(text))
 }
 
-/// What an event list gives, for one who wants to know who holds the token: after each accepted event the clock, how
-/// many entries the trace has, and the taps whose stations may initiate; then the trace, and what an audit finds.
+/// The lines about holders: after each accepted event the clock, the number of entries of the trace, and the taps whose
+/// stations may initiate; then the trace, and what an audit finds.
 pub fn holders(alloc: Global, list: &EventList) -> Result<Played, AllocError> {
     let (params, mut world) = match new_bus(alloc, list)? {
         NewBus::Made(params, world) => (params, world),
@@ -66,8 +65,8 @@ pub fn holders(alloc: Global, list: &EventList) -> Result<Played, AllocError> {
     Ok(Played::Run(text))
 }
 
-/// The trace of an event list that is played so many times, each on a new bus and to its end or to the first
-/// event that is refused.
+/// The trace of an event list that is played `times` times, each time on a new bus and to its end or the first refused
+/// event.
 pub fn trace(alloc: Global, list: &EventList, times: u32) -> Result<Played, AllocError> {
     let mut text = String::new(alloc);
     let usual = Usual::new(alloc)?;
@@ -85,7 +84,7 @@ pub fn trace(alloc: Global, list: &EventList, times: u32) -> Result<Played, Allo
     Ok(Played::Run(text))
 }
 
-/// What is found of an event list that is audited so many times.
+/// What an audit of an event list finds, done `times` times.
 pub fn audits(alloc: Global, list: &EventList, times: u32) -> Result<Played, AllocError> {
     let mut text = String::new(alloc);
     let params = match new_bus(alloc, list)? {
@@ -123,7 +122,7 @@ fn new_bus(alloc: Global, list: &EventList) -> Result<NewBus, AllocError> {
     }
 }
 
-/// Plays the events, appends a line for each, and answers those that were accepted.
+/// Plays the events, appends a line for each, and returns those that were accepted.
 fn push_events<'a>(
     text: &mut String,
     alloc: Global,
@@ -147,7 +146,7 @@ fn push_events<'a>(
     Ok(accepted)
 }
 
-/// Appends the clock, how many entries the trace has, and the taps whose stations may initiate.
+/// Appends the clock, the number of entries of the trace, and the taps whose stations may initiate.
 fn push_holders(text: &mut String, world: &World) -> Result<(), AllocError> {
     write!(text, "{} {}", world.now().get(), world.trace().len())?;
     for tap in 0..world.taps() {
@@ -186,7 +185,7 @@ fn push_event(text: &mut String, alloc: Global, event: &Event) -> Result<(), All
     }
 }
 
-/// Appends a request: its service, address, priority and data, where `-` is none.
+/// Appends a request: its service, address, priority and data, with `-` for no data.
 fn push_request(text: &mut String, alloc: Global, request: &Request) -> Result<(), AllocError> {
     let service = service_name(request.service());
     let priority = if request.high() { "high" } else { "low" };
@@ -206,7 +205,7 @@ fn service_name(service: Service) -> &'static str {
     }
 }
 
-/// Appends the clock, and the octets of a turn that spoke.
+/// Appends the clock, and the octets if the turn sent any.
 fn push_reply(text: &mut String, alloc: Global, reply: &Reply) -> Result<(), AllocError> {
     write!(text, "now {}", reply.now.get())?;
     if let Some(octets) = &reply.spoke {
@@ -240,7 +239,7 @@ fn push_record(text: &mut String, alloc: Global, record: &Record) -> Result<(), 
     text.push('\n')
 }
 
-/// The letter that says how a telegram reached a tap.
+/// The letter for how a telegram reached a tap.
 fn letter(heard: Heard) -> char {
     match heard {
         Heard::Own => '-',
@@ -270,7 +269,7 @@ fn push_due(text: &mut String, due: Option<Moment>) -> Result<(), AllocError> {
     }
 }
 
-/// Appends what an audit of events finds that a bus has accepted.
+/// Appends what an audit of the accepted events finds.
 fn push_audit(
     text: &mut String,
     alloc: Global,
@@ -278,7 +277,7 @@ fn push_audit(
     taps: &[TapSpec],
     accepted: &[&Event],
 ) -> Result<(), AllocError> {
-    // Accepted once, they are accepted again: all that an audit of them can want is memory.
+    // These events were accepted before, so they are accepted again: the only possible fault is refused memory.
     match audit_shared(alloc, params, taps, accepted) {
         Ok(found) => push_finding(text, found),
         Err(_) => Err(AllocError),

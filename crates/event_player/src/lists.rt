@@ -1,4 +1,4 @@
-//! Event lists: what the program reads.
+//! Event lists, as the program reads them.
 
 use arrayvec::ArrayVec;
 use hex::FromHexError;
@@ -10,33 +10,33 @@ use serde_json::Error as JsonError;
 use std::alloc::{AllocError, AllocFailed, Global};
 use thiserror::Error;
 
-/// A bus, and what happens on it.
+/// A bus and its events.
 #[derive(Debug, Drop)]
 pub struct EventList {
     /// The parameters of the bus.
     pub bus: Bus,
-    /// What its taps are.
+    /// The definitions of its taps.
     pub taps: Vec<TapSpec>,
-    /// What happens, in order.
+    /// Its events, in order.
     pub events: Vec<Event>,
 }
 
 /// Why an input is no event list.
 #[derive(Debug, Drop, Error)]
 pub enum ListFault {
-    /// It is no JSON, or its keys or values are wrong.
+    /// It is not JSON, or its keys or values are wrong.
     #[error("no event list: {0}")]
     Json(JsonError),
     /// It has a key that no event list has.
     #[error("no event list: unknown key `{0}`")]
     UnknownKey(String),
-    /// The reply of a tap is no hex.
+    /// The reply of a tap is not hex.
     #[error("no event list: the reply of tap {0} is no hex")]
     ReplyNotHex(usize),
     /// The reply of a tap has more than 246 octets.
     #[error("no event list: the reply of tap {0} is too long")]
     ReplyTooLong(usize),
-    /// The data of the request of an event is no hex.
+    /// The data of an event's request is not hex.
     #[error("no event list: the unit of event {0} is no hex")]
     UnitNotHex(usize),
     /// The request of an event has more than 246 octets of data.
@@ -71,7 +71,7 @@ impl From<JsonError> for ListFault {
     }
 }
 
-/// The parameters of a bus, in bit times; a key that is absent has its usual value.
+/// The parameters of a bus, times in bit times. An absent key has its default value.
 #[derive(Clone, Copy, Debug, Deserialize)]
 #[serde(default, deny_unknown_fields)]
 pub struct Bus {
@@ -103,7 +103,7 @@ impl Default for Bus {
       ttd = 0;
     } };
 
-    /// The usual parameters.
+    /// The default parameters.
     fn default() -> Bus {
         Bus {
             tsl: 100,
@@ -121,7 +121,7 @@ impl Default for Bus {
 }
 
 impl Bus {
-    /// The parameters, or the first rule that they break.
+    /// The parameters, or the first rule that they violate.
     pub fn params(&self) -> Result<BusParams, ParamFault> {
         BusParams::new(
             self.tsl,
@@ -138,10 +138,10 @@ impl Bus {
     }
 }
 
-/// The keys of an event list. What a list is expected to print is for others to compare.
+/// The keys of an event list. The expected output under `expect` is compared elsewhere.
 const KEYS: [&str; 4] = ["bus", "taps", "events", "expect"];
 
-/// An event list as it is written.
+/// An event list in JSON.
 #[derive(Debug, Drop, Deserialize)]
 struct WrittenList<'a> {
     #[serde(default)]
@@ -150,7 +150,7 @@ struct WrittenList<'a> {
     events: Vec<WrittenEvent<'a>>,
 }
 
-/// The first key of a map that is no key of an event list, if there is one.
+/// The first key of a map that no event list has, if there is one.
 #[derive(Debug, Drop)]
 struct UnknownKey {
     name: Option<String>,
@@ -177,7 +177,7 @@ impl<'de> Deserialize<'de> for UnknownKey {
     }
 }
 
-/// A tap as it is written.
+/// A tap in JSON.
 #[derive(Debug, Drop, Deserialize)]
 #[serde(deny_unknown_fields)]
 struct WrittenTap<'a> {
@@ -187,7 +187,7 @@ struct WrittenTap<'a> {
     reply: &'a str,
 }
 
-/// The kind of a tap as it is written.
+/// The kind of a tap in JSON.
 #[derive(Clone, Copy, Debug, Deserialize)]
 #[serde(rename_all = "lowercase")]
 enum WrittenKind {
@@ -204,7 +204,7 @@ impl From<WrittenKind> for Kind {
     }
 }
 
-/// An event as it is written.
+/// An event in JSON.
 #[derive(Clone, Copy, Debug, Deserialize)]
 #[serde(deny_unknown_fields)]
 enum WrittenEvent<'a> {
@@ -232,7 +232,7 @@ enum WrittenEvent<'a> {
     },
 }
 
-/// The service of a request as it is written.
+/// The service of a request in JSON.
 #[derive(Clone, Copy, Debug, Deserialize)]
 #[serde(rename_all = "lowercase")]
 enum WrittenService {
@@ -251,7 +251,7 @@ impl From<WrittenService> for Service {
     }
 }
 
-/// Why a text gives no data.
+/// Why a text is no data.
 #[derive(Clone, Copy, Debug)]
 enum DataFault {
     NotHex,
@@ -259,7 +259,7 @@ enum DataFault {
     NoMemory,
 }
 
-/// The event list that JSON text gives.
+/// Reads an event list from JSON text.
 pub fn read_list(alloc: Global, text: &[u8]) -> Result<EventList, ListFault> {
     let unknown: UnknownKey = serde_json::from_slice(alloc, text)?;
     if let Some(name) = unknown.name {
@@ -299,7 +299,7 @@ fn read_events(alloc: Global, written: &[WrittenEvent<'_>]) -> Result<Vec<Event>
     Ok(events)
 }
 
-/// The event at a place.
+/// The event with this index.
 fn read_event(alloc: Global, place: usize, event: WrittenEvent<'_>) -> Result<Event, ListFault> {
     Ok(match event {
         WrittenEvent::Turn(tap) => Event::Turn(tap),
@@ -333,7 +333,7 @@ fn read_event(alloc: Global, place: usize, event: WrittenEvent<'_>) -> Result<Ev
     })
 }
 
-/// The data of the request of the event at a place.
+/// The data of the request of the event with this index.
 fn read_unit(alloc: Global, place: usize, text: &str) -> Result<ArrayVec<u8, 246>, ListFault> {
     match read_data(alloc, text) {
         Ok(unit) => Ok(unit),

@@ -1,9 +1,9 @@
-//! `event_player`: plays a list of events on a bus, and prints what comes of them. For tests.
+//! `event_player`: plays a list of events on a bus, and prints the result. For tests.
 //!
-//! Reads the list as JSON from standard input, and prints the lines that playing it gives. The words `trace TIMES`
-//! and `audit TIMES` do that alone, so many times, and print what the last gave; `bench/world` measures them. The word
-//! `holders` has it print who may initiate after each event, for `tools/fuzz`. Exit statuses: 0 played, 1 the
-//! parameters or the taps are refused, 2 no event list or other words, 3 a read or write fault, 4 no memory.
+//! Reads the list as JSON from standard input, and prints the lines for it. With the words `trace TIMES` or `audit
+//! TIMES` it does only that, TIMES times, and prints the last result; `bench/world` measures these. With the word
+//! `holders` it prints who may initiate after each event, for `tools/fuzz`. Exit statuses: 0 played, 1 the parameters
+//! or the taps are refused, 2 no event list or unknown words, 3 a read or write fault, 4 no memory.
 #![tactic(auto)]
 
 mod lines;
@@ -31,19 +31,19 @@ const STREAM: u8 = 3;
 
 const MEMORY: u8 = 4;
 
-/// Why the lines weren't all printed.
+/// Why not all lines were printed.
 #[derive(Debug, Drop, Error)]
 enum PlayFault {
-    /// The words ask for nothing.
+    /// The words make no sense.
     #[error("usage: event_player [holders | trace TIMES | audit TIMES] < LIST")]
     Usage,
     /// The input is no event list.
     #[error("{0}")]
     List(ListFault),
-    /// The input couldn't be read.
+    /// The input could not be read.
     #[error("read fault")]
     Read,
-    /// The lines couldn't be written.
+    /// The lines could not be written.
     #[error("write fault")]
     Write,
     /// Memory was refused.
@@ -76,7 +76,7 @@ impl From<AllocError> for PlayFault {
 }
 
 impl PlayFault {
-    /// The exit status that says it.
+    /// The exit status of the fault.
     fn status(&self) -> u8 {
         match self {
             PlayFault::Usage | PlayFault::List(_) => NO_LIST,
@@ -97,7 +97,7 @@ fn main(rt: HostRuntime) -> ExitCode {
     ExitCode::from(status)
 }
 
-/// Plays the list on standard input, and answers the exit status of what was printed.
+/// Plays the list on standard input, and returns the exit status of what was printed.
 fn play_input(rt: &(impl AllocGlobal + Env + Input + Print)) -> Result<u8, PlayFault> {
     let task = read_words(rt)?;
     let input = read_input(rt)?;

@@ -1,16 +1,16 @@
-//! Lists whose equal events share their room: an event has that of the longest request, and most events are turns, or the
-//! passing of little time.
+//! Lists in which equal events share memory. An event is as large as the longest request, and most events are turns or
+//! short passes of time.
 
 use pb_world::Event;
 use std::alloc::{AllocError, Global};
 
-/// Taps whose turns are usual: as many as a bus may have.
+/// The taps whose turns are shared: as many as a bus may have.
 const TURNS: usize = 127;
 
-/// Passes of fewer bit times are usual.
+/// Passes of fewer bit times are shared.
 const BITS: u64 = 4_096;
 
-/// Events that come again and again, each once: the turn of each tap, and the passing of few bit times.
+/// Events that occur often, each once: the turn of each tap, and short passes of time.
 #[derive(Drop)]
 pub struct Usual {
     turns: Vec<Event>,
@@ -18,7 +18,9 @@ pub struct Usual {
 }
 
 impl Usual {
-    /// All usual events.
+    /// All shared events.
+    ///
+    /// Fault: memory was refused.
     pub fn new(alloc: Global) -> Result<Usual, AllocError> {
         let mut turns = Vec::with_capacity(alloc, TURNS)?;
         for tap in 0..TURNS {
@@ -31,7 +33,9 @@ impl Usual {
         Ok(Usual { turns, passes })
     }
 
-    /// The list of events that are equal to some, by place: usual ones, where they are.
+    /// References to events equal to these, in order: to shared ones where there are any.
+    ///
+    /// Fault: memory was refused.
     pub fn share<'a>(
         &'a self,
         alloc: Global,
@@ -44,7 +48,7 @@ impl Usual {
         Ok(shared)
     }
 
-    /// The usual event that is equal to one, if there is.
+    /// The shared event that is equal to this one, if there is one.
     fn equal_to(&self, event: &Event) -> Option<&Event> {
         match event {
             Event::Turn(tap) => self.turns.get(*tap),

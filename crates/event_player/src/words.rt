@@ -1,24 +1,24 @@
-//! What the program's words ask for.
+//! The words of the program.
 
 use std::alloc::{AllocError, Global};
 use std::env;
 use std::io::ErrorKind;
 use std::rt::Env;
 
-/// What is to be done with an event list.
+/// What to do with an event list.
 #[derive(Clone, Copy, Debug)]
 pub enum Task {
-    /// Prints all that comes of it.
+    /// Play it, and print all lines.
     Play,
-    /// Plays it so many times, and prints the trace.
+    /// Play it this many times, and print the trace.
     Trace(u32),
-    /// Audits it so many times, and prints what that finds.
+    /// Audit it this many times, and print the result.
     Audit(u32),
-    /// Plays it, and prints after each event who may initiate, and then the trace and what an audit finds.
+    /// Play it, and print after each event who may initiate, and then the trace and the audit.
     Holders,
 }
 
-/// Why the words ask for nothing.
+/// Why the words make no sense.
 #[derive(Clone, Copy, Debug)]
 pub enum WordsFault {
     Usage,
@@ -31,7 +31,7 @@ impl From<AllocError> for WordsFault {
     }
 }
 
-/// The task that the program's words name: none, `holders`, `trace TIMES` or `audit TIMES`.
+/// The task that the program's words name: no word, `holders`, `trace TIMES` or `audit TIMES`.
 pub fn read_words(rt: &(impl AllocGlobal + Env)) -> Result<Task, WordsFault> {
     let words: Vec<String> = match env::args(rt) {
         Ok(words) => words.collect(rt.alloc())?,

@@ -1,4 +1,4 @@
-//! Tests of telegrams and their text, times, tables, states and message cycles: what is common to them.
+//! Tests of telegrams and their texts, times, tables, states and message cycles: what they share.
 
 mod changed_octets;
 mod cycles;
@@ -28,8 +28,8 @@ use std::process::Abort;
 use std::str;
 use std::test::Fail;
 
-/// Ends the test unless two values are equal. It is a call since the proof of a test that compares in place takes three
-/// times as long.
+/// Ends the test unless two values are equal. A call of its own: comparing in place makes the proof of a test take
+/// three times as long.
 fn equal<T: PartialEq + Debug>(rt: &impl Abort, left: &T, right: &T)
     ensures { T.eq left.now right.now ≡ true }
 {
@@ -41,7 +41,7 @@ fn at(bits: u64) -> Result<Moment, ClockFull> {
     Moment::new(bits).ok_or(ClockFull)
 }
 
-/// The octets of hex digits; `-` is none.
+/// The octets of hex digits; `-` means none.
 fn octets(hex: &str) -> Result<ArrayVec<u8, 255>, Fail> {
     let mut octets = ArrayVec::new();
     for pair in hex.as_bytes().chunks_exact(2) {

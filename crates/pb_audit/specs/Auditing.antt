@@ -19,17 +19,17 @@ use Rattle.pb_audit.specs.declared.findings.AuditFault.TheVariants as audit
 abbrev pub broken_at : ℕ × ℕ → Broken
 broken_at b = record { number = b.0; clock = b.1 }
 
--- The events lead from the new world to one that keeps the promises; the premise is the first that they break, and the record the first of its trace that is
--- illegal.
+-- The events lead from the new world to one that keeps the promises; the premise is the first that they break, and the
+-- record is the first illegal one of its trace.
 abbrev pub Finds : Params → List TapSpec → List Event → Audit → Type 0
 Finds p specs events found = (new w : World) × (new_world p specs ≡ Ok new) × RunsTo new events w
     × (option_map broken_at found.premise ≡ first_broken new events) × (found.illegal ≡ first_illegal w.params (specs_of w) w.trace) × KeepsPromises new events w
 
--- where no premise is broken, no telegram is illegal
+-- if no premise is broken, no telegram is illegal
 abbrev pub IsLegalIfKept : Audit → Type 0
 IsLegalIfKept found = found.premise ≡ None → found.illegal ≡ None
 
--- there is no new world, or it leads to one that refuses the event at a place
+-- there is no new world, or it leads to one that refuses the event at an index
 abbrev pub RefusesAudit : Params → List TapSpec → List Event → AuditFault → Type 0
 RefusesAudit p specs events (audit.New fault) = RefusesNew (new_world p specs) fault
 RefusesAudit p specs events (audit.At place fault) = (new next : World) × (new_world p specs ≡ Ok new) × StopsAt new events place fault next

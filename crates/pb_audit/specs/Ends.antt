@@ -5,7 +5,7 @@ use Rattle.pb_theorem.specs.Activity.{active_at}
 use Rattle.pb_theorem.specs.Judging.{latest_end, AllReached}
 use Rattle.pb_audit.specs.declared.ends.Ends.{Ends}
 
--- so many of some entries have begun at all taps before a moment, and these are their latest ends
+-- this many of some entries have begun at all taps before a moment, and these are their latest ends
 pub record AreEnds (delay moment : ℕ) (earlier : List Entry) (ends : Ends) : Type 0 where
   pub size : length ends.latest ≡ 127
   pub few : ends.taps ≤ 127
@@ -13,6 +13,6 @@ pub record AreEnds (delay moment : ℕ) (earlier : List Entry) (ends : Ends) : T
   pub reached : AllReached delay moment (take ends.begun earlier)
   pub latest : (tap : ℕ) → tap < ends.taps → get_or ends.latest tap 0 ≡ latest_end delay tap (take ends.begun earlier)
 
--- latest ends at each of so many taps, with those of one entry more
+-- latest ends at each of this many taps, with those of one more entry
 abbrev pub HaveMore : ℕ → ℕ → Entry → List ℕ → List ℕ → Type 0
 HaveMore delay taps e before after = (tap : ℕ) → tap < taps → get_or after tap 0 ≡ max (get_or before tap 0) (active_at delay tap e).end

@@ -1,4 +1,4 @@
--- What one pass over a trace keeps, as the definitions say it.
+-- What one pass over a trace keeps, in the words of the definitions.
 use Rattle.std.specs.Prelude.{List, map}
 use Rattle.pb_model.specs.Medium as model
 use Rattle.pb_theorem.specs.Judging as judging
@@ -12,11 +12,11 @@ use Rattle.pb_taps.specs.declared.taps.Tap.{Tap}
 abbrev pub last_of : LastInitiator → judging.LastInitiator
 last_of last = record { telegram = record_of last.telegram.now; silent = last.silent }
 
--- what each tap of a bus is
+-- the definition of each tap of a bus
 abbrev pub specs_at : List Tap → List model.TapSpec
 specs_at taps = map (λ t. t.spec) (map tap_of taps)
 
--- what each tap is, wherever its address is read
+-- the definition of each tap, wherever its address is read
 abbrev pub specs_in : Addresses → List model.TapSpec
 specs_in (addresses.OfTaps taps) = specs_at taps.now
 specs_in (addresses.OfSpecs specs) = map spec_of specs.now

@@ -1,4 +1,4 @@
--- What a telegram says, as far as it matters who may send it.
+-- The meaning of a telegram, as far as it decides who may send it.
 use Rattle.std.specs.Prelude.{if◌then◌else◌}
 use Rattle.pb_messages.specs.Messages.{has_bit}
 use Rattle.pb_turn.specs.Arrivals.{Arrival, Token, Framed, Acknowledgement, NoTelegram}
@@ -13,7 +13,7 @@ meaning_of (Framed f) = if has_bit f.fc 6 then meaning.Request else meaning.Othe
 meaning_of Acknowledgement = meaning.Other
 meaning_of NoTelegram = meaning.Other
 
--- noise says nothing
+-- noise has no meaning
 abbrev pub meaning_in : Entry → Meaning
 meaning_in (Noise span) = meaning.Other
 meaning_in (Sent r) = meaning_of (telegram_of r)

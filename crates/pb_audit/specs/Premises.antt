@@ -1,4 +1,4 @@
--- A watch over a run, as the premises say it.
+-- A watch over a run, in the words of the premises.
 use Rattle.std.specs.Prelude.{◌≡◌, ℕ, ◌+◌, ◌≤◌, ◌<◌, Bool, true, false, List, [], ◌∷◌, length, drop, get_or, Option, Some, None, MatchOption, Ok, if◌then◌else◌}
 use Rattle.std.specs.Option.{option_map}
 use Rattle.pb_model.specs.World.{World, Event, Pass, Reply}
@@ -34,7 +34,7 @@ watched_of v = record { waited = option_map waited_of v.waited; broken = option_
 abbrev pub IsQuiet : World → List ℕ → Type 0
 IsQuiet w quiet = (tap : ℕ) → tap < length w.taps → get_or quiet tap 0 ≡ quiet_in w tap
 
--- none of so many taps has been in silence since before a moment
+-- no tap of this many has been in silence since before a moment
 abbrev pub IsOldest : ℕ → ℕ → List ℕ → Type 0
 IsOldest oldest taps quiet = (tap : ℕ) → tap < taps → oldest ≤ get_or quiet tap 0
 
@@ -48,31 +48,31 @@ pub record Knows (v : Watch) (w : World) : Type 0 where
 abbrev pub IsLedFrom : Event → World → Bool → Type 0
 IsLedFrom e next had = (w : World) × (reply : Reply) × (step w e ≡ Ok (next, reply)) × (had ≡ has_namesakes w.taps)
 
--- those taps of a world at which something is active before a moment are no longer in silence
+-- the taps of a world at which something is active before a moment are no longer in silence
 abbrev pub HaveHeard : World → ℕ → List ℕ → List ℕ → Type 0
 HaveHeard w to before after = (tap : ℕ) → tap < length w.taps → get_or after tap 0 ≡ (if is_active w.params.ttd w.now to w.trace tap then to else get_or before tap 0)
 
--- how much time passes in an event, if it does
+-- how much time passes in an event, if any
 abbrev pub time_in : Event → Option ℕ
 time_in (Pass bits) = Some bits
 time_in other = None
 
--- since when each tap is in silence is known before an event that is accepted
+-- since when each tap is in silence, known before an accepted event
 abbrev pub Listens : World → Event → List ℕ → Type 0
 Listens w e quiet = (next : World) (reply : Reply) → step w e ≡ Ok (next, reply) → IsQuiet next quiet
 
--- what is seen of an event is what it does
+-- what is foreseen of an event is what it does
 pub record Foresees (f : Foresight) (w : World) (e : Event) : Type 0 where
   pub loses : f.loses ≡ loses e
   pub late : f.late ≡ comes_late w e
 
--- the first of the taps that have waited out, with the others from a position on
+-- the first of the taps that have waited out their time-outs, with the others from an index on
 abbrev pub IsFirstWaiting : World → ℕ → Option ℕ → Type 0
 IsFirstWaiting w from first = MatchOption first (waited_by w from (drop from w.taps) ≡ [])
     (λ tap. (from ≤ tap) × (tap < length w.taps)
     × (waited_by w from (drop from w.taps) ≡ record { tap = tap; moment = w.now } ∷ waited_by w (tap + 1) (drop (tap + 1) w.taps)))
 
--- those that have waited out
+-- the taps that have waited out their time-outs
 abbrev pub waiting_of : List Waited → Waiting
 waiting_of [] = waiting.Nobody
 waiting_of (one ∷ []) = waiting.One one.tap
@@ -92,7 +92,7 @@ last_by now (waiting.Several tap) last = Some (record { tap = tap; moment = now 
 abbrev pub IsAfter : Watch → Foresight → World → Watch → Type 0
 IsAfter v f next result = (w : World) (e : Event) → Foresees f w e → watched_of result ≡ watched_after (watched_of v) w e next
 
--- what a watch stands for goes on by an event
+-- a watch represents one event more
 abbrev pub GoesOn : Watch → World → Event → Watch → Type 0
 GoesOn v w e next = (c : Course) → c.world ≡ w → StandsFor (watched_of v) c → StandsFor (watched_of next) (followed c e (step c.world e))
 

@@ -1,4 +1,4 @@
--- The order of a trace, and a trace from elsewhere that is judged.
+-- The order of a trace, and a trace from anywhere that is judged.
 use Rattle.std.specs.Prelude.{◌≡◌, ℕ, ◌+◌, Bool, nat_le, ◌||◌, if◌then◌else◌, List, [], ◌∷◌, Option, Some, None}
 use Rattle.std.specs.Borrow.{Bor}
 use Rattle.pb_model.specs.Trace as model
@@ -9,19 +9,19 @@ use Rattle.pb_medium.specs.declared.entries.Record.{Record}
 use Rattle.pb_audit.specs.declared.traces.TraceFault.{TraceFault}
 use Rattle.pb_audit.specs.declared.traces.TraceFault.TheVariants.{NotInOrder}
 
--- an entry that is lent, and a telegram
+-- an entry and a telegram behind a reference
 abbrev pub lent_entry : Bor Entry → model.Entry
 lent_entry e = entry_of e.now
 
 abbrev pub lent_record : Bor Record → model.Record
 lent_record r = record_of r.now
 
--- an entry does not last, or goes before the one that it stands behind: by begin, noise first, then telegrams by tap
+-- an entry has no duration, or precedes the one before it: by begin, noise first, then telegrams by tap
 abbrev pub is_misplaced : Option model.Entry → model.Entry → Bool
 is_misplaced None e = nat_le (entry_end e) (entry_begin e)
 is_misplaced (Some before) e = goes_before e before || nat_le (entry_end e) (entry_begin e)
 
--- the position of the first such entry of some, the first of them at a position, behind one
+-- the index of the first such entry of some, the first of them at an index, after another entry
 abbrev pub misplaced_from : Option model.Entry → ℕ → List model.Entry → Option ℕ
 misplaced_from before place [] = None
 misplaced_from before place (e ∷ es) = if is_misplaced before e then Some place else misplaced_from (Some e) (place + 1) es

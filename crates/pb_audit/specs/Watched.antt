@@ -1,4 +1,4 @@
--- A watched bus, and the events by which it has come.
+-- A watched bus, and the events that led to it.
 use Rattle.std.specs.Prelude.{◌≡◌, List, [], ◌∷◌, ◌++◌, Ok}
 use Rattle.pb_timers.specs.Timers.{Params}
 use Rattle.pb_model.specs.Medium.{TapSpec}
@@ -14,27 +14,27 @@ use Rattle.pb_audit.specs.declared.watched.Watched.{Watched}
 abbrev pub world_in : Watched → World
 world_in w = world_of w.bus
 
--- what its fields keep
+-- the invariant of its fields
 pub record IsWatched (w : Watched) : Type 0 where
   pub kept : IsKept w.bus
   pub knows : Knows w.watch (world_in w)
 
--- it has come from a new world by some events, and its watch stands for all of them
+-- some events have led to it from a new world, and its watch represents all of them
 pub record HasCome (w : Watched) (start : World) (events : List Event) : Type 0 where
   pub watched : IsWatched w
   pub lead : LeadTo start events (world_in w)
   pub here : (course_at start events).world ≡ world_in w
   pub stands : StandsFor (watched_of w.watch) (course_at start events)
 
--- what has come by some events has come by them and one more
+-- one more event has led on from the events that led to it
 abbrev pub GoesOnBy : Watched → Event → Watched → Type 0
 GoesOnBy w e next = (start : World) (events : List Event) → HasCome w start events → HasCome next start (events ++ e ∷ [])
 
--- it has come from a new world
+-- events have led to it from a new world
 abbrev pub IsOfNew : Watched → Type 0
 IsOfNew w = (p : Params) × (specs : List TapSpec) × (start : World) × (events : List Event) × (new_world p specs ≡ Ok start) × HasCome w start events
 
--- an audit finds what there is to find in the events by which it has come, from whatever new world that was
+-- an audit finds what is to be found in the events that led to it, from whatever new world
 abbrev pub FindsIn : Watched → Audit → Type 0
 FindsIn w found = (p : Params) (specs : List TapSpec) (start : World) (events : List Event) → new_world p specs ≡ Ok start → HasCome w start events
     → Finds p specs events found × IsLegalIfKept found

@@ -1,3 +1,5 @@
+//! When an entry of a trace is active at a tap.
+
 ghost use Rattle.std.specs.Prelude.{◌≡◌, map};
 ghost use Rattle.pb_medium.specs.Entries.{entry_of};
 ghost use Rattle.pb_theorem.specs.Activity.{active_at, is_within};
@@ -5,7 +7,7 @@ ghost use Rattle.pb_theorem.specs.Quiet.{is_active};
 
 use pb_medium::{Entry, Span};
 
-/// Whether something is active at a tap from one moment on, before another.
+/// Whether some entry is active at a tap in `from` to `to`, `to` excluded.
 pub(crate) fn is_active(entries: &[Entry], delay: u32, tap: usize, from: u64, to: u64) -> bool
     ensures { result ≡ is_active delay from to (map entry_of entries.now) tap }
 {
@@ -14,7 +16,7 @@ pub(crate) fn is_active(entries: &[Entry], delay: u32, tap: usize, from: u64, to
         .any(|entry| is_active_in(entry, delay, tap, from, to))
 }
 
-/// Whether an entry is active at a tap from one moment on, before another.
+/// Whether an entry is active at a tap in `from` to `to`, `to` excluded.
 pub(crate) fn is_active_in(entry: &Entry, delay: u32, tap: usize, from: u64, to: u64) -> bool
     ensures { result ≡ is_within from to (active_at delay tap (entry_of entry.now)) }
 {

@@ -1,4 +1,4 @@
-//! Where a judge of a trace reads the addresses of taps.
+//! The addresses of taps, as a judge of a trace reads them.
 
 ghost use Rattle.std.specs.Prelude.{◌≡◌, map};
 ghost use Rattle.pb_theorem.specs.Legality as legality;
@@ -7,15 +7,15 @@ ghost use Rattle.pb_audit.specs.Judging.{specs_at};
 
 use pb_taps::{Tap, TapSpec};
 
-/// The address of a tap that is none: a telegram goes to 127 at most.
+/// An address of no tap: the largest one in a telegram is 127.
 const NO_ADDRESS: u8 = 255;
 
-/// The addresses of taps: of a bus, or of a list of taps.
+/// The addresses of the taps of a bus, or of a list of taps.
 #[derive(Clone, Copy)]
 pub(crate) enum Addresses<'a> {
-    /// Those of the stations of a bus.
+    /// The addresses of the stations of a bus.
     OfTaps(&'a [Tap]),
-    /// Those of a list.
+    /// The addresses in a list of taps.
     OfSpecs(&'a [TapSpec]),
 }
 
@@ -32,7 +32,7 @@ impl<'a> Addresses<'a> {
         }
     }
 
-    /// The address of a tap; of a position without one, none that a telegram has.
+    /// The address of a tap; if there is no such tap, an address that no telegram has.
     pub(crate) fn at(self, tap: usize) -> u8
         ensures { result ≡ legality.address_at (specs_in self.entry) tap }
     {

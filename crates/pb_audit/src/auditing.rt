@@ -13,18 +13,18 @@ use pb_taps::{Event, TapSpec, WorldFault};
 use pb_timers::BusParams;
 use std::alloc::Global;
 
-/// Plays events on a new bus, and judges the run from outside: by the premises along its events, and by the
-/// trace that it leaves.
+/// Plays events on a new bus, and judges the run from outside: by the premises on its events, and by the trace that it
+/// leaves.
 ///
-/// The premises, by their numbers: 1, no two running taps have equal addresses; 2, no telegram is lost at a tap
-/// but by damage; 3, no turn is later than the lag; 4, no two masters have waited out their time-outs at clocks a
-/// cable delay apart at most, each by what was active at its own tap while it ran. Where it finds none broken, it finds no
-/// illegal record, and one station at most may initiate after the events, which the trace names (medium access: token
-/// passing). Where no event loses a telegram at a tap and no turn is late, no running master that isn't offline has been
-/// left in silence for longer than its time-out and the lag.
+/// The premises, by their numbers: 1, no two running taps have equal addresses; 2, no telegram is lost at a tap except
+/// by damage; 3, no turn is later than the lag; 4, no two masters have waited out their time-outs at clocks at most a
+/// cable delay apart, each by the activity at its own tap while it ran. If none is broken, no record is illegal, and
+/// after the events at most one station may initiate, which the trace names (medium access: token passing). If no event
+/// loses a telegram at a tap and no turn is late, no running master that is not offline has been in silence, as it
+/// hears the bus, for longer than its time-out and the lag.
 ///
-/// Faults, the first that applies: `New` with that of the new bus; `At` with the place of the first event that
-/// is refused, counted from 0, and its fault.
+/// Faults, the first that applies: `New` with the fault of the new bus; `At` with the index of the first refused event,
+/// from 0, and its fault.
 pub fn audit(
     alloc: Global,
     params: BusParams,
@@ -45,7 +45,7 @@ pub fn audit(
     }
 }
 
-/// The same for a list that lends its events, so that equal ones may share their room.
+/// The same for a list of references to events, in which equal events may share memory.
 pub fn audit_shared(
     alloc: Global,
     params: BusParams,
@@ -67,7 +67,8 @@ pub fn audit_shared(
     }
 }
 
-/// Does events one after another on a watched bus to which nothing has happened yet.
+/// Applies events in order to a watched bus on which nothing has happened yet. On a fault, returns the index of the
+/// refused event and its fault.
 fn watch_all(
     alloc: Global,
     watched: &mut Watched,
@@ -87,7 +88,7 @@ fn watch_all(
     Ok(())
 }
 
-/// The same for events that are lent.
+/// The same for references to events.
 fn watch_shared(
     alloc: Global,
     watched: &mut Watched,

@@ -1,3 +1,5 @@
+//! The latest ends of a trace, by tap, so that one pass decides about silence.
+
 ghost use Rattle.std.specs.Prelude.{◌≡◌, ◌≤◌, ◌<◌, max, length, map, take, drop, ◌++◌};
 ghost use Rattle.pb_medium.specs.Entries.{entry_of};
 ghost use Rattle.pb_model.specs.Medium.{reaches_taps};
@@ -10,14 +12,14 @@ use crate::activity::{active_at, is_active};
 use pb_medium::Entry;
 use pb_taps::TAP_LIMIT;
 
-/// The latest end at each tap of those entries of a trace that have begun at all taps, in bit times.
+/// The latest end at each tap, in bit times, of the entries of a trace that have begun at all taps.
 #[derive(Debug, Drop)]
 pub(crate) struct Ends {
-    /// How many entries have: the first ones.
+    /// How many entries have begun at all taps: the first ones.
     begun: usize,
-    /// How many taps there are.
+    /// The number of taps.
     taps: usize,
-    /// By tap: what stands behind them counts for nothing.
+    /// The latest end by tap. Elements after those of the taps are unused.
     latest: [u64; TAP_LIMIT],
 }
 
@@ -29,7 +31,7 @@ impl Ends {
     ghost use Rattle.pb_medium.specs.Entries.{entry_of};
     ghost use Rattle.pb_audit.specs.Ends.{AreEnds};
 
-    /// The ends of no entries, on a bus with so many taps.
+    /// The ends of no entries, on a bus with this many taps.
     pub(crate) fn none(taps: usize) -> Ends
         ensures { (delay moment : ℕ) → AreEnds delay moment [] result }
     {
@@ -40,7 +42,7 @@ impl Ends {
         }
     }
 
-    /// Takes those on among the earlier entries that have begun at all taps before a moment.
+    /// Includes further earlier entries: those that have begun at all taps before `moment`.
     pub(crate) fn advance(&mut self, earlier: &[Entry], delay: u32, moment: u64)
         requires { (before : ℕ) × (before ≤ moment)
             × AreEnds delay before (map entry_of earlier.now) self.old }
@@ -56,7 +58,7 @@ impl Ends {
         }
     }
 
-    /// Whether nothing of the earlier entries was active at a tap from one moment on, before another.
+    /// Whether no earlier entry was active at a tap in `from` to `to`, `to` excluded.
     pub(crate) fn is_silent(
         &self,
         earlier: &[Entry],
@@ -75,7 +77,7 @@ impl Ends {
     }
 }
 
-/// The latest end at each of so many taps with one entry more.
+/// Includes the ends of one more entry at each of the first `taps` taps.
 fn take_on(latest: &mut [u64; TAP_LIMIT], taps: usize, entry: &Entry, delay: u32)
     requires { taps ≤ 127 }
     ensures size { length latest.new ≡ length latest.old }

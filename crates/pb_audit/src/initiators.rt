@@ -1,4 +1,4 @@
-//! What a telegram says, as far as it matters who may send it.
+//! The meaning of a telegram, as far as it decides who may send it.
 
 ghost use Rattle.std.specs.Prelude.{◌≡◌};
 ghost use Rattle.pb_core.specs.Arrivals.{brings};
@@ -11,18 +11,18 @@ use pb_core::{is_request, spelled_telegram, spelled_token};
 use pb_medium::{Entry, Record};
 use pb_telegram::Telegram;
 
-/// What a telegram says, as far as it matters who may send it.
+/// The meaning of a telegram, as far as it decides who may send it.
 #[derive(Clone, Copy, Debug)]
 pub(crate) enum Meaning {
     /// A token, with its destination and its source.
     Token { da: u8, sa: u8 },
     /// A request.
     Request,
-    /// What any station may send, or nothing.
+    /// A telegram that any station may send, or no telegram.
     Other,
 }
 
-/// What an entry says.
+/// The meaning of an entry.
 pub(crate) fn meaning_in(entry: &Entry) -> Meaning
     ensures { result ≡ meaning_in (entry_of entry.now) }
 {
@@ -32,7 +32,8 @@ pub(crate) fn meaning_in(entry: &Entry) -> Meaning
     }
 }
 
-/// What the telegram says that was meant, also where it was cut: most are tokens, which are read at once.
+/// The meaning of the telegram that was to be sent, also if it was cut. Most telegrams are tokens, which are read
+/// directly.
 pub(crate) fn meaning_of(sent: &Record) -> Meaning
     ensures { result ≡ meaning_of (initiators.telegram_of (record_of sent.now)) }
 {
@@ -45,7 +46,7 @@ pub(crate) fn meaning_of(sent: &Record) -> Meaning
     }
 }
 
-/// The same, whatever telegram it is. It is a call of its own since the room of the longest is cleared for it.
+/// Slow path of `meaning_of`, for any telegram. Kept out of line: its frame has room for the longest one.
 #[inline(never)]
 fn meaning_of_any(sent: &Record) -> Meaning
     ensures { result ≡ meaning_of (initiators.telegram_of (record_of sent.now)) }
@@ -64,7 +65,7 @@ fn meaning_of_any(sent: &Record) -> Meaning
     }
 }
 
-/// Whether only the station with the token may send it: a token, or a request.
+/// Whether only the station with the token may send it: a token or a request.
 pub(crate) fn initiates(meaning: Meaning) -> bool
     ensures { (a : Arrival) → meaning ≡ meaning_of a → result ≡ initiators.initiates a }
 {
@@ -74,7 +75,7 @@ pub(crate) fn initiates(meaning: Meaning) -> bool
     }
 }
 
-/// The address that gets the token by it, where that is another than its source.
+/// The address to which it passes the token, if that is not its source.
 pub(crate) fn offered_by(meaning: Meaning) -> Option<u8>
     ensures { (a : Arrival) → meaning ≡ meaning_of a → result ≡ initiators.offered_by a }
 {
@@ -84,7 +85,7 @@ pub(crate) fn offered_by(meaning: Meaning) -> Option<u8>
     }
 }
 
-/// Whether it is a token of an address to itself.
+/// Whether it is a token from an address to itself.
 pub(crate) fn claims_for(meaning: Meaning, address: u8) -> bool
     ensures { (a : Arrival) → meaning ≡ meaning_of a → result ≡ initiators.claims_for address a }
 {
@@ -94,7 +95,7 @@ pub(crate) fn claims_for(meaning: Meaning, address: u8) -> bool
     }
 }
 
-/// The telegram that was meant, also where it was cut.
+/// The telegram that was to be sent, also if it was cut.
 fn telegram_of(sent: &Record) -> Option<Telegram>
     ensures { brings result ≡ initiators.telegram_of (record_of sent.now) }
 {

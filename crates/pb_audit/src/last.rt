@@ -1,3 +1,5 @@
+//! The last initiator record of a trace.
+
 ghost use Rattle.std.specs.Prelude.{◌≡◌};
 ghost use Rattle.pb_theorem.specs.Initiators.{telegram_of};
 ghost use Rattle.pb_medium.specs.Entries.{record_of};
@@ -11,7 +13,7 @@ use pb_medium::Record;
 pub(crate) struct LastInitiator<'a> {
     pub(crate) telegram: &'a Record,
     pub(crate) meaning: Meaning,
-    /// Whether nothing was active at its speaker in the slot behind it so far.
+    /// Whether nothing was active at its speaker so far in the slot after it.
     pub(crate) silent: bool,
     ghost means: { meaning ≡ meaning_of (telegram_of (record_of telegram.now)) },
 }

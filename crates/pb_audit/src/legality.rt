@@ -20,7 +20,8 @@ use crate::last::LastInitiator;
 use pb_medium::{Entry, Heard, Record};
 use pb_timers::BusParams;
 
-/// The position of the first illegal initiator record of a trace that stands in order, in one pass.
+/// The index of the first illegal initiator record of a trace, in one pass. The caller ensures that the trace is in
+/// order.
 pub(crate) fn first_illegal(
     params: &BusParams,
     taps: Addresses<'_>,
@@ -43,7 +44,7 @@ pub(crate) fn first_illegal(
     None
 }
 
-/// Whether an entry is no illegal initiator record behind the earlier ones.
+/// Whether an entry, after the earlier ones, is not an illegal initiator record.
 fn may_come(
     params: &BusParams,
     taps: Addresses<'_>,
@@ -66,7 +67,7 @@ fn may_come(
     }
 }
 
-/// The last initiator record behind an entry, which has the earlier ones before it.
+/// The last initiator record after an entry that follows the earlier ones.
 pub(crate) fn last_after<'a>(
     params: &BusParams,
     earlier: &[Entry],
@@ -93,7 +94,7 @@ pub(crate) fn last_after<'a>(
     }
 }
 
-/// Whether nothing of the earlier entries is active at the speaker of a telegram in the slot behind it.
+/// Whether no earlier entry is active at a telegram's speaker in the slot after the telegram.
 fn is_slot_silent(params: &BusParams, earlier: &[Entry], ends: &Ends, telegram: &Record) -> bool
     requires ends { AreEnds params.now.ttd telegram.now.begin (map entry_of earlier.now) ends.now }
     requires lasts { telegram.now.begin ≤ telegram.now.end }
@@ -105,7 +106,7 @@ fn is_slot_silent(params: &BusParams, earlier: &[Entry], ends: &Ends, telegram: 
     ends.is_silent(earlier, params.ttd(), telegram.tap, end, over)
 }
 
-/// Whether an initiator record is legal behind the last one: the first of all has to be a claim.
+/// Whether an initiator record is legal after the last one. The first of all must be a claim.
 fn may_follow(
     params: &BusParams,
     taps: Addresses<'_>,
@@ -128,7 +129,7 @@ fn may_follow(
     }
 }
 
-/// The last initiator record behind an entry that is none.
+/// The last initiator record after an entry that is none.
 fn slot_after<'a>(
     params: &BusParams,
     entry: &Entry,
@@ -149,8 +150,8 @@ fn slot_after<'a>(
     })
 }
 
-/// Whether a telegram follows the last initiator record: after one that offers the token to nobody its
-/// speaker goes on.
+/// Whether a telegram follows the last initiator record. After one that passes the token to no other station, its
+/// speaker continues.
 fn follows(params: &BusParams, taps: Addresses<'_>, last: LastInitiator, telegram: &Record) -> bool
     ensures { result
         ≡ goes_on_after params.now (specs_in taps.entry) (last_of last.entry)
@@ -162,8 +163,8 @@ fn follows(params: &BusParams, taps: Addresses<'_>, last: LastInitiator, telegra
     }
 }
 
-/// Whether a telegram is a claim: its speaker's token to itself, before which nothing of the earlier entries was
-/// active at the speaker for its time-out.
+/// Whether a telegram is a claim: its speaker's token to itself, after its time-out without activity of earlier entries
+/// at the speaker.
 fn claims(
     params: &BusParams,
     taps: Addresses<'_>,
@@ -183,7 +184,7 @@ fn claims(
     claims_for(meaning, address) && ends.is_silent(earlier, params.ttd(), telegram.tap, from, begin)
 }
 
-/// Whether an entry is active at the speaker of a telegram in the slot behind it.
+/// Whether an entry is active at a telegram's speaker in the slot after the telegram.
 fn is_in_slot(params: &BusParams, telegram: &Record, entry: &Entry) -> bool
     ensures { result
         ≡ is_in_slot params.now.ttd params.now.tsl (record_of telegram.now) (entry_of entry.now) }
@@ -192,8 +193,8 @@ fn is_in_slot(params: &BusParams, telegram: &Record, entry: &Entry) -> bool
     is_active_in(entry, params.ttd(), telegram.tap, telegram.end, over)
 }
 
-/// Whether a telegram follows a token to an address: its speaker passes it again after a slot in silence, or
-/// the station that heard it whole has taken it within the slot.
+/// Whether a telegram follows a token to an address: its speaker passes the token again after a slot in silence, or the
+/// station that received it whole takes it within the slot.
 fn follows_token(
     params: &BusParams,
     taps: Addresses<'_>,
@@ -211,14 +212,14 @@ fn follows_token(
     to == taps.at(telegram.tap) && is_whole(last.telegram, telegram.tap) && !is_late
 }
 
-/// Whether the slot behind an end is over at a moment.
+/// Whether the slot after an end is over at `moment`.
 pub(crate) fn is_slot_over(end: u64, slot: u32, moment: u64) -> bool
     ensures { result ≡ nat_le (end + slot) moment }
 {
     end <= moment && u64::from(slot) <= moment - end
 }
 
-/// Whether a telegram came whole to a tap.
+/// Whether a tap received a telegram whole.
 pub(crate) fn is_whole(telegram: &Record, tap: usize) -> bool
     ensures { result ≡ legality.is_whole (slice_get (record_of telegram.now).heard tap) }
 {

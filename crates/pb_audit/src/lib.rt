@@ -1,5 +1,5 @@
-//! The audit of a run: the first premise that broke in it, and the first illegal record of its trace; of a list of
-//! events ([`audit`]), or of a bus that is watched as they happen ([`Watched`]). All times are in bit times.
+//! The audit of a run: the first premise that broke in it, and the first illegal record of its trace. The run is a list
+//! of events ([`audit`]), or a bus that is watched as they happen ([`Watched`]). All times are in bit times.
 #![tactic(auto)]
 
 mod activity;

@@ -1,4 +1,4 @@
-//! The premises of a run: a watch over its events, to the first premise that breaks.
+//! The premises of a run: watches its events until the first premise breaks.
 
 ghost use Rattle.std.specs.Prelude.{◌≡◌, ◌+◌, ◌-◌, ◌≤◌, ◌&&◌, nat_le, IfErr, OnOk, Ok, length, map};
 ghost use Rattle.std.specs.List.{list_any};
@@ -25,16 +25,16 @@ use std::alloc::Global;
 /// How many addresses a station may have: 0 to 126.
 const ADDRESSES: usize = 127;
 
-/// What has to hold of a bus, so that one station at most may initiate.
+/// What must hold of the events on a bus for at most one station to initiate.
 #[derive(Clone, Copy, Debug)]
 pub(crate) enum Premise {
     /// No two running taps have equal addresses.
     OwnAddresses,
-    /// No telegram is lost at a tap but by damage.
+    /// No telegram is lost at a tap except by damage.
     NothingLost,
     /// No turn is later than the lag.
     TurnsInTime,
-    /// No two masters have waited out their time-outs within a cable delay.
+    /// No two masters have waited out their time-outs at clocks at most a cable delay apart.
     OneWaits,
 }
 
@@ -57,29 +57,29 @@ pub(crate) struct Waited {
 enum Waiting {
     Nobody,
     One(usize),
-    /// The first of several.
+    /// The lowest of several.
     Several(usize),
 }
 
-/// What is seen of an event before it happens.
+/// What is known of an event before it is applied.
 #[derive(Clone, Copy, Debug)]
 pub(crate) struct Foresight {
-    /// Whether a telegram is lost at a tap.
+    /// Whether it loses a telegram at a tap.
     loses: bool,
-    /// Whether a turn comes later than the lag.
+    /// Whether a turn is later than the lag in it.
     late: bool,
 }
 
-/// Follows a run, event by event, to the first premise that breaks.
+/// Follows a run, event by event, until the first premise breaks.
 #[derive(Clone, Copy, Debug)]
 pub(crate) struct Watch {
-    /// The moment since which each tap has been in silence, in bit times.
+    /// Since when each tap is in silence, in bit times.
     pub(crate) quiet: [u64; TAP_LIMIT],
-    /// No tap has been in silence since before this moment.
+    /// Since when, at the earliest, any tap is in silence.
     oldest: u64,
     /// Whether two running taps have one address.
     namesakes: bool,
-    /// The tap that was the last to wait out its time-out, and when. As long as no two have met, it decides
+    /// The last tap that waited out its time-out, and when. As long as no two have met, this is enough to decide
     /// whether a later one meets any.
     pub(crate) waited: Option<Waited>,
     /// The first premise that broke.
@@ -92,7 +92,7 @@ impl Watch {
     ghost use Rattle.pb_bus.specs.Buses.{world_of, IsKept};
     ghost use Rattle.pb_audit.specs.Premises.{watched_of, broken_of, IsAfter, Knows};
 
-    /// Before the first event of a run.
+    /// The watch before the first event of a run.
     pub(crate) fn new() -> Watch
         ensures watched { watched_of result ≡ record { waited = None; broken = None } }
         ensures silent { result.quiet ≡ replicate 127 0 }
@@ -115,7 +115,7 @@ impl Watch {
         self.broken
     }
 
-    /// Notes what stands after an event that has led to a bus, as it was foreseen.
+    /// Updates the watch after an event, by what was known before it.
     fn note(&mut self, bus: &Bus, foresight: Foresight)
         requires kept { IsKept bus.now }
         requires knows { Knows self.old (world_of bus.now) }
@@ -130,7 +130,7 @@ impl Watch {
     }
 }
 
-/// Does an event, and follows it with a watch over the run.
+/// Applies an event to a bus, and updates the watch.
 pub(crate) fn follow(
     watch: &mut Watch,
     alloc: Global,
@@ -157,8 +157,8 @@ pub(crate) fn follow(
     Ok(())
 }
 
-/// An event is about to happen: while time passes in it, those taps at which something is active are no longer in
-/// silence; there are none where nothing is recent. Answers a moment since before which none has been.
+/// Before an event: if time passes in it, the taps at which something is active are no longer in silence. Without
+/// recent entries there are none. Returns since when, at the earliest, any tap is in silence.
 fn listen(quiet: &mut [u64; TAP_LIMIT], oldest: u64, bus: &Bus, event: &Event) -> u64
     requires kept { IsKept bus.now }
     requires silent { IsQuiet (world_of bus.now) quiet.old }
@@ -175,7 +175,7 @@ fn listen(quiet: &mut [u64; TAP_LIMIT], oldest: u64, bus: &Bus, event: &Event) -
     listen_to(quiet, bus, bus.now.get().saturating_add(bits))
 }
 
-/// How much time passes in an event, if it does.
+/// How much time passes in an event, if any.
 pub(crate) fn time_in(event: &Event) -> Option<u64>
     ensures { result ≡ time_in (event_of event.now) }
 {
@@ -185,8 +185,8 @@ pub(crate) fn time_in(event: &Event) -> Option<u64>
     }
 }
 
-/// Taps at which something is active before a moment are no longer in silence. Answers a moment since before which none
-/// has been.
+/// Ends the silence of the taps at which something is active before `to`. Returns since when, at the earliest, any tap
+/// is in silence.
 fn listen_to(quiet: &mut [u64; TAP_LIMIT], bus: &Bus, to: u64) -> u64
     requires { IsKept bus.now }
     ensures heard { HaveHeard (world_of bus.entry.now) to quiet.old quiet.new }
@@ -202,7 +202,7 @@ fn listen_to(quiet: &mut [u64; TAP_LIMIT], bus: &Bus, to: u64) -> u64
     oldest
 }
 
-/// Whether something is active at a tap from the clock on, before a moment.
+/// Whether something is active at a tap from the clock to `to`, `to` excluded.
 fn is_heard(bus: &Bus, tap: usize, to: u64) -> bool
     requires { IsKept bus.now }
     ensures { result
@@ -215,7 +215,7 @@ impl Premise {
     ghost use Rattle.std.specs.Prelude.{◌≡◌};
     ghost use Rattle.pb_audit.specs.Premises.{number_of};
 
-    /// The number that an audit gives it.
+    /// The number of the premise in an audit.
     pub(crate) fn number(self) -> u8
         ensures { result ≡ number_of self }
     {
@@ -238,7 +238,7 @@ fn loses(event: &Event) -> bool
     }
 }
 
-/// Whether the turn of a running tap will be later than the lag after some time.
+/// Whether the turn of some running tap will be later than the lag in `bits` bit times.
 fn is_any_late(bus: &Bus, bits: u64) -> bool
     requires { IsKept bus.now }
     ensures { result
@@ -252,7 +252,7 @@ fn is_any_late(bus: &Bus, bits: u64) -> bool
     false
 }
 
-/// Whether a turn comes later than the lag in an event.
+/// Whether a turn is later than the lag in an event.
 fn comes_late(bus: &Bus, event: &Event) -> bool
     requires { IsKept bus.now }
     ensures { result ≡ premises.comes_late (world_of bus.entry.now) (event_of event.now) }
@@ -273,11 +273,11 @@ fn foresee(bus: &Bus, event: &Event) -> Foresight
     }
 }
 
-/// Whether two running taps have one address.
+/// Whether two running taps share an address.
 fn has_namesakes(taps: &[Tap]) -> bool
     ensures { result ≡ premises.has_namesakes (map tap_of taps.now) }
 {
-    // The addresses of the running taps behind a place. From the last place to the first, one table is enough.
+    // The addresses of the running taps after an index. Going from the last tap to the first, one table is enough.
     let mut running_at = [false; ADDRESSES];
     for place in (0..taps.len()).rev() {
         let tap = &taps[place];
@@ -290,8 +290,8 @@ fn has_namesakes(taps: &[Tap]) -> bool
     false
 }
 
-/// Whether two running taps have one address after an event, by whether two had before it: an event that starts and
-/// stops no tap leaves that.
+/// Whether two running taps share an address after an event, given whether two did before. Only an event that starts or
+/// stops a tap can change this.
 fn has_namesakes_after(bus: &Bus, event: &Event, before: bool) -> bool
     requires kept { IsKept bus.now }
     requires led { IsLedFrom (event_of event.now) (world_of bus.now) before }
@@ -303,7 +303,7 @@ fn has_namesakes_after(bus: &Bus, event: &Event, before: bool) -> bool
     }
 }
 
-/// Whether a tap is a running master, and some time has passed since it started and since a moment.
+/// Whether a tap is a running master, and `timeout` has passed since its start and since `moment`.
 fn has_waited_since(tap: &Tap, moment: u64, timeout: u64, now: u64) -> bool
     ensures { result
         ≡ (tap.now.running && tap.now.station.master && nat_le timeout (now - tap.now.since) && nat_le
@@ -315,7 +315,7 @@ fn has_waited_since(tap: &Tap, moment: u64, timeout: u64, now: u64) -> bool
         && timeout <= now.saturating_sub(moment)
 }
 
-/// Whether the tap at a position is a master that has run for its time-out, in which it was in silence.
+/// Whether the tap at an index is a master that has run, in silence, for its time-out.
 fn has_waited(bus: &Bus, position: usize, tap: &Tap, quiet: u64) -> bool
     requires kept { IsKept bus.now }
     requires silent { quiet ≡ quiet_in (world_of bus.now) position }
@@ -325,7 +325,7 @@ fn has_waited(bus: &Bus, position: usize, tap: &Tap, quiet: u64) -> bool
     has_waited_since(tap, quiet, timeout, bus.now.get())
 }
 
-/// The first tap from a position on that has waited out its time-out.
+/// The first tap, at index `from` or later, that has waited out its time-out.
 pub(crate) fn first_waiting(bus: &Bus, quiet: &[u64; TAP_LIMIT], from: usize) -> Option<usize>
     requires kept { IsKept bus.now }
     requires silent { IsQuiet (world_of bus.now) quiet.now }
@@ -340,7 +340,8 @@ pub(crate) fn first_waiting(bus: &Bus, quiet: &[u64; TAP_LIMIT], from: usize) ->
     None
 }
 
-/// The taps that have waited out their time-outs: none where no tap has been in silence for the shortest time-out.
+/// The taps that have waited out their time-outs. There are none if no tap has been in silence for the shortest
+/// time-out.
 fn waiting_now(bus: &Bus, quiet: &[u64; TAP_LIMIT], oldest: u64) -> Waiting
     requires kept { IsKept bus.now }
     requires silent { IsQuiet (world_of bus.now) quiet.now }
@@ -353,7 +354,7 @@ fn waiting_now(bus: &Bus, quiet: &[u64; TAP_LIMIT], oldest: u64) -> Waiting
     waiting_taps(bus, quiet)
 }
 
-/// The taps that have waited out their time-outs, by a look at each.
+/// The taps that have waited out their time-outs, by testing each.
 fn waiting_taps(bus: &Bus, quiet: &[u64; TAP_LIMIT]) -> Waiting
     requires kept { IsKept bus.now }
     requires silent { IsQuiet (world_of bus.now) quiet.now }
@@ -368,7 +369,7 @@ fn waiting_taps(bus: &Bus, quiet: &[u64; TAP_LIMIT]) -> Waiting
     Waiting::One(tap)
 }
 
-/// Whether another tap was the last to wait out its time-out, a cable delay ago at most.
+/// Whether another tap was the last to wait out its time-out, at most a cable delay ago.
 fn meets(delay: u32, tap: usize, now: Moment, last: Option<Waited>) -> bool
     ensures { result ≡ meets_last delay (record { tap = tap; moment = now }) (option_map waited_of last) }
 {
@@ -379,7 +380,7 @@ fn meets(delay: u32, tap: usize, now: Moment, last: Option<Waited>) -> bool
     }
 }
 
-/// Whether two taps have waited out their time-outs within a cable delay, one of them now.
+/// Whether two taps have waited out their time-outs at most a cable delay apart, one of them now.
 fn is_met(delay: u32, waiting: Waiting, now: Moment, last: Option<Waited>) -> bool
     ensures { result ≡ met_by delay now waiting (option_map waited_of last) }
 {
@@ -390,7 +391,7 @@ fn is_met(delay: u32, waiting: Waiting, now: Moment, last: Option<Waited>) -> bo
     }
 }
 
-/// Notes the tap that has waited out its time-out now, if one has, as the last that did.
+/// If a tap has waited out its time-out now, stores it as the last one.
 fn note_waiting(last: &mut Option<Waited>, waiting: Waiting, now: Moment)
     ensures { option_map waited_of last.new ≡ last_by now waiting (option_map waited_of last.old) }
 {
@@ -400,7 +401,7 @@ fn note_waiting(last: &mut Option<Waited>, waiting: Waiting, now: Moment)
     }
 }
 
-/// The least premise that an event breaks, as it was foreseen, with what stands after it.
+/// The lowest premise that an event breaks, by what was known before it and what holds after it.
 fn first_premise(namesakes: bool, foresight: Foresight, met: bool) -> Option<Premise>
     ensures { option_map number_of result
         ≡ premises.first_number namesakes foresight.loses foresight.late met }
@@ -420,7 +421,7 @@ fn first_premise(namesakes: bool, foresight: Foresight, met: bool) -> Option<Pre
     None
 }
 
-/// Notes the premise that breaks now, if one does and none broke before.
+/// Stores the premise that breaks now, unless one broke before.
 fn note_breach(first: &mut Option<Breach>, premise: Option<Premise>, clock: Moment)
     ensures { option_map broken_of first.new
         ≡ premises.broken_or (option_map broken_of first.old) clock (option_map number_of premise) }

@@ -1,4 +1,4 @@
-//! Judges a trace from anywhere: whom it names, and its first illegal record.
+//! Judges a trace from anywhere: which tap it names, and its first illegal record.
 
 ghost use Rattle.std.specs.Prelude.{◌≡◌, ◌==◌, ◌&&◌, IfOk, IfErr, OnOk, None, Some, map, slice_get, ◌∷◌, List};
 ghost use Rattle.std.specs.Option.{option_map};
@@ -24,21 +24,21 @@ use thiserror::Error;
 /// Why a trace is not judged.
 #[derive(Clone, Copy, Debug, PartialEq, Eq, Error)]
 pub enum TraceFault {
-    /// The entry at a position, counted from 0, does not stand in the order of a trace: by begin, and at one begin noise
-    /// first, then telegrams by tap; or it does not end after it begins.
+    /// The entry with this index, from 0, is not in the order of a trace (by begin; at one begin noise first, then
+    /// telegrams by tap), or it does not end after it begins.
     #[error("NotInOrder {0}")]
     NotInOrder(usize),
 }
 
-/// The tap that a trace names at a moment, in bit times: it alone may hold the token then (medium access: token passing).
-/// Named is the speaker of the last token or request that has begun by then; after the end of a token to another station,
-/// within the slot time, the tap of that address which heard it whole; and after a slot in silence its speaker again. None
-/// where the trace names nobody.
+/// The tap that a trace names at `now`, in bit times: only it may hold the token then (medium access: token passing).
+/// This is the speaker of the last token or request that has begun by then; after the end of a token to another
+/// station, within the slot time, the tap with that address that received it whole; and after a slot in silence its
+/// speaker again. `None` if the trace names no tap.
 ///
-/// It needs nothing but the trace, and so judges a trace from anywhere. It takes no memory, and time in proportion to the
-/// trace.
+/// Only the trace is read, so a trace from anywhere can be judged. No memory is allocated; the time is in proportion to
+/// the trace.
 ///
-/// Fault: `NotInOrder` with the position of the first entry that does not stand in the order of a world's trace.
+/// Fault: `NotInOrder` with the index of the first entry that is not in the order of a world's trace.
 pub fn named(
     params: &BusParams,
     taps: &[TapSpec],
@@ -57,13 +57,13 @@ pub fn named(
     }
 }
 
-/// The position of the first illegal initiator record of a trace, counted from 0, noise counted: a token or a request that
-/// its speaker may not send after the one before it (medium access: token passing). None where each is legal.
+/// The index of the first illegal initiator record of a trace, from 0, counting noise: a token or a request that its
+/// speaker may not send after the one before it (medium access: token passing). `None` if each is legal.
 ///
-/// It needs nothing but the trace, and so judges a trace from anywhere. It takes no memory, and time in proportion to the
-/// trace.
+/// Only the trace is read, so a trace from anywhere can be judged. No memory is allocated; the time is in proportion to
+/// the trace.
 ///
-/// Fault: `NotInOrder` with the position of the first entry that does not stand in order, as [`named`] has it.
+/// Fault: `NotInOrder` with the index of the first entry that is not in order, as for [`named`].
 pub fn first_illegal(
     params: &BusParams,
     taps: &[TapSpec],
@@ -79,7 +79,9 @@ pub fn first_illegal(
     Ok(legality::first_illegal(params, addresses, trace))
 }
 
-/// Whether a trace stands in order. Its fault: the first entry that doesn't.
+/// Checks that a trace is in order.
+///
+/// Fault: `NotInOrder` with the index of the first entry that is not.
 fn check_order(trace: &[Entry]) -> Result<(), TraceFault>
     ensures ok { OnOk result (first_misplaced (map entry_of trace.now) ≡ None) }
     ensures fault { IfErr result (IsOutOfOrder (map entry_of trace.now)) }
@@ -90,7 +92,7 @@ fn check_order(trace: &[Entry]) -> Result<(), TraceFault>
     }
 }
 
-/// The position of the first entry that does not stand in order.
+/// The index of the first entry that is not in order.
 fn first_misplaced(trace: &[Entry]) -> Option<usize>
     ensures { result ≡ first_misplaced (map entry_of trace.now) }
 {
@@ -104,7 +106,7 @@ fn first_misplaced(trace: &[Entry]) -> Option<usize>
     None
 }
 
-/// Whether an entry does not stand in order behind another, or does not last.
+/// Whether an entry is not in order after the one before it, or does not end after it begins.
 fn is_misplaced(before: Option<&Entry>, entry: &Entry) -> bool
     ensures { result ≡ is_misplaced (option_map lent_entry before.entry) (entry_of entry.now) }
 {
@@ -115,7 +117,7 @@ fn is_misplaced(before: Option<&Entry>, entry: &Entry) -> bool
     }
 }
 
-/// The last initiator record of a trace that has begun by a moment.
+/// The last initiator record of a trace that has begun by `now`.
 fn last_initiator(trace: &[Entry], now: u64) -> Option<&Record>
     ensures { option_map lent_record result ≡ initiators.last_initiator now (map entry_of trace.now) }
 {
@@ -126,7 +128,7 @@ fn last_initiator(trace: &[Entry], now: u64) -> Option<&Record>
     last
 }
 
-/// The last initiator record behind one more entry.
+/// The last initiator record after one more entry.
 fn later<'a>(last: Option<&'a Record>, entry: &'a Entry, now: u64) -> Option<&'a Record>
     ensures { (es : List model.Entry)
         → last_from (option_map lent_record last.entry) now (entry_of entry.now ∷ es)
@@ -140,7 +142,7 @@ fn later<'a>(last: Option<&'a Record>, entry: &'a Entry, now: u64) -> Option<&'a
     }
 }
 
-/// The tap that is named by the last initiator record.
+/// The tap that the last initiator record names.
 fn named_by(
     params: &BusParams,
     taps: &[TapSpec],
@@ -157,7 +159,7 @@ fn named_by(
     }
 }
 
-/// The tap that is named after a token to an address has ended.
+/// The tap that is named after the end of a token to an address.
 fn named_after_token(
     params: &BusParams,
     taps: &[TapSpec],
@@ -180,7 +182,7 @@ fn named_after_token(
     }
 }
 
-/// The first tap with an address that heard a telegram whole.
+/// The first tap with an address that received a telegram whole.
 fn first_that_heard(last: &Record, to: u8, taps: &[TapSpec]) -> Option<usize>
     ensures { result ≡ naming.first_that_heard (record_of last.now).heard to 0 (map spec_of taps.now) }
 {
@@ -192,7 +194,7 @@ fn first_that_heard(last: &Record, to: u8, taps: &[TapSpec]) -> Option<usize>
     None
 }
 
-/// Whether a tap has an address and heard a telegram whole.
+/// Whether a tap has this address and received a telegram whole.
 fn has_heard(last: &Record, to: u8, tap: usize, spec: &TapSpec) -> bool
     ensures { result ≡ (spec.now.address == to && legality.is_whole (slice_get last.now.heard tap)) }
 {

@@ -1,4 +1,4 @@
-//! A bus that is watched from its first event on.
+//! A bus that is watched from its first event on, and judged at any time.
 
 ghost use Rattle.std.specs.Prelude.{◌≡◌, [], Ok, IfOk, IfErr, map};
 ghost use Rattle.std.specs.Option.{option_map};
@@ -18,14 +18,14 @@ use pb_taps::{Event, NewFault, TapSpec, WorldFault};
 use pb_timers::{BusParams, Moment};
 use std::alloc::Global;
 
-/// A bus that is watched from its first event on, so that the run can be judged when it has ended.
+/// A bus that is watched from its first event on. Its run can be judged at any time.
 #[derive(Drop)]
 pub struct Watched {
     pub(crate) bus: Bus,
     pub(crate) watch: Watch,
 }
 
-/// A watched bus whose taps don't run yet, at clock 0.
+/// A watched bus at clock 0. No tap runs yet.
 ///
 /// Faults: those of the new bus.
 pub fn new_watched(alloc: Global, params: BusParams, specs: &[TapSpec]) -> Result<Watched, NewFault>
@@ -48,9 +48,9 @@ impl Watched {
     ghost use Rattle.pb_taps.specs.Faults.{Refuses};
     ghost use Rattle.pb_audit.specs.Watched.{FindsIn, GoesOnBy, IsOfNew, IsWatched, world_in};
 
-    /// Does an event, and judges it by the premises.
+    /// Applies an event, and judges it by the premises.
     ///
-    /// Faults: those of the event on a bus; after one, nothing more can be watched.
+    /// Faults: those of the event on a bus. After a fault, the bus must not be watched further.
     pub fn follow(&mut self, alloc: Global, event: &Event) -> Result<(), WorldFault>
         requires { IsWatched self.old }
         ensures watched { OnOk result (IsWatched self.new) }
@@ -65,8 +65,8 @@ impl Watched {
         Ok(())
     }
 
-    /// What an audit finds in the events so far. The bus has come by them from a new one, and none was refused, the
-    /// caller's condition.
+    /// What an audit finds in the events so far. The caller ensures that they have led to this bus from a new one, and
+    /// that none was refused.
     pub fn judge(&self) -> Audit
         requires { IsOfNew self.now }
         ensures { FindsIn self.entry.now result }
@@ -81,7 +81,7 @@ impl Watched {
         }
     }
 
-    /// The bus, as the events so far have left it.
+    /// The bus after the events so far.
     pub fn bus(&self) -> &Bus
         ensures { result.now ≡ self.entry.now.bus }
     {
@@ -89,7 +89,7 @@ impl Watched {
     }
 }
 
-/// A premise that broke, by its number, with the clock.
+/// The premise that broke, by its number, with the clock.
 fn numbered(broken: Option<Breach>) -> Option<(u8, Moment)>
     ensures { option_map broken_at result ≡ option_map broken_of broken }
 {

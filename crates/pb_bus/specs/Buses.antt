@@ -1,4 +1,4 @@
--- A bus as the model says it.
+-- A bus as the model's plain data.
 use Rattle.std.specs.Prelude.{◌≡◌, ◌≤◌, [], length, map, Result}
 use Rattle.pb_model.specs.World.{World, Event, clock_limit, tap_limit}
 use Rattle.pb_bus.specs.Ends.{AllBy, last_end}
@@ -13,7 +13,7 @@ use Rattle.pb_bus.specs.declared.buses.Bus.{Bus}
 abbrev pub world_of : Bus → World
 world_of w = record { params = w.params; now = w.now; trace = entries_of w.trace; taps = map tap_of w.taps.items }
 
--- what its fields keep
+-- the invariant of its fields
 pub record IsKept (w : Bus) : Type 0 where
   pub sound : IsSound (world_of w)
   pub clock : w.now ≤ clock_limit
@@ -27,6 +27,6 @@ pub record IsBlank (w : World) : Type 0 where
   pub start : w.now ≡ 0
   pub empty : w.trace ≡ []
 
--- a bus does an event, and says what it has sent, or refuses it
+-- a bus applies an event, and has what it has sent, or refuses the event
 abbrev pub Does : Bus → Event → Result (Unit {0}) WorldFault → Bus → Type 0
 Does before event result after = Sends (world_of before) event result after.sent (world_of after)

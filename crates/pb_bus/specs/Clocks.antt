@@ -9,7 +9,7 @@ use Rattle.pb_model.specs.Medium.{Tap}
 use Rattle.pb_taps.specs.declared.faults.WorldFault.{WorldFault}
 use Rattle.pb_taps.specs.Faults.{world_fault}
 
--- why time doesn't pass, whatever the taps: with the next end in the air
+-- why time cannot pass, whatever the taps, given the next end on the bus
 abbrev pub time_faults : ℕ → ℕ → Option ℕ → List (Bool × Fault)
 time_faults now bits end =
     (bits == 0, ZeroTime)
@@ -17,7 +17,7 @@ time_faults now bits end =
     ∷ (nat_lt clock_limit (now + bits), ClockFull)
     ∷ []
 
--- time can pass to a moment, and all taps can be told of it
+-- time can pass to a moment, and each tap has room for its marks
 pub record CanPass (w : World) (bits to : ℕ) : Type 0 where
   pub later : to ≡ w.now + bits
   pub clock : to ≤ clock_limit
@@ -33,7 +33,7 @@ IsFault (Err f) reason = reason ≡ world_fault f
 abbrev pub IsFirstOf : List (Bool × Fault) → WorldFault → Type 0
 IsFirstOf tests reason = option_map world_fault (first_fault tests) ≡ Some reason
 
--- time passes to a moment: these are the entries behind those that are over, and the taps
+-- time passes to a moment: these are the entries after those that are over, and the taps
 abbrev pub PassesTo : World → ℕ → List Entry → ℕ → List Entry → List Tap → Type 0
 PassesTo w bits old to entries taps = (recent : List Entry) × (entries ≡ old ++ recent)
     × (step_pass w bits ≡ Ok (record w { now = to; trace = recent; taps = taps }, record { now = to; spoke = None }))

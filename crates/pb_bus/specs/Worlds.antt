@@ -1,4 +1,4 @@
--- What comes of events, and what readers of a world are told.
+-- The results of events, and what readers of a world see.
 use Rattle.std.specs.Prelude.{◌≡◌, ℕ, List, if◌then◌else◌, Option, Some, None, Result, Ok, slice_get, MatchResult, take}
 use Rattle.std.specs.Borrow.{Bor}
 use Rattle.std.specs.Option.{option_and_then}
@@ -13,17 +13,17 @@ use Rattle.pb_taps.specs.declared.faults.WorldFault.{WorldFault}
 use Rattle.pb_taps.specs.Faults.{Refuses}
 use Rattle.pb_taps.specs.Events.{event_of, reply_of}
 
--- an event of a list that lends its events
+-- an event of a list of references
 abbrev pub lent_event : Bor lent.Event → Event
 lent_event e = event_of e.now
 
--- what comes of an event: the step of the model, or a refusal that leaves the world as it is
+-- the result of an event: the step of the model, or a refusal that leaves the world as it is
 abbrev pub Follows : World → Event → Result events.Reply WorldFault → World → Type 0
 Follows w event result next = MatchResult result
     (λ reply. step w event ≡ Ok (next, reply_of reply))
     (λ fault. (next ≡ w) × Refuses w event (step w event) fault)
 
--- the same of an event that has sent something, or nothing
+-- the same for an event that has sent something, or nothing
 abbrev pub Sends : World → Event → Result (Unit {0}) WorldFault → Option (List ℕ) → World → Type 0
 Sends w event result sent next = MatchResult result
     (λ _. step w event ≡ Ok (next, record { now = next.now; spoke = sent }))
@@ -44,7 +44,7 @@ abbrev pub IsStationAt : World → ℕ → StationView → Type 0
 IsStationAt w tap s = (t : medium.Tap) × (slice_get w.taps tap ≡ Some t)
     × (s ≡ record { tap = tap; params = w.params; master = t.spec.master; reply_data = t.spec.reply; station = t.station })
 
--- events lead to a world that refuses the one at a place
+-- events lead to a world that refuses the one at an index
 abbrev pub StopsAt : World → List Event → ℕ → WorldFault → World → Type 0
 StopsAt w events place fault next = RunsTo w (take place events) next
     × (event : Event) × (slice_get events place ≡ Some event) × Refuses next event (step next event) fault

@@ -1,10 +1,13 @@
+//! A bus: what each event does to it, and what is read from it.
+
 use crate::clocks::pass;
 use crate::rooms::{make_room, make_room_for};
 use crate::starting::start;
 use crate::stopping::stop;
 use pb_cycles::Request;
 use pb_medium::{Hit, Speaker, Trace};
-use pb_station::{Decided, Decision, Glance, NoMemory, SendBuffer, Spares, Station};
+use pb_refusals::NoMemory;
+use pb_station::{Decided, Decision, Glance, SendBuffer, Spares, Station};
 use pb_taps::{
     Event, Tap, WorldFault, check_running, fits, fits_decided, glance, queue, take_decided,
     take_turn,
@@ -21,7 +24,7 @@ pub struct Bus {
     pub taps: Vec<Tap>,
     /// What the last event has sent.
     pub sent: SendBuffer,
-    /// Stations that decided turns have replaced.
+    /// Spare boxes of stations that decided turns have replaced.
     pub spares: Spares,
 }
 
@@ -37,9 +40,8 @@ impl Bus {
     ghost use Rattle.pb_bus.specs.Worlds.{due_at, IsStationAt};
     ghost use Rattle.pb_bus.specs.Glances.{CanBeDecided, Fits, IsGlance};
 
-    /// Does an event. What a station says in it stands in `sent`. A request of the event has an address and data that a
-    /// request may have, by its type. It is a call of its own, so that a caller doesn't clear at each event the memory
-    /// that a rare one takes.
+    /// Applies an event. What a station sends in it is in `sent`. The address and data of a request are valid, by its
+    /// type. Kept out of line: else the frame of a caller has the room that a rare event needs.
     ///
     /// Faults: those of the event ([`WorldFault`]), the first that applies.
     #[inline(never)]
@@ -88,7 +90,7 @@ impl Bus {
         Ok(())
     }
 
-    /// Takes the turn of a decision that fits, the caller's condition. What the station says stands in `sent`.
+    /// Takes a decided turn. What the station sends is in `sent`. The caller ensures that the decision fits.
     ///
     /// Faults: those of a turn, the first that applies.
     #[inline(always)]
@@ -203,7 +205,8 @@ impl Bus {
         Ok(())
     }
 
-    /// When the station at a tap has to take its turn.
+    /// When the station at a tap has to take its turn; `None` if there is no such tap, it does not run, or it waits for
+    /// nothing.
     pub fn due(&self, tap: usize) -> Option<Moment>
         requires { IsKept self.now }
         ensures { result ≡ due_at (world_of self.entry.now) tap }
@@ -215,8 +218,8 @@ impl Bus {
         tap.station.due(&tap.marks)
     }
 
-    /// Whether the turn of the station at a tap, if one is due, will have been due for longer than the lag once some
-    /// bit times have gone by.
+    /// Whether the turn of the station at a tap, if one is due, will have been due for longer than the lag in `bits`
+    /// bit times.
     #[inline(always)]
     pub fn is_overdue(&self, tap: usize, bits: u64) -> bool
         requires { IsKept self.now }
@@ -233,7 +236,9 @@ impl Bus {
             .is_overdue(&tap.marks, self.params.lag(), self.now, bits)
     }
 
-    /// What the tap at a position shows. Its fault: memory was refused.
+    /// A glance at the tap with this index. The caller ensures that it exists.
+    ///
+    /// Fault: memory was refused.
     pub fn glance(&self, alloc: Global, tap: usize) -> Result<Glance, NoMemory>
         requires kept { IsKept self.now }
         requires there { tap < length self.now.taps.items }
@@ -243,7 +248,9 @@ impl Bus {
         glance(alloc, &self.taps, tap, self.now, &mut Spares::new(alloc))
     }
 
-    /// The same, in the room of stations that decided turns have replaced. Its fault: memory was refused.
+    /// The same, in the spare boxes of stations that decided turns have replaced.
+    ///
+    /// Fault: memory was refused.
     pub fn glance_in_room(&mut self, alloc: Global, tap: usize) -> Result<Glance, NoMemory>
         requires kept { IsKept self.old }
         requires there { tap < length self.old.taps.items }
@@ -255,7 +262,7 @@ impl Bus {
         glance(alloc, &self.taps, tap, self.now, &mut self.spares)
     }
 
-    /// Whether a decision was made on its tap as that is now.
+    /// Whether a decision was computed from the present state of its tap.
     pub fn fits(&self, decision: &Decision) -> bool
         requires { IsKept self.now }
         ensures { IsTrue result ↔ Fits (world_of self.entry.now) decision.entry.now }
@@ -263,7 +270,7 @@ impl Bus {
         fits(&self.taps, decision, self.now)
     }
 
-    /// Whether a turn that was decided with a buffer was decided on its tap as that is now.
+    /// Whether a decision with a borrowed buffer was computed from the present state of its tap.
     pub fn fits_decided(&self, decided: &Decided<'_>) -> bool
         requires { IsKept self.now }
         ensures { IsTrue result ↔ Fits (world_of self.entry.now) decided.entry.now }
@@ -271,7 +278,7 @@ impl Bus {
         fits_decided(&self.taps, decided, self.now)
     }
 
-    /// The station at a tap.
+    /// The station at a tap; `None` if there is no such tap.
     pub fn station(&self, tap: usize) -> Option<&Station>
         requires { IsKept self.now }
         ensures { MatchOption result (slice_get (world_of self.entry.now).taps tap ≡ None)

@@ -1,3 +1,5 @@
+//! When something changes on a bus, apart from turns.
+
 ghost use Rattle.std.specs.Prelude.{◌≡◌, ◌+◌, ◌≤◌, ◌&&◌, IfSome, if◌then◌else◌, Some, None, map};
 ghost use Rattle.std.specs.List.{list_any};
 ghost use Rattle.std.specs.Option.{option_map};
@@ -34,7 +36,7 @@ impl Bus {
     }
 }
 
-/// When a tap can know what it started amid, if one has started now.
+/// When a tap that has started now can know that it started amid activity.
 fn start_known(taps: &[Tap], amid: bool, now: Moment) -> Option<Moment>
     requires { now ≤ clock_limit }
     ensures { result
@@ -46,14 +48,14 @@ fn start_known(taps: &[Tap], amid: bool, now: Moment) -> Option<Moment>
     None
 }
 
-/// Whether a tap has started at a moment.
+/// Whether a tap has started at `now`.
 fn some_started(taps: &[Tap], now: Moment) -> bool
     ensures { result ≡ list_any (started_now now) (map tap_of taps.now) }
 {
     taps.iter().any(|tap| tap.since == now.get())
 }
 
-/// When a tap can know of what begins at it, if something does: one bit time later.
+/// When a tap can know of a begin: one bit time later.
 fn known_of(begin: Option<u64>) -> Option<Moment>
     requires { IfSome begin (λ m. m ≤ last_end) }
     ensures { result ≡ option_map (λ m. m + 1) begin }

@@ -1,3 +1,5 @@
+//! The clock of a bus: how time passes.
+
 ghost use Rattle.std.specs.Prelude.{◌≡◌, ◌+◌, ◌≤◌, None, IfOk, IfErr, OnErr, MatchResult, map, take};
 ghost use Rattle.pb_refusals.specs.FirstFault.{first_fault};
 ghost use Rattle.pb_model.specs.Step.{step_pass};
@@ -13,10 +15,10 @@ use pb_medium::{Entry, Trace, next_end};
 use pb_taps::{Tap, WorldFault};
 use pb_timers::Moment;
 
-/// The clock's limit, in bit times.
+/// The last clock, in bit times.
 const CLOCK_LIMIT: u64 = 1_000_000_000_000;
 
-/// Time passes, for all taps and the recent entries; the clock afterwards.
+/// Lets time pass for all taps and the recent entries, and returns the new clock.
 pub(crate) fn pass(
     trace: &mut Trace,
     delay: u32,
@@ -43,8 +45,9 @@ pub(crate) fn pass(
     Ok(to)
 }
 
-/// The clock after some time, of which each tap can be told. Faults, the first that applies: `ZeroTime`; `TooFar`;
-/// `ClockFull`; `InboxFull`.
+/// The clock after a pass of time, if each tap has room for its new marks.
+///
+/// Faults, the first that applies: `ZeroTime`; `TooFar`; `ClockFull`; `InboxFull`.
 #[inline(always)]
 pub(crate) fn passes_to(
     entries: &[Entry],
@@ -64,7 +67,7 @@ pub(crate) fn passes_to(
     Ok(to)
 }
 
-/// The clock after some time, which goes to the next end in the air at most.
+/// The clock after a pass of time. It is at most the next end on the bus.
 fn later(end: Option<u64>, now: Moment, bits: u64) -> Result<Moment, WorldFault>
     ensures ok { IfOk result (λ to. (to ≡ now + bits) × (to ≤ world.clock_limit)
         × (first_fault (time_faults now bits end) ≡ None)) }

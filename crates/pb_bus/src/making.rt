@@ -16,9 +16,9 @@ use pb_taps::{NewFault, TapSpec, check_taps, new_taps};
 use pb_timers::BusParams;
 use std::alloc::Global;
 
-/// A bus whose taps don't run yet, at clock 0.
+/// A bus at clock 0. No tap runs yet.
 ///
-/// The parameters meet their rules and the data to reply fit into telegrams, by their types.
+/// The parameters meet their rules, and the data with which stations reply fits in telegrams, by their types.
 ///
 /// Faults: those of a new world ([`NewFault`]), the first that applies.
 pub fn new_bus(alloc: Global, params: BusParams, specs: &[TapSpec]) -> Result<Bus, NewFault>

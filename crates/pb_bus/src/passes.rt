@@ -1,3 +1,5 @@
+//! The marks that a pass of time appends to the inbox of each tap.
+
 ghost use Rattle.std.specs.Prelude.{◌≡◌, ◌+◌, ◌≤◌, ◌<◌, ◌++◌, ◌∷◌, [], IfSome, true, false, None, Some, length, map};
 ghost use Rattle.pb_timers.specs.Timers.{last_moment};
 ghost use Rattle.pb_model.specs.Laws.{begin_of};
@@ -19,10 +21,10 @@ use pb_station::MARK_LIMIT;
 use pb_taps::Tap;
 use pb_timers::Moment;
 
-/// How many marks a pass tells a tap at most.
+/// The most marks that a pass appends to the inbox of a tap.
 const MOST_NEWS: usize = 2;
 
-/// The first tap that a pass would tell more than it may have unread.
+/// The first tap whose inbox has no room for the marks of a pass.
 pub(crate) fn first_full(
     entries: &[Entry],
     delay: u32,
@@ -45,7 +47,7 @@ pub(crate) fn first_full(
     None
 }
 
-/// A pass tells every tap. None of them is told more than it may have unread.
+/// Appends the marks of a pass at every tap. The caller ensures that each inbox has room for them.
 pub(crate) fn tell_all(entries: &[Entry], delay: u32, taps: &mut [Tap], from: Moment, to: Moment)
     requires { step.first_full 0
         (step.told delay (map entry_of entries.now) from to 0 (map tap_of taps.old)) ≡ None }
@@ -64,7 +66,8 @@ pub(crate) fn tell_all(entries: &[Entry], delay: u32, taps: &mut [Tap], from: Mo
     }
 }
 
-/// No tap has more unread marks than it may have, since an inbox holds no more. The loop is for the proof: it does nothing.
+/// No tap has more unread marks than it may have, since an inbox cannot hold more. The loop is for the proof: it does
+/// nothing.
 fn inboxes_hold_few(taps: &[Tap])
     ensures { step.first_full 0 (map tap_of taps.now) ≡ None }
 {
@@ -73,7 +76,7 @@ fn inboxes_hold_few(taps: &[Tap])
     }
 }
 
-/// Whether a pass would tell the tap at a position more than it may have unread.
+/// Whether the inbox of the tap at an index has no room for the marks of a pass.
 fn overflows(
     entries: &[Entry],
     delay: u32,
@@ -92,7 +95,7 @@ fn overflows(
         && unread + news_count(entries, delay, position, tap, from, to) > MARK_LIMIT
 }
 
-/// A pass tells the tap at a position of what is alone on the bus.
+/// Appends the marks of a pass for the only entry on the bus, at the tap at an index.
 #[inline(always)]
 fn tell_of(lone: &Lone<'_>, position: usize, tap: &mut Tap, from: Moment, to: Moment)
     requires room { length tap.old.marks
@@ -108,7 +111,7 @@ fn tell_of(lone: &Lone<'_>, position: usize, tap: &mut Tap, from: Moment, to: Mo
     tell_lone_end(lone, tap, from, to);
 }
 
-/// A pass tells a tap that what is alone on the bus began for it, if it did.
+/// Appends the mark that the only entry on the bus began at a tap, if it did.
 #[inline(always)]
 fn tell_lone_begin(lone: &Lone<'_>, tap: &mut Tap, from: Moment, to: Moment)
     requires { length tap.old.marks
@@ -122,7 +125,8 @@ fn tell_lone_begin(lone: &Lone<'_>, tap: &mut Tap, from: Moment, to: Moment)
     }
 }
 
-/// A pass tells a tap that what is alone on the bus ended, if it did. One that started amid it got no octets.
+/// Appends the mark that the only entry on the bus ended at a tap, if it did. A tap that started during the entry
+/// received no octets.
 #[inline(always)]
 fn tell_lone_end(lone: &Lone<'_>, tap: &mut Tap, from: Moment, to: Moment)
     requires room { length tap.old.marks
@@ -143,7 +147,7 @@ fn tell_lone_end(lone: &Lone<'_>, tap: &mut Tap, from: Moment, to: Moment)
     }
 }
 
-/// A pass tells the tap at a position.
+/// Appends the marks of a pass at the tap at an index.
 fn tell(entries: &[Entry], delay: u32, position: usize, tap: &mut Tap, from: Moment, to: Moment)
     requires { unread_after delay position (tap_of tap.old) (map entry_of entries.now) from to ≤ mark_limit }
     ensures told { tap_of tap.new
@@ -159,7 +163,7 @@ fn tell(entries: &[Entry], delay: u32, position: usize, tap: &mut Tap, from: Mom
     tell_end(entries, delay, position, tap, end, to);
 }
 
-/// How many marks a pass tells the tap at a position.
+/// How many marks a pass appends at the tap at an index, 0 to 2.
 fn news_count(
     entries: &[Entry],
     delay: u32,
@@ -179,7 +183,7 @@ fn news_count(
         + usize::from(end_in(entries, delay, position, tap, from, to).is_some())
 }
 
-/// When a burst begins at the tap at a position in a pass, if one does.
+/// When a burst begins at the tap at an index during a pass, if one does.
 fn begin_in(
     entries: &[Entry],
     delay: u32,
@@ -194,7 +198,7 @@ fn begin_in(
     moment_of(begin_between(entries, delay, position, tap.since, from.get(), to.get()))
 }
 
-/// When a burst ends at the tap at a position in a pass, if one does.
+/// When a burst ends at the tap at an index during a pass, if one does.
 fn end_in(
     entries: &[Entry],
     delay: u32,
@@ -208,7 +212,7 @@ fn end_in(
     moment_of(end_between(entries, delay, position, tap.since, from.get(), to.get()))
 }
 
-/// Bit times, if there are any, as a moment.
+/// A number of bit times as a moment; `None` stays `None`.
 pub(crate) fn moment_of(bits: Option<u64>) -> Option<Moment>
     requires { IfSome bits (λ n. n ≤ last_moment) }
     ensures { result ≡ bits }
@@ -219,7 +223,7 @@ pub(crate) fn moment_of(bits: Option<u64>) -> Option<Moment>
     }
 }
 
-/// A pass tells a tap that a burst began, if one did.
+/// Appends the mark that a burst began, if one did.
 fn tell_begin(tap: &mut Tap, begin: Option<Moment>, to: Moment)
     requires { length tap.old.marks + length (begin_of to begin) ≤ mark_limit }
     ensures { tap.new ≡ with_begin tap.old to begin }
@@ -229,7 +233,7 @@ fn tell_begin(tap: &mut Tap, begin: Option<Moment>, to: Moment)
     }
 }
 
-/// A pass tells the tap at a position that a burst ended, if one did.
+/// Appends the mark that a burst ended at the tap at an index, if one did.
 fn tell_end(
     entries: &[Entry],
     delay: u32,
@@ -247,7 +251,7 @@ fn tell_end(
     }
 }
 
-/// A pass tells the tap at a position that a burst ended at a moment.
+/// Appends the mark that a burst ended at `at`, at the tap at an index.
 fn tell_end_at(
     entries: &[Entry],
     delay: u32,
@@ -265,8 +269,8 @@ fn tell_end_at(
     }
 }
 
-/// A pass tells the tap at a position that a burst ended at a moment, which brings the characters of a telegram. It is
-/// a call of its own since the room of the longest telegram is cleared for it.
+/// Appends the mark that a burst ended at `at` and brought the characters of a telegram. Kept out of line: its frame
+/// has room for the longest telegram.
 #[inline(never)]
 fn tell_characters(telegram: &Record, position: usize, tap: &mut Tap, at: Moment, to: Moment)
     requires { length tap.old.marks < mark_limit }

@@ -1,3 +1,5 @@
+//! Why an event would be refused, without applying it.
+
 use crate::buses::Bus;
 use crate::clocks::passes_to;
 use crate::starting::check_start;
@@ -13,7 +15,8 @@ impl Bus {
     ghost use Rattle.pb_bus.specs.Buses.{world_of, IsKept};
     ghost use Rattle.pb_bus.specs.Refusals.{fault_of, Judges, Speaks, TellsSpeech};
 
-    /// Why an event would be refused, memory apart; `speaks` says whether the station of a turn would speak.
+    /// Why an event would be refused, apart from memory. For a turn, `speaks` is whether the station would send
+    /// anything.
     pub fn refusal(&self, event: &Event, speaks: bool) -> Option<WorldFault>
         requires kept { IsKept self.now }
         requires speaks { TellsSpeech (world_of self.now) (event_of event.now) speaks }

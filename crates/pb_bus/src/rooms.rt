@@ -1,3 +1,5 @@
+//! Reserves memory in the trace before a station speaks.
+
 ghost use Rattle.std.specs.Prelude.{◌≡◌, ◌≤◌, ◌<◌, true, is_some, IfErr, OnOk, Some, slice_get, length, map};
 ghost use Rattle.pb_model.specs.Laws.{AllInOrder};
 ghost use Rattle.pb_model.specs.World.{clock_limit};
@@ -12,8 +14,9 @@ use pb_station::Decided;
 use pb_taps::{Tap, WorldFault, would_speak};
 use pb_timers::Moment;
 
-/// Makes room for what the station at a tap would say in its turn, if anything. Faults, the first that applies:
-/// `TraceFull`; `NoMemory`.
+/// Reserves room for what the station at a tap would send in its turn, if anything.
+///
+/// Faults, the first that applies: `TraceFull`; `NoMemory`.
 pub(crate) fn make_room(
     trace: &mut Trace,
     taps: &[Tap],
@@ -35,7 +38,9 @@ pub(crate) fn make_room(
     Ok(())
 }
 
-/// Makes room for what was decided to be said, if anything. Faults, the first that applies: `TraceFull`; `NoMemory`.
+/// Reserves room for what a decided turn sends, if anything.
+///
+/// Faults, the first that applies: `TraceFull`; `NoMemory`.
 pub(crate) fn make_room_for(trace: &mut Trace, decided: &Decided<'_>) -> Result<(), WorldFault>
     ensures same { StaysAs trace.old trace.new }
     ensures ok { OnOk result (is_some decided.entry.now.speak ≡ true → HasRoom trace.new) }

@@ -1,3 +1,5 @@
+//! Starts a station.
+
 ghost use Rattle.std.specs.Prelude.{◌≡◌, ◌≤◌, IfErr, OnOk, OnErr, map};
 ghost use Rattle.std.specs.List.{list_any};
 ghost use Rattle.pb_model.specs.World as world;
@@ -9,6 +11,8 @@ use pb_taps::{Tap, WorldFault};
 use pb_timers::Moment;
 
 /// Starts the station at a tap.
+///
+/// Faults: those of `check_start`.
 pub(crate) fn start(
     entries: &[Entry],
     delay: u32,
@@ -27,7 +31,9 @@ pub(crate) fn start(
     Ok(())
 }
 
-/// Whether the station at a tap can start. Faults, the first that applies: `NoSuchTap`; `Running`.
+/// Checks whether the station at a tap can start.
+///
+/// Faults, the first that applies: `NoSuchTap`; `Running`.
 pub(crate) fn check_start(
     entries: &[Entry],
     delay: u32,
@@ -47,14 +53,14 @@ pub(crate) fn check_start(
     Ok(())
 }
 
-/// Whether the tap at a position runs, or a telegram of its own is in the air.
+/// Whether the tap at an index runs, or a telegram of its own is still on the bus.
 fn is_up(entries: &[Entry], delay: u32, tap: &Tap, position: usize, now: Moment) -> bool
     ensures { result ≡ is_up delay now (map entry_of entries.now) position tap.now }
 {
     tap.running || is_sending(entries, delay, position, now)
 }
 
-/// Whether a telegram of the tap is in the air: it has not reached the others yet.
+/// Whether a telegram of the tap is still on the bus: its end has not reached the others.
 fn is_sending(entries: &[Entry], delay: u32, tap: usize, now: Moment) -> bool
     ensures { result ≡ list_any (world.is_in_air_by delay now tap) (map entry_of entries.now) }
 {
@@ -63,7 +69,7 @@ fn is_sending(entries: &[Entry], delay: u32, tap: usize, now: Moment) -> bool
         .any(|entry| is_in_air_by(entry, delay, tap, now.get()))
 }
 
-/// The tap starts; whether amid something that is reaching it is told.
+/// Starts the tap. `amid` is whether something is reaching it.
 fn start_tap(tap: &mut Tap, amid: bool, now: Moment)
     requires { now ≤ world.clock_limit }
     ensures { tap.new ≡ fresh_tap tap.old amid now }

@@ -1,3 +1,5 @@
+//! Stops a station.
+
 ghost use Rattle.std.specs.Prelude.{◌≡◌, IfErr, OnErr, OnOk};
 ghost use Rattle.pb_taps.specs.Turning.{RefusesStopped};
 ghost use Rattle.pb_bus.specs.Stopping.{halted_tap, IsStopped};
@@ -5,6 +7,8 @@ ghost use Rattle.pb_bus.specs.Stopping.{halted_tap, IsStopped};
 use pb_taps::{Tap, WorldFault, check_running};
 
 /// Stops the station at a tap.
+///
+/// Faults, the first that applies: `NoSuchTap`; `NotRunning`.
 pub(crate) fn stop(taps: &mut [Tap], tap: usize) -> Result<(), WorldFault>
     ensures ok { OnOk result (IsStopped taps.old tap taps.new) }
     ensures err { OnErr result (taps.new ≡ taps.old) }

@@ -1,4 +1,4 @@
--- Counts of what a reader or writer did. A count is a u64 that stays at its end.
+-- Counts of what a reader or writer did. A count is a u64 that saturates.
 use Rattle.std.specs.Prelude.{ℕ, ◌+◌, ◌-◌, ◌^◌, ◌≤◌, min, Result, Ok, Err}
 use Rattle.pb_cli.specs.declared.streams.ReadFault.{ReadFault}
 use Rattle.pb_cli.specs.declared.streams.ReadFault.TheVariants as read
@@ -9,7 +9,7 @@ use Rattle.pb_cli.specs.declared.streams.WriteFault.TheVariants as write
 abbrev pub one_more : ℕ → ℕ
 one_more count = min (count + 1) (2 ^ 64 - 1)
 
--- the count has grown by n at least, or stands at its end
+-- the count has grown by at least n, or has saturated
 abbrev pub GrowsBy : ℕ → ℕ → ℕ → Type 0
 GrowsBy n before now = min (before + n) (2 ^ 64 - 1) ≤ now
 
@@ -37,7 +37,7 @@ write_interruptions before (Ok count) = before
 write_interruptions before (Err write.Interrupted) = one_more before
 write_interruptions before (Err write.Failed) = before
 
--- how many writes were interrupted one behind the other, after this one
+-- how many consecutive writes were interrupted, after this one
 abbrev pub writes_in_a_row : ℕ → Result ℕ WriteFault → ℕ
 writes_in_a_row before (Ok count) = 0
 writes_in_a_row before (Err write.Interrupted) = one_more before

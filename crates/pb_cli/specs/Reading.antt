@@ -6,11 +6,12 @@ use Rattle.pb_cli.specs.Counts.{GrowsBy}
 abbrev pub byte_limit : ℕ
 byte_limit = 1048576
 
--- the most read calls that are made for one input: one for each byte that it may have, and as many more
+-- the most read calls for one input: one for each byte that it may have, and as many more
 abbrev pub call_limit : ℕ
 call_limit = 2 * byte_limit
 
--- The reader failed, or as many calls were made as an input may take. In the second case all but a call for each byte were interrupted.
+-- The reader failed, or all calls were made that one input may take; then all but one call for each byte were
+-- interrupted.
 abbrev pub IsReadCause : ℕ → ℕ → ℕ → ℕ → ℕ → ℕ → Type 0
 IsReadCause failures_before failures_now calls_before calls_now interruptions_before interruptions_now =
     GrowsBy 1 failures_before failures_now

@@ -1,13 +1,13 @@
--- What a write that was given up has done, and why it was.
+-- What a failed write has written, and why it failed.
 use Rattle.std.specs.Prelude.{ℕ, ◌+◌, ◌≤◌, ◌⊎◌, List, length, take, Option}
 use Rattle.std.specs.Io.KnownBytes.{Appends}
 use Rattle.pb_cli.specs.Counts.{GrowsBy}
 
--- known bytes grow by a front of the text
+-- known bytes grow by a prefix of the text
 abbrev pub AppendsFront : Option (List ℕ) → Option (List ℕ) → List ℕ → Type 0
 AppendsFront old new text = (count : ℕ) × (count ≤ length text) × Appends old new (take count text)
 
--- how often in a row an interrupted write is tried again
+-- how many times in a row an interrupted write is tried again
 abbrev pub retries_in_a_row : ℕ
 retries_in_a_row = 1000
 

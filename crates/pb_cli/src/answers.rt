@@ -1,4 +1,4 @@
-//! What the answer of a reader or writer of std comes to.
+//! Turns the results of std's readers and writers into those of a [`Source`](crate::Source) or [`Sink`](crate::Sink).
 
 ghost use Rattle.std.specs.Prelude.{◌≡◌, ◌<◌, ◌↔◌, IsTrue, IsFalse, IsErr, IfOk, IsErrOf, MatchResult, Ok};
 ghost use Rattle.std.specs.IoError.{error_kind};
@@ -7,7 +7,7 @@ use crate::streams::{ReadFault, WriteFault};
 use std::io;
 use std::io::{Error, ErrorKind};
 
-/// What the answer of a read comes to.
+/// The result of a read.
 pub fn read_answer(answer: io::Result<usize>) -> Result<usize, ReadFault>
     ensures count { IfOk result (λ count. answer ≡ Ok count) }
     ensures interrupted { IsErrOf result ReadFault.Interrupted ↔ MatchResult answer (λ _. ⊥)
@@ -21,7 +21,7 @@ pub fn read_answer(answer: io::Result<usize>) -> Result<usize, ReadFault>
     }
 }
 
-/// What the answer of a write comes to, of no bytes or of some; a writer that takes none of some has failed.
+/// The result of a write; `is_empty` says that no bytes were given. A writer that takes none of some bytes has failed.
 pub fn write_answer(answer: io::Result<usize>, is_empty: bool) -> Result<usize, WriteFault>
     ensures count { IfOk result (λ count. answer ≡ Ok count) }
     ensures some { IfOk result (λ count. IsFalse is_empty → 0 < count) }

@@ -37,15 +37,14 @@ const JSON: &str = "json";
 ///
 /// The numbers of workers and of last lines are within their limits.
 ///
-/// Faults: `Usage` with the text to show where the words make no sense, and where help is asked
-/// for; `NoMemory`.
+/// Faults: `Usage`, with the text to show, if the words make no sense or ask for help; `NoMemory`.
 pub fn ask(alloc: Global, words: &[String]) -> Result<Ask, AskFault>
     ensures { IfOk result IsWithinLimits }
 {
     Ok(ask_with_options(alloc, words)?.ask)
 }
 
-/// Reads the program's words as [`ask`] does, and whether they ask for no hints.
+/// Reads the program's words as [`ask`] does, and whether they suppress hints.
 ///
 /// Faults: those of `ask`.
 pub fn ask_with_options(alloc: Global, words: &[String]) -> Result<Asked, AskFault>
@@ -64,7 +63,7 @@ pub fn ask_with_options(alloc: Global, words: &[String]) -> Result<Asked, AskFau
     }
 }
 
-/// What words ask for that the program knows.
+/// The request that valid words make.
 fn asked(alloc: Global, matches: &ArgMatches<'_>) -> Result<Ask, AllocError>
     ensures { IfOk result IsWithinLimits }
 {
@@ -86,7 +85,7 @@ fn asked(alloc: Global, matches: &ArgMatches<'_>) -> Result<Ask, AllocError>
     }
 }
 
-/// Whether words ask for no hints.
+/// Whether the words suppress hints.
 fn is_quiet(matches: &ArgMatches<'_>) -> bool {
     match matches.subcommand() {
         Some((RUN | AUDIT | BOUNDS, words)) => words.get_flag(QUIET),
@@ -99,7 +98,7 @@ fn file_in(alloc: Global, matches: &ArgMatches<'_>) -> Result<String, AllocError
     String::from_str(alloc, matches.get_str(FILE).unwrap_or(""))
 }
 
-/// The number of an option, if it is given; its parser has seen that it is in its range.
+/// The number of an option, if it is given. The option's parser has checked its range.
 fn number_in(matches: &ArgMatches<'_>, option: &str, most: usize) -> Option<usize>
     ensures { IsUpTo most result }
 {
@@ -119,7 +118,7 @@ fn baud_in(matches: &ArgMatches<'_>) -> u32
     }
 }
 
-/// The words that the program knows.
+/// The commands and options of the program.
 fn command<'a>(alloc: Global) -> Result<Command<'a>, AllocError> {
     Command::new(alloc, "ringplay")
         .about("A PROFIBUS data link layer (FDL): telegrams and the token ring")
@@ -175,7 +174,7 @@ fn bounds_command<'a>(alloc: Global) -> Result<Command<'a>, AllocError> {
         .arg(quiet(alloc))
 }
 
-/// An option with a number of at least 1.
+/// An option whose value is a number from 1 to `most`.
 fn number<'a>(alloc: Global, name: &'a str, most: usize) -> Arg<'a>
     requires { most < 2 ^ 63 }
 {
@@ -201,7 +200,7 @@ fn file<'a>(alloc: Global) -> Arg<'a> {
         .required(true)
 }
 
-/// The option for no hints.
+/// The option that suppresses hints.
 fn quiet<'a>(alloc: Global) -> Arg<'a> {
     Arg::new(alloc, QUIET)
         .long(QUIET)
@@ -209,7 +208,7 @@ fn quiet<'a>(alloc: Global) -> Arg<'a> {
         .help("Prints no hints and warnings on standard error")
 }
 
-/// What to answer for words that `clap` refuses.
+/// The fault for words that `clap` rejects.
 fn usage(alloc: Global, error: &Error) -> Result<AskFault, AllocError> {
     if error.kind() == ErrorKind::OutOfMemory {
         return Ok(AskFault::NoMemory);

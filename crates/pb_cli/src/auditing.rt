@@ -14,15 +14,15 @@ use crate::writing::write_out;
 use pb_show::{Reasons, audited};
 use std::alloc::Global;
 
-/// Reads a scenario file to the end of the reader, and writes the audit of its run on one thread: a line for the first
-/// premise that broke, with the clock in bit times, and a line for the first illegal initiator record, by its position
-/// in the trace from 0. Where the file or its run is refused, it writes the line of that fault. The whole text is made
-/// before the first write.
+/// Reads a scenario file until the reader ends, and writes the audit of its run on one thread: a line for the first
+/// premise that broke, with the clock in bit times, and a line for the first illegal initiator record, by its index in
+/// the trace, from 0. If the file or its run is refused, it writes the line of that fault instead. The whole text is
+/// made before the first write.
 ///
-/// At `Ok` the writer holds that text, and the status is `Refused` exactly where the file or the run is refused or a
-/// record is illegal. Faults: `Read` where the reader failed, or all 2,097,152 read calls were made and at least half
-/// of them were interrupted; `TooLong` for a file of more than 1,048,576 bytes; `Write` where the writer failed, or was
-/// interrupted 1,001 times in a row; `NoMemory`. After `Write` a front of the text went out, after the other faults
+/// On `Ok` the writer holds that text, and the status is `Refused` exactly if the file or the run is refused or a
+/// record is illegal. Faults: `Read` if the reader failed, or all 2,097,152 read calls were made and at least half of
+/// them were interrupted; `TooLong` for a file of more than 1,048,576 bytes; `Write` if the writer failed, or was
+/// interrupted 1,001 times in a row; `NoMemory`. After `Write`, a prefix of the text was written; after another fault,
 /// nothing.
 pub fn audit_file<R: Source, W: Sink>(
     alloc: Global,
@@ -39,7 +39,7 @@ pub fn audit_file<R: Source, W: Sink>(
         → IfSome (R.remaining reader.old) (λ file. length file ≤ byte_limit) }
     ensures calls { R.calls reader.new ≤ R.calls reader.old + call_limit }
 
-    // A fault comes only where its cause is.
+    // Each fault is returned only if its cause is there.
     ensures read { IsErrOf result CliFault.Read
         → IsReadCause (R.failures reader.old) (R.failures reader.new)
         (R.calls reader.old) (R.calls reader.new) (R.interruptions reader.old) (R.interruptions reader.new) }
@@ -49,11 +49,11 @@ pub fn audit_file<R: Source, W: Sink>(
         → IsWriteCause (W.failures writer.old) (W.failures writer.new)
         (W.interruptions writer.old) (W.interruptions writer.new) (W.in_a_row writer.new) }
 
-    // A failure of the reader or of the writer is told.
+    // A failure of the reader or of the writer is always reported.
     ensures reader_failed { result ≢ Err CliFault.Read → R.failures reader.new ≡ R.failures reader.old }
     ensures writer_failed { result ≢ Err CliFault.Write → W.failures writer.new ≡ W.failures writer.old }
 
-    // After a failed write a front of the text went out, after another fault nothing.
+    // After `Write`, a prefix of the text was written; after another fault, nothing.
     ensures front { IsErrOf result CliFault.Write → IfSome (R.remaining reader.old) (λ file.
         AppendsFront (W.contents writer.old) (W.contents writer.new) (audit_of file).text) }
     ensures nothing { IfErr result (λ fault. fault ≢ CliFault.Write
@@ -62,16 +62,16 @@ pub fn audit_file<R: Source, W: Sink>(
     Ok(audit_with_reasons(alloc, reader, writer)?.status)
 }
 
-/// How an audit ended that wrote its whole text, and what it found.
+/// The result of an audit that wrote its whole text.
 #[derive(Clone, Copy, Debug, PartialEq, Eq)]
 pub struct Found {
-    /// The status, as [`audit_file`] gives it.
+    /// The status, as [`audit_file`] returns it.
     pub status: Status,
-    /// What the audit found, and why; none where the file or its run is refused.
+    /// What the audit found, and why; `None` if the file or its run is refused.
     pub reasons: Option<Reasons>,
 }
 
-/// Reads and writes as [`audit_file`] does, and answers why the audit found what it found too.
+/// Reads and writes as [`audit_file`] does, and also returns why the audit found what it found.
 ///
 /// Faults: those of `audit_file`.
 pub fn audit_with_reasons<R: Source, W: Sink>(
@@ -89,7 +89,7 @@ pub fn audit_with_reasons<R: Source, W: Sink>(
         → IfSome (R.remaining reader.old) (λ file. length file ≤ byte_limit) }
     ensures calls { R.calls reader.new ≤ R.calls reader.old + call_limit }
 
-    // A fault comes only where its cause is.
+    // Each fault is returned only if its cause is there.
     ensures read { IsErrOf result CliFault.Read
         → IsReadCause (R.failures reader.old) (R.failures reader.new)
         (R.calls reader.old) (R.calls reader.new) (R.interruptions reader.old) (R.interruptions reader.new) }
@@ -99,11 +99,11 @@ pub fn audit_with_reasons<R: Source, W: Sink>(
         → IsWriteCause (W.failures writer.old) (W.failures writer.new)
         (W.interruptions writer.old) (W.interruptions writer.new) (W.in_a_row writer.new) }
 
-    // A failure of the reader or of the writer is told.
+    // A failure of the reader or of the writer is always reported.
     ensures reader_failed { result ≢ Err CliFault.Read → R.failures reader.new ≡ R.failures reader.old }
     ensures writer_failed { result ≢ Err CliFault.Write → W.failures writer.new ≡ W.failures writer.old }
 
-    // After a failed write a front of the text went out, after another fault nothing.
+    // After `Write`, a prefix of the text was written; after another fault, nothing.
     ensures front { IsErrOf result CliFault.Write → IfSome (R.remaining reader.old) (λ file.
         AppendsFront (W.contents writer.old) (W.contents writer.new) (audit_of file).text) }
     ensures nothing { IfErr result (λ fault. fault ≢ CliFault.Write

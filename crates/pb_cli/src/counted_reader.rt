@@ -1,10 +1,12 @@
+//! A reader of std that counts its calls, as a [`Source`].
+
 ghost use Rattle.std.specs.Prelude.{◌≡◌};
 
 use crate::answers::read_answer;
 use crate::streams::{ReadFault, Source};
 use std::io::Read;
 
-/// A [`Source`] over any reader of std, which counts its calls, interruptions and failures.
+/// A [`Source`] over any reader of std. It counts calls, interruptions and failures.
 #[derive(Drop)]
 pub struct CountedReader<R> {
     reader: R,
@@ -16,7 +18,7 @@ pub struct CountedReader<R> {
 impl<R> CountedReader<R> {
     ghost use Rattle.pb_cli.specs.Counted.{counted_reader, calls_of, reader_failures};
 
-    /// The reader, with nothing counted yet.
+    /// The reader, with all counts 0.
     pub fn new(reader: R) -> Self
         ensures { result ≡ counted_reader reader }
     {
@@ -35,7 +37,7 @@ impl<R> CountedReader<R> {
         self.calls
     }
 
-    /// How many of them failed.
+    /// How many read calls failed. An interruption is no failure.
     pub fn failures(&self) -> u64
         ensures { result ≡ reader_failures self.now }
     {

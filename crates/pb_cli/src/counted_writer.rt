@@ -1,15 +1,17 @@
+//! A writer of std that counts its interruptions and failures, as a [`Sink`].
+
 ghost use Rattle.std.specs.Prelude.{◌≡◌};
 
 use crate::answers::write_answer;
 use crate::streams::{Sink, WriteFault};
 use std::io::Write;
 
-/// A [`Sink`] over any writer of std, which counts its interruptions and failures.
+/// A [`Sink`] over any writer of std. It counts interruptions and failures.
 #[derive(Drop)]
 pub struct CountedWriter<W> {
     writer: W,
     interruptions: u64,
-    /// How many of them one behind the other, up to the last call.
+    /// How many consecutive calls were interrupted, up to the last call.
     in_a_row: u64,
     failures: u64,
 }
@@ -17,7 +19,7 @@ pub struct CountedWriter<W> {
 impl<W> CountedWriter<W> {
     ghost use Rattle.pb_cli.specs.Counted.{counted_writer, inner_writer, interruptions_of, writer_failures};
 
-    /// The writer, with nothing counted yet.
+    /// The writer, with all counts 0.
     pub fn new(writer: W) -> Self
         ensures { result ≡ counted_writer writer }
     {
@@ -36,14 +38,14 @@ impl<W> CountedWriter<W> {
         self.interruptions
     }
 
-    /// How many write calls failed, or took none of the bytes.
+    /// How many write calls failed, or took none of the given bytes.
     pub fn failures(&self) -> u64
         ensures { result ≡ writer_failures self.now }
     {
         self.failures
     }
 
-    /// The writer.
+    /// The wrapped writer.
     pub fn writer(&self) -> &W
         ensures { result.now ≡ inner_writer self.now }
     {

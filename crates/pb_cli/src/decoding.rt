@@ -1,3 +1,5 @@
+//! `ringplay decode` over any reader and writer.
+
 ghost use Rattle.std.specs.Prelude.{◌≡◌, ◌≢◌, ◌≤◌, ◌<◌, ◌+◌, length, Err, IfOk, IfErr, OnOk, IfSome, IsErrOf};
 ghost use Rattle.std.specs.Io.KnownBytes.{Appends, Keeps};
 ghost use Rattle.pb_decode.specs.Decoding.{output_of, refuses};
@@ -12,14 +14,13 @@ use crate::writing::write_out;
 use pb_decode::decode;
 use std::alloc::Global;
 
-/// Reads lines of hex to the end of the reader, and writes a line of text for each: the telegram
-/// that it spells, or its fault. The whole text is made before the first write.
+/// Reads lines of hex until the reader ends, and writes a line of text for each: the telegram that it spells, or its
+/// fault. The whole text is made before the first write.
 ///
-/// At `Ok` the writer holds the text of all that the reader had, and the status is `Refused`
-/// exactly where some line is a fault. Faults: `Read` where the reader failed, or all 2,097,152
-/// read calls were made and at least half of them were interrupted; `TooLong` for an input of more than 1,048,576
-/// bytes; `Write` where the writer failed, or was interrupted 1,001 times in a row; `NoMemory`. After `Write` a front
-/// of the text went out, after the other faults nothing.
+/// On `Ok` the writer holds the text of the whole input, and the status is `Refused` exactly if some line is a fault.
+/// Faults: `Read` if the reader failed, or all 2,097,152 read calls were made and at least half of them were
+/// interrupted; `TooLong` for an input of more than 1,048,576 bytes; `Write` if the writer failed, or was interrupted
+/// 1,001 times in a row; `NoMemory`. After `Write`, a prefix of the text was written; after another fault, nothing.
 pub fn decode_lines<R: Source, W: Sink>(
     alloc: Global,
     reader: &mut R,
@@ -35,7 +36,7 @@ pub fn decode_lines<R: Source, W: Sink>(
         → IfSome (R.remaining reader.old) (λ input. length input ≤ byte_limit) }
     ensures calls { R.calls reader.new ≤ R.calls reader.old + call_limit }
 
-    // A fault comes only where its cause is.
+    // Each fault is returned only if its cause is there.
     ensures read { IsErrOf result CliFault.Read
         → IsReadCause (R.failures reader.old) (R.failures reader.new)
         (R.calls reader.old) (R.calls reader.new) (R.interruptions reader.old) (R.interruptions reader.new) }
@@ -45,11 +46,11 @@ pub fn decode_lines<R: Source, W: Sink>(
         → IsWriteCause (W.failures writer.old) (W.failures writer.new)
         (W.interruptions writer.old) (W.interruptions writer.new) (W.in_a_row writer.new) }
 
-    // A failure of the reader or of the writer is told.
+    // A failure of the reader or of the writer is always reported.
     ensures reader_failed { result ≢ Err CliFault.Read → R.failures reader.new ≡ R.failures reader.old }
     ensures writer_failed { result ≢ Err CliFault.Write → W.failures writer.new ≡ W.failures writer.old }
 
-    // After a failed write a front of the text went out, after another fault nothing.
+    // After `Write`, a prefix of the text was written; after another fault, nothing.
     ensures front { IsErrOf result CliFault.Write → IfSome (R.remaining reader.old) (λ input.
         AppendsFront (W.contents writer.old) (W.contents writer.new) (output_of input)) }
     ensures nothing { IfErr result (λ fault. fault ≢ CliFault.Write

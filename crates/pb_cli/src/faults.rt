@@ -1,22 +1,24 @@
+//! How a call ended: its status, or its fault.
+
 ghost use Rattle.std.specs.Prelude.{◌≡◌};
 ghost use Rattle.pb_cli.specs.declared.faults.CliFault.TheVariants.{NoMemory};
 
 use std::alloc::{AllocError, AllocFailed};
 use thiserror::Error;
 
-/// How a call ended that wrote its whole text: the program's exit statuses 0 and 1.
+/// The status of a call that wrote its whole text: the program's exit statuses 0 and 1.
 #[derive(Clone, Copy, Debug, PartialEq, Eq)]
 pub enum Status {
-    /// Nothing was refused: 0.
+    /// Exit status 0: nothing was refused.
     Done,
-    /// Something that was read is refused, as the text says: 1.
+    /// Exit status 1: some of the input was refused; the text says what.
     Refused,
 }
 
 impl Status {
     ghost use Rattle.pb_cli.specs.Statuses.{status_of};
 
-    /// How a call ended, by whether what it wrote tells of a refusal.
+    /// The status of a call, by whether its text reports a refusal.
     pub(crate) fn of(is_refused: bool) -> Status
         ensures { result ≡ status_of is_refused }
     {
@@ -28,17 +30,16 @@ impl Status {
     }
 }
 
-/// Why a call did not write its whole text. Shown, it is the program's words for it.
+/// Why a call did not write its whole text. `Display` gives the program's words for it.
 #[derive(Clone, Copy, Debug, PartialEq, Eq, Error)]
 pub enum CliFault {
-    /// The reader failed, or the limit of 2,097,152 read calls is reached. Nothing was written.
+    /// The reader failed, or the limit of 2,097,152 read calls was reached. Nothing was written.
     #[error("read fault")]
     Read,
     /// The input has more than 1,048,576 bytes. Nothing was written.
     #[error("input too long")]
     TooLong,
-    /// The writer failed, or answered an interruption more than 1,000 times in a row. A front of
-    /// the text was written.
+    /// The writer failed, or was interrupted more than 1,000 times in a row. A prefix of the text was written.
     #[error("write fault")]
     Write,
     /// Memory was refused. Nothing was written.

@@ -1,10 +1,10 @@
 //! What the program `ringplay` does, over any reader and writer.
 //!
-//! [`ask`] reads the program's words, [`decode_lines`] turns lines of hex into lines of text, [`play`]
-//! plays a scenario file with some workers, [`audit_file`] judges its run, and [`bounds_file`] tells the bounds of its bus. The contracts name the bytes: what is
-//! written is a stated function of what is read, and `Read`, `TooLong` and `Write` come only where their cause is.
-//! [`Source`] and [`Sink`] are what is read from and written to; [`CountedReader`] and [`CountedWriter`] make them of
-//! any reader and writer of std.
+//! [`ask`] reads the program's words, [`decode_lines`] decodes lines of hex, [`play`] plays a scenario file with some
+//! workers, [`audit_file`] judges its run, and [`bounds_file`] computes the bounds of its bus. The contracts name the bytes:
+//! what is written is a stated function of what is read, and `Read`, `TooLong` and `Write` are returned only if their
+//! cause is there. A [`Source`] is read from and a [`Sink`] is written to; [`CountedReader`] and [`CountedWriter`] make
+//! them from any reader and writer of std.
 #![tactic(auto)]
 
 mod answers;

@@ -1,4 +1,4 @@
-//! The run of a scenario file.
+//! `ringplay run` over any reader and writer.
 
 ghost use Rattle.std.specs.Prelude.{◌≡◌, ◌≢◌, ◌≤◌, ◌<◌, ◌+◌, length, Err, IfOk, IfErr, OnOk, IfSome, IsErrOf};
 ghost use Rattle.std.specs.Io.KnownBytes.{Keeps};
@@ -27,20 +27,20 @@ pub const MOST_WORKERS: usize = 64;
 /// The most last lines that may be asked for.
 pub const MOST_LINES: usize = 10_000;
 
-/// How many events are many: the memory of a history of fewer is sooner given back than a thread is made.
+/// Below this many events, freeing in place is cheaper than spawning a thread.
 const MANY: usize = 4096;
 
-/// Reads a scenario file to the end of the reader, plays the scenario with some workers, the first of them in the
-/// caller's thread, and writes its trace, or the last lines of it; where the file or the run is refused, the line of
-/// the fault. The trace is that of the run on one thread, whatever the number of workers. The whole text is made before
-/// the first write. After a long run by several workers a thread of its own gives the run's memory back, also after this
-/// call.
+/// Reads a scenario file until the reader ends, plays the scenario with some workers, the first of them in the caller's
+/// thread, and writes its trace or the last lines of it. If the file or the run is refused, it writes the line of the
+/// fault instead. The trace is that of the run on one thread, whatever the number of workers. The whole text is made
+/// before the first write. After a long run with several workers, a separate thread frees the run's memory and may
+/// outlive this call.
 ///
-/// `workers`, 1 to 64, is the number of taps where it isn't given (1 where there is no tap, 64 at most); `last` is 1 to
-/// 10,000. At `Ok` the writer holds that text, and the status is `Refused` exactly where it is the line of a fault.
-/// Faults: `Read` where the reader failed, or all 2,097,152 read calls were made and at least half of them were
-/// interrupted; `TooLong` for a file of more than 1,048,576 bytes; `Write` where the writer failed, or was interrupted
-/// 1,001 times in a row; `NoMemory`. After `Write` a front of the text went out, after the other faults nothing.
+/// `workers` is 1 to 64; without it there are as many workers as taps, at least 1 and at most 64. `last` is 1 to
+/// 10,000. On `Ok` the writer holds that text, and the status is `Refused` exactly if the text is the line of a fault.
+/// Faults: `Read` if the reader failed, or all 2,097,152 read calls were made and at least half of them were
+/// interrupted; `TooLong` for a file of more than 1,048,576 bytes; `Write` if the writer failed, or was interrupted
+/// 1,001 times in a row; `NoMemory`. After `Write`, a prefix of the text was written; after another fault, nothing.
 pub fn play<T: Threads + Wait + Sync, R: Source, W: Sink>(
     rt: &T,
     alloc: Global,
@@ -59,7 +59,7 @@ pub fn play<T: Threads + Wait + Sync, R: Source, W: Sink>(
         → IfSome (R.remaining reader.old) (λ file. length file ≤ byte_limit) }
     ensures calls { R.calls reader.new ≤ R.calls reader.old + call_limit }
 
-    // A fault comes only where its cause is.
+    // Each fault is returned only if its cause is there.
     ensures read { IsErrOf result CliFault.Read
         → IsReadCause (R.failures reader.old) (R.failures reader.new)
         (R.calls reader.old) (R.calls reader.new) (R.interruptions reader.old) (R.interruptions reader.new) }
@@ -69,11 +69,11 @@ pub fn play<T: Threads + Wait + Sync, R: Source, W: Sink>(
         → IsWriteCause (W.failures writer.old) (W.failures writer.new)
         (W.interruptions writer.old) (W.interruptions writer.new) (W.in_a_row writer.new) }
 
-    // A failure of the reader or of the writer is told.
+    // A failure of the reader or of the writer is always reported.
     ensures reader_failed { result ≢ Err CliFault.Read → R.failures reader.new ≡ R.failures reader.old }
     ensures writer_failed { result ≢ Err CliFault.Write → W.failures writer.new ≡ W.failures writer.old }
 
-    // After a failed write a front of the text went out, after another fault nothing.
+    // After `Write`, a prefix of the text was written; after another fault, nothing.
     ensures front { IsErrOf result CliFault.Write → IfSome (R.remaining reader.old) (λ file.
         WritesFrontOfRun file workers last (W.contents writer.old) (W.contents writer.new)) }
     ensures nothing { IfErr result (λ fault. fault ≢ CliFault.Write
@@ -85,7 +85,7 @@ pub fn play<T: Threads + Wait + Sync, R: Source, W: Sink>(
     Ok(Status::of(shown.is_refused))
 }
 
-/// What is written for the run of a scenario file.
+/// The text of the run of a scenario file.
 fn played<T: Threads + Wait + Sync>(
     rt: &T,
     alloc: Global,
@@ -102,8 +102,7 @@ fn played<T: Threads + Wait + Sync>(
     }
 }
 
-/// How many workers there are: one for each tap where no number is asked for, at least one, and no more than a fleet
-/// may have.
+/// The number of workers: as asked for, else one for each tap, at least 1 and at most 64.
 fn crew_of(workers: Option<usize>, scenario: &Scenario) -> usize
     requires { IsUpTo worker_limit workers }
     ensures count { result ≡ crew_of workers (length scenario.now.scenario.taps) }
@@ -115,7 +114,7 @@ fn crew_of(workers: Option<usize>, scenario: &Scenario) -> usize
     }
 }
 
-/// What is written for the run of a scenario by some workers.
+/// The text of the run of a scenario by some workers.
 fn played_scenario<T: Threads + Wait + Sync>(
     rt: &T,
     alloc: Global,
@@ -137,7 +136,7 @@ fn played_scenario<T: Threads + Wait + Sync>(
     }
 }
 
-/// Gives the memory of what is no longer wanted back: aside, in a thread that nobody waits for, if one can be made.
+/// Frees a value: if `aside`, in a detached thread, if one can be spawned.
 fn let_go<T: Threads, U: Send + Drop + 'static>(rt: &T, aside: bool, unwanted: U) {
     if aside {
         drop(thread::spawn(rt, move || drop(unwanted)));

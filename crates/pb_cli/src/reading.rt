@@ -1,3 +1,5 @@
+//! Reads a whole input within limits.
+
 ghost use Rattle.std.specs.Prelude.{◌≡◌, ◌≢◌, ◌≤◌, ◌<◌, ◌+◌, length, vec_len, Err, IfOk, IfSome, IsErrOf};
 ghost use Rattle.pb_cli.specs.Reading.{byte_limit, call_limit, IsReadCause};
 
@@ -8,15 +10,15 @@ use std::alloc::Global;
 /// The most bytes that an input may have.
 pub const INPUT_LIMIT: usize = 1_048_576;
 
-/// The most read calls that are made for one input.
+/// The most read calls for one input.
 pub const READ_CALLS: u32 = 2_097_152;
 
 const BUFFER_LENGTH: usize = 4096;
 
-/// All that the reader has. An interrupted read is tried again, and counts as a call.
+/// Reads until the reader ends. An interrupted read is tried again, and counts as a call.
 ///
-/// Faults: `Read` where the reader failed, or all `READ_CALLS` calls were made and at least half of them were
-/// interrupted; `TooLong` where it has more than `INPUT_LIMIT` bytes; `NoMemory`.
+/// Faults: `Read` if the reader failed, or all `READ_CALLS` calls were made and at least half of them were interrupted;
+/// `TooLong` if it has more than `INPUT_LIMIT` bytes; `NoMemory`.
 pub fn read_input<R: Source>(alloc: Global, reader: &mut R) -> Result<Vec<u8>, CliFault>
     ensures whole { IfOk result (λ input. IfSome (R.remaining reader.old) (λ bytes. input.items ≡ bytes)) }
     ensures fits { IfOk result (λ input. vec_len input ≤ byte_limit) }

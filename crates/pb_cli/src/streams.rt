@@ -1,4 +1,4 @@
-//! What calls read from and write to: streams that count how often they fail.
+//! Traits for what calls read from and write to: streams that count how often they fail.
 
 ghost use Rattle.std.specs.Prelude.{◌≡◌, ◌≤◌, ◌<◌, ℕ, List, Option, length, IfOk};
 ghost use Rattle.std.specs.Io.KnownBytes.{ReadConsumes, WriteAppends};
@@ -9,7 +9,7 @@ use thiserror::Error;
 /// Why a read gave no bytes.
 #[derive(Clone, Copy, Debug, PartialEq, Eq, Error)]
 pub enum ReadFault {
-    /// It was interrupted, and may be tried again.
+    /// The call was interrupted, and may be tried again.
     #[error("interrupted")]
     Interrupted,
     /// The reader failed.
@@ -20,7 +20,7 @@ pub enum ReadFault {
 /// Why a write took no bytes.
 #[derive(Clone, Copy, Debug, PartialEq, Eq, Error)]
 pub enum WriteFault {
-    /// It was interrupted, and may be tried again.
+    /// The call was interrupted, and may be tried again.
     #[error("interrupted")]
     Interrupted,
     /// The writer failed, or took none of the bytes.
@@ -28,11 +28,11 @@ pub enum WriteFault {
     Failed,
 }
 
-/// What a call reads from: a reader that says how often it was called and has failed.
+/// What a call reads from: a reader that counts its calls, interruptions and failures.
 ///
-/// A count stays at 2^64 - 1.
+/// A count saturates at 2^64 - 1.
 pub trait Source {
-    // The bytes that reads will give from here on, where they are known.
+    // The bytes that reads will give from here on, if they are known.
     ghost remaining: { Self → Option (List ℕ) };
     // How many read calls were made.
     ghost calls: { Self → ℕ };
@@ -41,8 +41,7 @@ pub trait Source {
     // How many of them failed; an interruption is no failure.
     ghost failures: { Self → ℕ };
 
-    /// Reads some bytes into the front of `buffer`, and says how many: 0 only at the end, or where
-    /// the buffer is empty.
+    /// Reads some bytes into the front of `buffer`, and returns how many: 0 only at the end or if the buffer is empty.
     fn read(&mut self, buffer: &mut [u8]) -> Result<usize, ReadFault>
         ensures bound { IfOk result (λ count. count ≤ length buffer.new) }
         ensures bytes { ReadConsumes (remaining self.old) (remaining self.new) result buffer.new }
@@ -51,20 +50,20 @@ pub trait Source {
         ensures failures { failures self.new ≡ read_failures (failures self.old) result };
 }
 
-/// What a call writes to: a writer that says how often it was interrupted and has failed.
+/// What a call writes to: a writer that counts its interruptions and failures.
 ///
-/// A count stays at 2^64 - 1.
+/// A count saturates at 2^64 - 1.
 pub trait Sink {
-    // The bytes that the writer holds, where they are known.
+    // The bytes that the writer holds, if they are known.
     ghost contents: { Self → Option (List ℕ) };
     // How many write calls were interrupted.
     ghost interruptions: { Self → ℕ };
-    // How many of them one behind the other, up to the last call.
+    // How many consecutive calls were interrupted, up to the last call.
     ghost in_a_row: { Self → ℕ };
     // How many write calls failed.
     ghost failures: { Self → ℕ };
 
-    /// Writes a front of `bytes`, and says how many it took: at least one, unless there are none.
+    /// Writes a prefix of `bytes`, and returns its length: at least one, unless `bytes` is empty.
     fn write(&mut self, bytes: &[u8]) -> Result<usize, WriteFault>
         ensures bound { IfOk result (λ count. count ≤ length bytes.now) }
         ensures some { IfOk result (λ count. 0 < length bytes.now → 0 < count) }

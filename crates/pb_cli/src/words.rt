@@ -1,4 +1,4 @@
-//! What the program may be asked.
+//! What the program's words may ask for.
 
 ghost use Rattle.std.specs.Prelude.{◌≡◌};
 ghost use Rattle.pb_cli.specs.declared.words.AskFault.TheVariants.{NoMemory};
@@ -17,7 +17,7 @@ pub enum Ask {
         file: String,
         /// How many workers play it, 1 to 64.
         workers: Option<usize>,
-        /// How many of the last lines are wanted, 1 to 10,000.
+        /// How many of the last lines to print, 1 to 10,000.
         last: Option<usize>,
     },
     /// Judge the run of a scenario file.
@@ -38,19 +38,19 @@ pub enum Ask {
     Version,
 }
 
-/// What the program is asked, and how much it says.
+/// What the program is asked to do, and how much it prints.
 #[derive(Debug, PartialEq, Eq, Drop)]
 pub struct Asked {
     /// What to do.
     pub ask: Ask,
-    /// Whether hints and warnings are left out.
+    /// Whether hints and warnings are suppressed.
     pub is_quiet: bool,
 }
 
-/// Why the program's words ask for nothing that it can do.
+/// Why the program's words cannot be obeyed.
 #[derive(Debug, Drop, Error)]
 pub enum AskFault {
-    /// The words make no sense, or ask for help: the text that says what to write.
+    /// The words make no sense, or ask for help. The text is the usage to show.
     #[error("{0}")]
     Usage(String),
     /// Memory was refused.

@@ -1,3 +1,5 @@
+//! Writes a whole text.
+
 ghost use Rattle.std.specs.Prelude.{◌≡◌, ◌≢◌, ◌≤◌, ◌<◌, length, take, Err, IfOk, IfErr, OnOk, IsOk, OnErr, IfSome, IsErrOf};
 ghost use Rattle.std.specs.Io.KnownBytes.{Appends, Keeps};
 ghost use Rattle.pb_cli.specs.Counts.{GrowsBy};
@@ -6,13 +8,13 @@ ghost use Rattle.pb_cli.specs.Writing.{AppendsFront, IsWriteCause};
 use crate::faults::CliFault;
 use crate::streams::{Sink, WriteFault};
 
-/// How often in a row an interrupted write is tried again.
+/// How many times in a row an interrupted write is tried again.
 pub const RETRIES_IN_A_ROW: u32 = 1000;
 
-/// Writes all of the text.
+/// Writes the whole text.
 ///
-/// Fault: `Write` where the writer failed, or was interrupted `RETRIES_IN_A_ROW` + 1 times in a
-/// row; a front of the text was written then.
+/// Fault: `Write` if the writer failed, or was interrupted `RETRIES_IN_A_ROW` + 1 times in a row. Then a prefix of the
+/// text was written.
 pub fn write_out<W: Sink>(writer: &mut W, text: &[u8]) -> Result<(), CliFault>
     ensures whole { OnOk result (Appends (W.contents writer.old) (W.contents writer.new) text.now) }
     ensures front { OnErr result (AppendsFront (W.contents writer.old) (W.contents writer.new) text.now) }
@@ -28,7 +30,7 @@ pub fn write_out<W: Sink>(writer: &mut W, text: &[u8]) -> Result<(), CliFault>
     Ok(())
 }
 
-/// Writes a front of the bytes, of which there are some, and says how many it took: at least one.
+/// Writes a prefix of `bytes`, which are not empty, and returns its length: at least one.
 fn write_some<W: Sink>(writer: &mut W, bytes: &[u8]) -> Result<usize, CliFault>
     requires { 0 < length bytes.now }
     ensures some { IfOk result (λ count. 0 < count) }

@@ -1,4 +1,4 @@
--- What a whole telegram, or none, brings.
+-- The arrival of a whole telegram, or of none.
 use Rattle.std.specs.Prelude.{Bool, true, false, [], Option, Some, None}
 use Rattle.pb_messages.specs.Messages.{has_bit}
 use Rattle.pb_telegram.specs.declared.telegrams.Telegram.{Telegram}

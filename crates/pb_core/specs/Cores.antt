@@ -1,4 +1,4 @@
--- The core of a station as a turn says it.
+-- The core of a station as the plain data of a turn.
 use Rattle.std.specs.Prelude.{◌≡◌, Option, IsSome}
 use Rattle.std.specs.Option.{option_map}
 use Rattle.pb_rotation.specs.Rotation.{Receipt}
@@ -11,7 +11,7 @@ use Rattle.pb_core.specs.declared.cores.Kept.{Kept}
 use Rattle.pb_core.specs.Cycles.{cycles_of}
 use Rattle.pb_core.specs.Replies.{reply_of}
 
--- what a station keeps, with the requests that wait, and a phase
+-- what a station keeps, with its waiting requests and a phase
 abbrev pub station_with : Kept → Queued → turn.Phase → turn_station.Station
 station_with k queue phase = record {
   address = k.address;
@@ -29,7 +29,7 @@ station_with k queue phase = record {
 abbrev pub station_of : Core → turn_station.Station
 station_of c = station_with c.kept c.waiting (phase_of c.phase)
 
--- what becomes of a station, whatever requests wait: what it keeps and its phase, before and after
+-- how a station changes, whatever requests wait: what it keeps and its phase, before and after
 abbrev pub Becomes : (turn_station.Station → turn_station.Station) → Kept → turn.Phase → Kept → turn.Phase → Type 0
 Becomes change before phase after next = (queue : Queued) → station_with after queue next ≡ change (station_with before queue phase)
 

@@ -1,4 +1,4 @@
--- The message cycles of a station as a turn says them.
+-- The message cycles of a station as the plain data of a turn.
 use Rattle.std.specs.Prelude.{◌≡◌}
 use Rattle.pb_messages.specs.Queued.{Queued}
 use Rattle.pb_turn.specs.Stations as turn
@@ -8,6 +8,6 @@ use Rattle.pb_core.specs.declared.cycles.Cycles.{Cycles}
 abbrev pub cycles_of : Cycles → Queued → turn.Cycles
 cycles_of c queue = record { queue = queue; initiator = c.initiator; responder = c.responder; last_outcome = c.last_outcome }
 
--- what becomes of message cycles, whatever requests wait
+-- how message cycles change, whatever requests wait
 abbrev pub CyclesBecome : (turn.Cycles → turn.Cycles) → Cycles → Cycles → Type 0
 CyclesBecome change before after = (queue : Queued) → cycles_of after queue ≡ change (cycles_of before queue)

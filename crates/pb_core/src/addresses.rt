@@ -1,6 +1,8 @@
+//! The address of a station.
+
 use std::marker::Model;
 
-/// The address of a station, 0 to 126: a number in every clause.
+/// The address of a station, 0 to 126. In contracts it is a number.
 #[derive(Clone, Copy, Debug, PartialEq, Eq)]
 pub struct Address {
     number: u8,
@@ -21,7 +23,7 @@ impl Model for Address {
 impl Address {
     ghost use Rattle.std.specs.Prelude.{◌≡◌, ◌≤◌};
 
-    /// The address of a station, 0 to 126.
+    /// The address with this number. The caller ensures that it is at most 126.
     pub fn new(number: u8) -> Address
         requires { number ≤ 126 }
         ensures { result ≡ number }
@@ -29,7 +31,7 @@ impl Address {
         Address { number }
     }
 
-    /// Its number, 0 to 126.
+    /// The number of the address, 0 to 126.
     pub fn get(self) -> u8
         ensures value { result ≡ self }
         ensures bound { self ≤ 126 }

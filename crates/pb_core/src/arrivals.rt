@@ -1,3 +1,5 @@
+//! Reads the telegram that a burst brings, quickly if it is a common one.
+
 ghost use Rattle.std.specs.Prelude.{◌≡◌, ◌+◌, ◌∷◌, ◌++◌, [], List, true, false, length, map, slice_index, IfSome};
 ghost use Rattle.pb_turn.specs.Arrivals as turn;
 ghost use Rattle.pb_telegram.specs.Faults.{is_token, da_place};
@@ -17,7 +19,7 @@ use pb_telegram::{
     spelled_unit_is_the_telegrams, what_is_spelled_has_no_fault,
 };
 
-/// The telegram that the characters of a burst bring; none where they are not one that is whole.
+/// The telegram that the characters of a burst spell; `None` if they spell none.
 pub fn whole_telegram(chars: &[RxChar]) -> Option<Telegram>
     ensures { brings result ≡ turn.arrival_of chars.now }
 {
@@ -27,9 +29,9 @@ pub fn whole_telegram(chars: &[RxChar]) -> Option<Telegram>
     }
 }
 
-/// The same, read as octets where no character is damaged.
+/// Reads characters as octets if none is damaged, else by a receiver.
 ///
-/// Its call is never put in place: who hears noise would make room for octets.
+/// Never inlined: else the frame of a caller that hears noise has room for octets.
 #[inline(never)]
 fn read_as_octets(chars: &[RxChar]) -> Option<Telegram>
     ensures { brings result ≡ turn.arrival_of chars.now }
@@ -40,10 +42,10 @@ fn read_as_octets(chars: &[RxChar]) -> Option<Telegram>
     }
 }
 
-/// The telegram of octets that all came good. Most telegrams are read at once, and a receiver is asked about the
-/// others.
+/// The telegram of undamaged octets; `None` if they spell none. Most telegrams are read directly, and the others by a
+/// receiver.
 ///
-/// Its call is never put in place: who hears a token would make room for a unit.
+/// Never inlined: else the frame of a caller that hears a token has room for a unit.
 #[inline(never)]
 pub fn spelled_telegram(octets: &[u8]) -> Option<Telegram>
     ensures { brings result ≡ turn.arrival_of (map Good octets.now) }
@@ -65,8 +67,8 @@ pub fn spelled_telegram(octets: &[u8]) -> Option<Telegram>
     received_octets(octets)
 }
 
-/// Whether octets that all came good are for neither the station `ts` nor all, and no token: by their destination, with
-/// nothing else read of them. Where it can't tell it says no.
+/// Whether undamaged octets are no token and have another destination than the station `ts` and all stations. Only
+/// their destination is read. If it cannot be read, the result is `false`.
 #[tactic(auto, using(crate::proofs::Arriving::arrives_for_others))]
 pub fn is_for_others(octets: &[u8], ts: u8) -> bool
     ensures { result ≡ true → is_for_others ts (turn.arrival_of (map Good octets.now)) ≡ true }
@@ -80,7 +82,7 @@ pub fn is_for_others(octets: &[u8], ts: u8) -> bool
     }
 }
 
-/// The destination of octets that begin as those of a telegram with a control octet, and go on so far.
+/// The destination of octets that begin like a telegram with a control octet and include it.
 fn destination(octets: &[u8]) -> Option<u8>
     ensures { IfSome result (λ da. (is_token octets.now ≡ false)
         × (da ≡ slice_index octets.now (da_place octets.now))) }
@@ -92,7 +94,7 @@ fn destination(octets: &[u8]) -> Option<u8>
     }
 }
 
-/// The token that characters spell, read at once: most telegrams are tokens.
+/// The token that characters spell. Most telegrams are tokens, so this is read directly.
 pub fn token_in(chars: &[RxChar]) -> Option<TokenTelegram>
     ensures { IfSome result (λ t. turn.Token t.da t.sa ≡ turn.arrival_of chars.now) }
 {
@@ -106,7 +108,7 @@ pub fn token_in(chars: &[RxChar]) -> Option<TokenTelegram>
     }
 }
 
-/// The token that octets spell which all came good, likewise.
+/// The token that undamaged octets spell.
 pub fn spelled_token(octets: &[u8]) -> Option<TokenTelegram>
     ensures { IfSome result (λ t. turn.Token t.da t.sa ≡ turn.arrival_of (map Good octets.now)) }
 {
@@ -116,7 +118,7 @@ pub fn spelled_token(octets: &[u8]) -> Option<TokenTelegram>
     }
 }
 
-/// The token with two addresses, where they are stations'.
+/// The token with two addresses, if both are those of stations.
 fn token_of(da: u8, sa: u8) -> Option<TokenTelegram>
     ensures { IfSome result (λ t. turn.Token t.da t.sa
         ≡ turn.arrival_of (Good 220 ∷ Good da ∷ Good sa ∷ [])) }
@@ -137,7 +139,7 @@ fn short_in(octets: &[u8]) -> Option<ShortTelegram>
     }
 }
 
-/// The telegram with these octets between its delimiters, where they are a telegram's.
+/// The telegram with these octets between its delimiters, if they are valid.
 fn short_of(da: u8, sa: u8, fc: u8, check: u8) -> Option<ShortTelegram>
     ensures { IfSome result (λ t. sd1 ∷ da ∷ sa ∷ fc ∷ check ∷ ed ∷ [] ≡ spelling (Short t)) }
 {
@@ -171,7 +173,7 @@ fn var_in(octets: &[u8]) -> Option<VarTelegram>
     }
 }
 
-/// The telegram with these octets and this unit between its delimiters, where they are a telegram's.
+/// The telegram with these octets and this unit between its delimiters, if they are valid.
 #[inline(always)]
 fn var_of(da: u8, sa: u8, fc: u8, unit: &[u8], check: u8) -> Option<VarTelegram>
     ensures { IfSome result (λ t. sd2 ∷ (length unit.now + 3) ∷ (length unit.now + 3) ∷ sd2 ∷ da ∷ sa ∷ fc
@@ -191,8 +193,7 @@ fn var_of(da: u8, sa: u8, fc: u8, unit: &[u8], check: u8) -> Option<VarTelegram>
     })
 }
 
-/// The octets of characters, where none is damaged and they are no more than the longest telegram's; most are taken
-/// four at a time, for speed.
+/// The octets of characters, if none is damaged and there are at most 255. Most are copied four at a time, for speed.
 fn octets_of(chars: &[RxChar]) -> Option<ArrayVec<u8, 255>>
     ensures { IfSome result (λ octets. chars.now ≡ map Good octets.items) }
 {
@@ -224,7 +225,7 @@ fn octets_of(chars: &[RxChar]) -> Option<ArrayVec<u8, 255>>
     Some(octets)
 }
 
-/// The telegram that a receiver makes of characters.
+/// The telegram of characters, read by a receiver.
 #[inline(never)]
 fn received(chars: &[RxChar]) -> Option<Telegram>
     ensures { brings result ≡ turn.arrival_of chars.now }
@@ -236,7 +237,7 @@ fn received(chars: &[RxChar]) -> Option<Telegram>
     telegram_of(receiver)
 }
 
-/// The telegram that a receiver makes of octets that all came good.
+/// The telegram of undamaged octets, read by a receiver.
 fn received_octets(octets: &[u8]) -> Option<Telegram>
     ensures { brings result ≡ turn.arrival_of (map Good octets.now) }
 {
@@ -247,7 +248,7 @@ fn received_octets(octets: &[u8]) -> Option<Telegram>
     telegram_of(receiver)
 }
 
-/// The telegram of the characters that came to a receiver.
+/// The telegram of the characters that a receiver was fed.
 fn telegram_of(receiver: Receiver) -> Option<Telegram>
     ensures { (chars : List RxChar) → StandsFor receiver chars → brings result ≡ turn.arrival_of chars }
 {

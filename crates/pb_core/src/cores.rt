@@ -1,3 +1,5 @@
+//! The core of a station: all of it that a turn changes.
+
 ghost use Rattle.std.specs.Prelude.{◌≡◌, ◌≤◌, Some};
 ghost use Rattle.pb_core.specs.Clocks.{last_end};
 
@@ -12,11 +14,11 @@ use pb_telegram::{copy_octets, put_octets};
 use pb_timers::Moment;
 use pb_tokenfsm::Phase;
 
-/// What a station keeps beside its phase and the requests that wait.
+/// What a station keeps besides its phase and the waiting requests.
 #[derive(Debug, Drop)]
 pub struct Kept {
     pub address: Address,
-    /// From a Begin to its End.
+    /// Whether a Begin was read and its End was not.
     pub busy: bool,
     pub past: Past,
     pub reply: Option<Reply>,
@@ -46,7 +48,7 @@ impl Reply {
         }
     }
 
-    /// Becomes equal to another, in the room that it has.
+    /// Overwrites this reply by another, in place.
     fn copy_from(&mut self, other: &Reply)
         ensures { self.new ≡ other.now }
     {
@@ -57,14 +59,14 @@ impl Reply {
 }
 
 impl Kept {
-    /// When the own last telegram began.
+    /// When the station's own last telegram began.
     pub fn own_begin(&self) -> Moment
         ensures { result ≡ self.now.past.begin }
     {
         self.past.begin
     }
 
-    /// When it ended.
+    /// When the station's own last telegram ended.
     pub fn own_end(&self) -> Moment
         ensures value { result ≡ self.now.past.end }
         ensures bound { result ≤ last_end }
@@ -72,7 +74,7 @@ impl Kept {
         self.past.end.get()
     }
 
-    /// Becomes equal to another, in the room that it has.
+    /// Overwrites this value by another, in place.
     fn copy_from(&mut self, other: &Kept)
         ensures { self.new ≡ other.now }
     {
@@ -88,7 +90,7 @@ impl Kept {
         self.cycles.copy_from(&other.cycles);
     }
 
-    /// The same.
+    /// An equal value.
     pub fn copy(&self) -> Kept
         ensures { result ≡ self.now }
     {
@@ -106,7 +108,7 @@ impl Kept {
 }
 
 impl Core {
-    /// Becomes equal to another, in the room that it has.
+    /// Overwrites this core by another, in place.
     pub fn copy_from(&mut self, other: &Core)
         ensures { self.new ≡ other.now }
     {
@@ -116,7 +118,7 @@ impl Core {
     }
 }
 
-/// Becomes what another is. It is a call of its own since seldom a reply waits, and its room is then not moved.
+/// Slow path of `Kept::copy_from`, kept out of line: usually no reply waits, and its octets then need not be moved.
 #[inline(never)]
 fn copy_reply(reply: &mut Option<Reply>, other: &Option<Reply>)
     ensures { reply.new ≡ other.now }
@@ -127,7 +129,7 @@ fn copy_reply(reply: &mut Option<Reply>, other: &Option<Reply>)
     }
 }
 
-/// The same reply waits.
+/// Copies a waiting reply, in place if one waits already.
 fn put_reply(reply: &mut Option<Reply>, waits: &Reply)
     ensures { reply.new ≡ Some waits.now }
 {

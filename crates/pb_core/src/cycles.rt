@@ -1,4 +1,4 @@
-//! What a station keeps of its message cycles.
+//! What a station keeps of its message cycles: initiator, responder and last outcome.
 
 ghost use Rattle.std.specs.Prelude.{◌≡◌, [], is_some, Some, None};
 ghost use Rattle.pb_messages.specs.Messages.{message_of};
@@ -12,16 +12,16 @@ use pb_cycles::{Initiator, Outcome, Responder};
 use pb_telegram::Telegram;
 use pb_timers::BusParams;
 
-/// What a station keeps of its message cycles, beside the requests that wait.
+/// What a station keeps of its message cycles, besides the waiting requests.
 #[derive(Debug, Drop)]
 pub struct Cycles {
     pub initiator: Initiator,
     pub responder: Responder,
-    /// The station of the last cycle that had an outcome, and that.
+    /// The last outcome, with the station to which that request was sent.
     pub last_outcome: Option<(u8, Outcome)>,
 }
 
-/// The same outcome, with its station.
+/// A copy of the last outcome with its station.
 pub fn copy_outcome(last: &Option<(u8, Outcome)>) -> Option<(u8, Outcome)>
     ensures { result ≡ last.now }
 {
@@ -31,7 +31,7 @@ pub fn copy_outcome(last: &Option<(u8, Outcome)>) -> Option<(u8, Outcome)>
     }
 }
 
-/// The open request is given up, as nobody answered it.
+/// Closes the open request, which was not answered.
 #[tactic(auto, using(crate::proofs::Closing::last_of))]
 pub fn give_up(cycles: &mut Cycles)
     ensures { CyclesBecome (λ c. cycle_closed c None) cycles.old cycles.new }
@@ -41,7 +41,8 @@ pub fn give_up(cycles: &mut Cycles)
     keep_outcome(&mut cycles.last_outcome, of, outcome);
 }
 
-/// A telegram is heard: its outcome, if it is a reply to the open request, which is answered then.
+/// Hears a telegram, and returns whether it is a reply to the open request. If so, the request is closed with its
+/// outcome.
 #[tactic(auto, using(crate::proofs::Closing::last_of))]
 pub fn hear(cycles: &mut Cycles, telegram: &Telegram) -> bool
     ensures answered { result ≡ is_some (outcome_of cycles.old.initiator (Some (message_of telegram.now))) }
@@ -56,7 +57,7 @@ pub fn hear(cycles: &mut Cycles, telegram: &Telegram) -> bool
 }
 
 impl Cycles {
-    /// Nothing was sent or heard yet.
+    /// The message cycles of a station that has sent and heard nothing. `reply` is its data for an SRD.
     pub fn new(params: &BusParams, reply: ArrayVec<u8, 246>) -> Cycles
         ensures { cycles_of result (record { high = []; low = [] }) ≡ new_cycles params.now reply.items }
     {
@@ -67,7 +68,7 @@ impl Cycles {
         }
     }
 
-    /// Becomes equal to others, in the room that it has.
+    /// Overwrites these message cycles by others, in place.
     pub fn copy_from(&mut self, other: &Cycles)
         ensures { self.new ≡ other.now }
     {
@@ -90,7 +91,8 @@ impl Cycles {
     }
 }
 
-/// Becomes what another is. It is a call of its own since often there is none, and its room is then not moved.
+/// Slow path of `Cycles::copy_from`, kept out of line: often there is no outcome, and its octets then need not be
+/// moved.
 #[inline(never)]
 fn become_outcome(last: &mut Option<(u8, Outcome)>, other: &Option<(u8, Outcome)>)
     ensures { last.new ≡ other.now }
@@ -101,7 +103,7 @@ fn become_outcome(last: &mut Option<(u8, Outcome)>, other: &Option<(u8, Outcome)
     }
 }
 
-/// An outcome is the last, with its station.
+/// Stores an outcome with its station as the last one, in place if there is one already.
 fn put_outcome(last: &mut Option<(u8, Outcome)>, of: u8, outcome: &Outcome)
     ensures { last.new ≡ Some (of, outcome.now) }
 {
@@ -114,7 +116,7 @@ fn put_outcome(last: &mut Option<(u8, Outcome)>, of: u8, outcome: &Outcome)
     }
 }
 
-/// An outcome, if there is one, is the last, with its station.
+/// Stores an outcome with its station as the last one, if there is one.
 fn keep_outcome(last: &mut Option<(u8, Outcome)>, of: Option<u8>, outcome: Option<Outcome>)
     ensures { last.new ≡ outcome_at of outcome last.old }
 {

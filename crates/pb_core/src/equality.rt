@@ -15,7 +15,7 @@ impl Core {
     ghost use Rattle.std.specs.Prelude.{◌≡◌, IsTrue, ◌↔◌};
     ghost use Rattle.pb_core.specs.Cores.{station_of};
 
-    /// Whether another is the core of an equal station.
+    /// Whether another core is that of an equal station.
     #[tactic(auto, using(crate::proofs::Equal::same_core))]
     pub fn is_same(&self, other: &Core) -> bool
         ensures { IsTrue result ↔ (station_of self.now ≡ station_of other.now) }

@@ -1,5 +1,5 @@
-//! What a station keeps: its phase, its past, its tables and its message cycles, and what it reads and says of
-//! them. Steps of the phases are in pb_phases.
+//! What a station keeps: its phase, its past, its tables and its message cycles; and what it reads and sends by them.
+//! The steps of the phases are in pb_phases.
 #![tactic(auto)]
 
 mod addresses;

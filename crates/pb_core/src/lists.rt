@@ -1,4 +1,4 @@
-//! Changes of a list of active stations, complete or not.
+//! Updates a list of active stations, whether it is complete or not.
 
 ghost use Rattle.std.specs.Prelude.{◌≡◌, ◌<◌};
 ghost use Rattle.pb_ring.specs.Las.{heard, entered, removed, readied};
@@ -6,14 +6,14 @@ ghost use Rattle.pb_ring.specs.Las.{heard, entered, removed, readied};
 use pb_ring::Las;
 use pb_telegram::TokenTelegram;
 
-/// A token is heard.
+/// Updates the list by a heard token.
 pub fn hear(las: &mut Las, token: &TokenTelegram)
     ensures { las.new ≡ heard las.old token.now.sa token.now.da }
 {
     las.hear(token.sa, token.da);
 }
 
-/// The list after a station has entered it, if it is complete.
+/// The list with a station added; unchanged if it is not complete.
 #[tactic(auto, using(crate::proofs::Incomplete::none_enters))]
 pub fn entered(las: Las, address: u8) -> Las
     requires { address < 127 }
@@ -27,7 +27,7 @@ pub fn entered(las: Las, address: u8) -> Las
     list
 }
 
-/// The list after a station has left it, if it is complete.
+/// The list with a station removed; unchanged if it is not complete.
 #[tactic(auto, using(crate::proofs::Incomplete::none_leaves))]
 pub fn removed(las: Las, address: u8) -> Las
     requires { address < 127 }
@@ -41,7 +41,7 @@ pub fn removed(las: Las, address: u8) -> Las
     list
 }
 
-/// The list after the own station has joined the ring, if it is complete.
+/// The list after the own station has joined the ring; unchanged if it is not complete.
 #[tactic(auto, using(crate::proofs::Incomplete::none_joins))]
 pub fn readied(las: Las, ts: u8) -> Las
     requires { ts < 127 }

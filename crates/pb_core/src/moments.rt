@@ -1,3 +1,5 @@
+//! Moments of the past, and sums of moments that cannot overflow.
+
 ghost use Rattle.std.specs.Prelude.{◌≡◌, ◌≤◌, ◌+◌, max};
 ghost use Rattle.pb_timers.specs.Timers.{last_moment};
 ghost use Rattle.pb_turn.specs.Stations.{earlier};
@@ -6,8 +8,8 @@ ghost use Rattle.pb_core.specs.Clocks.{is_past};
 use pb_timers::{Moment, bits};
 use std::marker::Model;
 
-/// A moment up to which a station was quiet, or spoke: never later than the end of the longest telegram that
-/// is said at the last moment of a turn. So what a timer adds to it is still a [`Moment`].
+/// A moment until which a station was quiet or spoke: at most the end of the longest telegram, sent at the last moment
+/// of a turn. The sum of it and a timer is thus a [`Moment`].
 #[derive(Clone, Copy, Debug, PartialEq, Eq)]
 pub struct PastMoment {
     moment: Moment,
@@ -31,7 +33,7 @@ impl PastMoment {
     ghost use Rattle.pb_timers.specs.Timers as timers;
     ghost use Rattle.pb_core.specs.Clocks.{last_turn, last_end};
 
-    /// The moment of a turn, or one before it.
+    /// The moment of a turn, or an earlier one.
     pub fn at(moment: Moment) -> PastMoment
         requires { moment ≤ last_turn }
         ensures { result ≡ moment }
@@ -39,7 +41,7 @@ impl PastMoment {
         PastMoment { moment }
     }
 
-    /// The end of a telegram of some octets, at most 255, that is said at a moment.
+    /// The end of a telegram of at most 255 octets that is sent at `now`.
     pub fn end_of(now: Moment, octets: usize) -> PastMoment
         requires clock { now ≤ last_turn }
         requires octets { octets ≤ 255 }
@@ -50,7 +52,7 @@ impl PastMoment {
         }
     }
 
-    /// The moment itself, in bit times.
+    /// The moment.
     pub fn get(self) -> Moment
         ensures value { result ≡ self }
         ensures bound { self ≤ last_end }
@@ -70,14 +72,14 @@ impl PastMoment {
     }
 }
 
-/// The moment at which a clock begins.
+/// The moment at which a clock starts.
 pub fn beginning() -> Moment
     ensures { result ≡ 0 }
 {
     Moment::at(0)
 }
 
-/// The earlier of two moments, of which either may be missing.
+/// The earlier of two moments; if one is `None`, the other.
 pub fn earlier(one: Option<Moment>, two: Option<Moment>) -> Option<Moment>
     ensures { result ≡ earlier one two }
 {
@@ -87,8 +89,8 @@ pub fn earlier(one: Option<Moment>, two: Option<Moment>) -> Option<Moment>
     }
 }
 
-/// Whether a moment, if there is one, will have been past for longer than a lag once some bit times have gone by since
-/// the clock.
+/// Whether `moment` will be more than `lag` bit times ago when the clock, now at `now`, is `bits` bit times later.
+/// `None` never is.
 #[inline(always)]
 pub fn is_past(moment: Option<Moment>, lag: u32, now: Moment, bits: u64) -> bool
     ensures { result ≡ is_past lag (now + bits) moment }
@@ -100,7 +102,7 @@ pub fn is_past(moment: Option<Moment>, lag: u32, now: Moment, bits: u64) -> bool
     moment.get() < to.saturating_sub(u64::from(lag))
 }
 
-/// The moment some bit times later, which is not past the last.
+/// The moment `bits` bit times later. The caller ensures that it is not past the last moment.
 pub fn after(moment: Moment, bits: u64) -> Moment
     requires { moment + bits ≤ last_moment }
     ensures { result ≡ moment + bits }

@@ -1,3 +1,5 @@
+//! What a station keeps of its past: until when the bus was busy for it, and its own last telegram.
+
 ghost use Rattle.std.specs.Prelude.{◌≡◌, ◌≤◌, ◌+◌, max};
 ghost use Rattle.pb_timers.specs.Timers.{bits};
 ghost use Rattle.pb_core.specs.Clocks.{last_turn};
@@ -10,14 +12,14 @@ use pb_timers::Moment;
 pub struct Past {
     /// The latest of its start, its last End and the end of its own last telegram.
     pub quiet: PastMoment,
-    /// When its own last telegram began; before it, its start.
+    /// When the station's own last telegram began; if there is none, when the station started.
     pub begin: Moment,
-    /// When its own last telegram ended; before it, its start.
+    /// When the station's own last telegram ended; if there is none, when the station started.
     pub end: PastMoment,
 }
 
 impl Past {
-    /// The past of a station that starts at a moment.
+    /// The past of a station that starts at `now`.
     pub fn started(now: Moment) -> Past
         requires { now ≤ last_turn }
         ensures { result ≡ record { quiet = now; begin = now; end = now } }
@@ -29,7 +31,7 @@ impl Past {
         }
     }
 
-    /// After an end was heard at a moment.
+    /// The past after an end was heard at `at`.
     pub fn heard(self, at: Moment) -> Past
         requires { at ≤ last_turn }
         ensures { result ≡ record self { quiet = max self.quiet at } }
@@ -40,7 +42,7 @@ impl Past {
         }
     }
 
-    /// After a telegram of its own, of some octets, that it said at a moment.
+    /// The past after the station sent a telegram of `octets` octets at `now`.
     pub fn said(self, now: Moment, octets: usize) -> Past
         requires clock { now ≤ last_turn }
         requires octets { octets ≤ 255 }

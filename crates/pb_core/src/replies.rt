@@ -1,3 +1,5 @@
+//! The replies of a station, made when the request is heard and sent later.
+
 ghost use Rattle.std.specs.Prelude.{◌≡◌, ◌≤◌, [], ◌+◌, ◌*◌, false};
 ghost use Rattle.std.specs.Option.{option_map};
 ghost use Rattle.pb_telegram.specs.Grammar.{spelling};
@@ -18,10 +20,10 @@ use pb_timers::{BusParams, Moment};
 /// A reply that is not sent yet.
 #[derive(Debug, PartialEq, Eq, Drop)]
 pub struct Reply {
-    /// When it is sent.
+    /// When the reply is sent.
     pub ready: Moment,
     pub octets: ArrayVec<u8, 255>,
-    /// Whether it says that the station is ready, and takes it into the ring.
+    /// Whether it says that the station is ready. The station then joins the ring by this reply.
     pub joins: bool,
 }
 
@@ -32,9 +34,9 @@ pub enum StationType {
     Passive,
     /// A master that is not ready to enter the ring.
     NotReady,
-    /// One that is ready to enter it.
+    /// A master that is ready to enter the ring.
     Ready,
-    /// One in the ring.
+    /// A master in the ring.
     InRing,
 }
 
@@ -64,10 +66,10 @@ impl StationType {
 /// The function code of Request FDL Status.
 const STATUS_CODE: u8 = 9;
 
-/// The destination address of what goes to all stations.
+/// The destination address for all stations.
 const ALL: u8 = 127;
 
-/// The answer to a telegram that ended at a moment, if it is a request for the station's status.
+/// The reply to a telegram that ended at `at`, if it asks for this station's status.
 pub fn status_answer(
     kept: &Kept,
     params: &BusParams,
@@ -90,8 +92,8 @@ pub fn status_answer(
     })
 }
 
-/// A station of some type answers a telegram that ended at a moment, which it executes, if it is a request
-/// that it has not executed before. Its answer takes the place of a reply that is not sent yet.
+/// Answers a telegram that ended at `at`. A request that the station has not executed before is executed. The answer
+/// replaces a reply that is not sent yet.
 pub fn answer(
     kept: &mut Kept,
     params: &BusParams,
@@ -119,7 +121,7 @@ pub fn answer(
     }
 }
 
-/// Whether a telegram goes to the station `ts`, or to all. Others are not read further.
+/// Whether a telegram is addressed to the station `ts` or to all stations. Others are not read further.
 fn goes_to(telegram: &Telegram, ts: u8) -> bool
     ensures { result ≡ goes_to ts telegram.now }
 {
@@ -129,14 +131,14 @@ fn goes_to(telegram: &Telegram, ts: u8) -> bool
     }
 }
 
-/// Whether a destination is the station `ts`, or all.
+/// Whether a destination is the station `ts` or all stations.
 pub(crate) fn is_for(ts: u8, da: u8) -> bool
     ensures { result ≡ is_for ts da }
 {
     da % 128 == ts || da % 128 == ALL
 }
 
-/// Whether a telegram with this head is a request for the status of the station `ts`.
+/// Whether a telegram with this head asks for the status of the station `ts`.
 fn asks_status(head: Head, ts: u8) -> bool
     ensures { result ≡ asks_status ts (fields_of head) }
 {
@@ -151,7 +153,7 @@ pub fn is_request(telegram: &Telegram) -> bool
     telegram.head().is_some_and(|head| Fc(head.fc).is_request())
 }
 
-/// When the reply to a request is sent that ended at a moment.
+/// When the reply to a request that ended at `at` is sent.
 fn reply_moment(params: &BusParams, at: Moment) -> Moment
     requires { at ≤ last_turn }
     ensures { result ≡ at + params.now.tsdr }
@@ -159,7 +161,7 @@ fn reply_moment(params: &BusParams, at: Moment) -> Moment
     after(at, u64::from(params.tsdr()))
 }
 
-/// The octets of the reply of the station `ts` to the station that asked for its status.
+/// The octets of the reply of the station `ts` to a request for its status.
 fn status_octets(ts: u8, head: Head, station_type: StationType) -> ArrayVec<u8, 255>
     requires { ts ≤ 126 }
     ensures { result.items

@@ -1,14 +1,16 @@
+//! The waiting requests of one priority.
+
 ghost use Rattle.std.specs.Prelude.{◌≡◌, length};
 
 use pb_cycles::Request;
 use std::alloc::{AllocError, Global};
 use std::marker::Model;
 
-/// How many requests of a priority wait at a station at most.
+/// The most requests of one priority that may wait at a station.
 const REQUEST_LIMIT: usize = 16;
 
-/// The requests of a priority that wait at a station, first in first out, with room for all that may wait. The room is
-/// not filled, so that a copy moves the requests that wait and nothing else.
+/// The requests of one priority that wait at a station, first in, first out. Memory for all that may wait is reserved
+/// at the start and not initialized: a copy moves only the requests that wait.
 #[derive(Debug, Drop)]
 pub struct RequestList {
     requests: Vec<Request>,
@@ -30,7 +32,9 @@ impl RequestList {
     ghost use Rattle.std.specs.Prelude.{◌≡◌, ◌≤◌, ◌<◌, [], ◌∷◌, nat_le, length, IfOk, OnOk, OnErr, MatchOption, MatchResult};
     ghost use Rattle.pb_messages.specs.Queued.{put};
 
-    /// None waits. Its fault: memory was refused.
+    /// An empty list.
+    ///
+    /// Fault: memory was refused.
     pub fn new(alloc: Global) -> Result<RequestList, AllocError>
         ensures { IfOk result (λ l. l ≡ []) }
     {
@@ -38,7 +42,7 @@ impl RequestList {
         Ok(RequestList { requests })
     }
 
-    /// The requests of another wait, and none of those that waited.
+    /// Overwrites this list by another, in place.
     #[inline(always)]
     pub fn copy_from(&mut self, other: &RequestList)
         ensures { self.new ≡ other.now }
@@ -48,7 +52,7 @@ impl RequestList {
         }
     }
 
-    /// The same. It is a call of its own since mostly none wait, in neither.
+    /// Slow path of `copy_from`, kept out of line: both lists are usually empty.
     #[inline(never)]
     fn copy_requests(&mut self, other: &RequestList)
         ensures { self.new ≡ other.now }
@@ -61,7 +65,7 @@ impl RequestList {
         }
     }
 
-    /// They all, the one that has waited longest first.
+    /// All waiting requests, the one that has waited longest first.
     pub fn requests(&self) -> &[Request]
         ensures value { result.now ≡ self.now }
         ensures fits { length result.now ≤ 16 }
@@ -69,14 +73,14 @@ impl RequestList {
         &self.requests
     }
 
-    /// Whether as many wait as may wait.
+    /// Whether the list is full.
     pub fn is_full(&self) -> bool
         ensures { result ≡ nat_le 16 (length self.now) }
     {
         self.requests.len() >= REQUEST_LIMIT
     }
 
-    /// Puts a request behind the others, or hands it back where 16 wait.
+    /// Appends a request, or returns it if 16 requests wait.
     pub fn push(&mut self, request: Request) -> Result<(), Request>
         ensures outcome { MatchResult result (λ _. self.new ≡ put self.old request)
             (λ refused. (refused ≡ request) × (self.new ≡ self.old)) }
@@ -90,7 +94,7 @@ impl RequestList {
         Ok(())
     }
 
-    /// Takes the request that has waited longest, if one waits.
+    /// Takes the request that has waited longest; `None` if none waits.
     pub fn take(&mut self) -> Option<Request>
         ensures { MatchOption result ((self.old ≡ []) × (self.new ≡ self.old))
             (λ request. self.old ≡ request ∷ self.new) }
@@ -101,7 +105,7 @@ impl RequestList {
         Some(self.requests.remove(0))
     }
 
-    /// None waits any more.
+    /// Removes all requests.
     pub fn clear(&mut self)
         ensures { self.new ≡ [] }
     {
@@ -109,7 +113,7 @@ impl RequestList {
     }
 }
 
-/// Requests become equal to as many others, in the room that they have.
+/// Overwrites requests by as many others, in place.
 fn copy_over(requests: &mut [Request], others: &[Request])
     requires { length requests.old ≡ length others.now }
     ensures { requests.new ≡ others.now }

@@ -1,9 +1,11 @@
+//! What a station sends in a turn.
+
 use arrayvec::ArrayVec;
 use pb_telegram::Telegram;
 use pb_tokenfsm::Holding;
 use std::marker::Model;
 
-/// What a station sends in a turn, if anything. Its room for octets is used again in each turn.
+/// What a station sends in a turn, if anything. Each turn reuses the buffer for octets.
 #[derive(Debug, Drop)]
 pub struct SendBuffer {
     octets: ArrayVec<u8, 255>,
@@ -23,7 +25,7 @@ impl SendBuffer {
     ghost use Rattle.pb_telegram.specs.Grammar.{spelling};
     ghost use Rattle.pb_telegram.specs.Initiators.{IsInitiator};
 
-    /// Nothing is sent.
+    /// A buffer with nothing to send.
     pub fn new() -> SendBuffer
         ensures { result ≡ None }
     {
@@ -33,14 +35,14 @@ impl SendBuffer {
         }
     }
 
-    /// Nothing is sent.
+    /// Clears the buffer: nothing is sent.
     pub fn clear(&mut self)
         ensures { self.new ≡ None }
     {
         self.sent = false;
     }
 
-    /// These octets are sent.
+    /// Sends these octets.
     pub fn send(&mut self, octets: &ArrayVec<u8, 255>)
         ensures { self.new ≡ Some octets.now.items }
     {
@@ -49,8 +51,8 @@ impl SendBuffer {
         self.sent = true;
     }
 
-    /// A telegram that a holder of the token initiates is sent, a token or a request, the caller's condition. It answers
-    /// how many octets that is.
+    /// Sends a telegram of a holder, and returns its length in octets. The caller ensures that it is a token or a
+    /// request.
     #[inline(always)]
     pub fn initiate<S: Copy>(&mut self, holder: &Holding<S>, telegram: &Telegram) -> usize
         requires { IsInitiator telegram.now }
@@ -63,7 +65,7 @@ impl SendBuffer {
         self.octets.len()
     }
 
-    /// The octets that are sent, where they stand.
+    /// The octets that are sent, as a reference to the buffer; `None` if nothing is sent.
     #[inline(always)]
     pub fn sent(&self) -> Option<&ArrayVec<u8, 255>>
         ensures { MatchOption result (self.now ≡ None) (λ octets. self.now ≡ Some octets.now.items) }
@@ -71,7 +73,7 @@ impl SendBuffer {
         self.sent.then_some(&self.octets)
     }
 
-    /// The octets that are sent.
+    /// The octets that are sent; `None` if nothing is sent.
     pub fn octets(&self) -> Option<&[u8]>
         ensures { MatchOption result (self.now ≡ None) (λ octets. (self.now ≡ Some octets.now)
             × (length octets.now ≤ 255)) }

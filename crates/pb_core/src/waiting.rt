@@ -1,3 +1,5 @@
+//! The waiting requests of a station, of both priorities.
+
 ghost use Rattle.std.specs.Prelude.{◌≡◌, IsTrue, ◌↔◌};
 
 use crate::request_lists::RequestList;
@@ -5,7 +7,7 @@ use pb_cycles::{Queue, Request};
 use std::alloc::{AllocError, Global};
 use std::marker::Model;
 
-/// The requests that wait at a station, a list of each priority.
+/// The requests that wait at a station, with one list for each priority.
 #[derive(Debug, Drop)]
 pub struct Waiting {
     high: RequestList,
@@ -24,7 +26,9 @@ impl Waiting {
     ghost use Rattle.std.specs.Prelude.{◌≡◌, ◌<◌, [], ◌∷◌, nat_le, length, drop, IsTrue, ◌↔◌, IfOk, OnOk, OnErr, MatchOption, MatchResult};
     ghost use Rattle.pb_turn.specs.Stations.{queued, list_for};
 
-    /// None waits. Its fault: memory was refused.
+    /// No waiting requests.
+    ///
+    /// Fault: memory was refused.
     pub fn new(alloc: Global) -> Result<Waiting, AllocError>
         ensures { IfOk result (λ w. w ≡ record { high = []; low = [] }) }
     {
@@ -33,7 +37,7 @@ impl Waiting {
         Ok(Waiting { high, low })
     }
 
-    /// The requests of another wait, and none of those that waited.
+    /// Overwrites both lists by those of another, in place.
     pub fn copy_from(&mut self, other: &Waiting)
         ensures { self.new ≡ other.now }
     {
@@ -41,7 +45,7 @@ impl Waiting {
         self.low.copy_from(&other.low);
     }
 
-    /// Whether the same requests wait in another.
+    /// Whether the same requests wait in both.
     pub fn is_same(&self, other: &Waiting) -> bool
         ensures { IsTrue result ↔ (self.now ≡ other.now) }
     {
@@ -49,14 +53,14 @@ impl Waiting {
             && are_same(self.low.requests(), other.low.requests())
     }
 
-    /// They all, as a queue.
+    /// A copy of all waiting requests.
     pub fn queue(&self) -> Queue
         ensures { result ≡ self.now }
     {
         Queue::of(self.high.requests(), self.low.requests())
     }
 
-    /// Whether as many requests of a request's priority wait as may wait.
+    /// Whether the list of the request's priority is full.
     pub fn is_full_for(&self, request: &Request) -> bool
         ensures { result ≡ nat_le 16 (length (list_for self.now request.now)) }
     {
@@ -73,7 +77,7 @@ impl Waiting {
         }
     }
 
-    /// Puts a request behind the others of its priority, or hands it back where 16 of them wait.
+    /// Appends a request to those of its priority, or returns it if 16 of them wait.
     pub fn push(&mut self, request: Request) -> Result<(), Request>
         ensures outcome { MatchResult result (λ _. self.new ≡ queued self.old request)
             (λ refused. (refused ≡ request) × (self.new ≡ self.old)) }
@@ -101,7 +105,7 @@ impl Waiting {
         !self.low.requests().is_empty()
     }
 
-    /// Takes the request of high priority that has waited longest, if one waits.
+    /// Takes the high priority request that has waited longest; `None` if none waits.
     pub fn take_high(&mut self) -> Option<Request>
         ensures { MatchOption result ((self.old.high ≡ []) × (self.new ≡ self.old))
             (λ request. (self.old.high ≡ request ∷ self.new.high)
@@ -110,7 +114,7 @@ impl Waiting {
         self.high.take()
     }
 
-    /// Takes the request of low priority that has waited longest, if one waits.
+    /// Takes the low priority request that has waited longest; `None` if none waits.
     pub fn take_low(&mut self) -> Option<Request>
         ensures { MatchOption result ((self.old.low ≡ []) × (self.new ≡ self.old))
             (λ request. (self.old.low ≡ request ∷ self.new.low)
@@ -119,7 +123,7 @@ impl Waiting {
         self.low.take()
     }
 
-    /// None waits any more.
+    /// Removes all requests.
     pub fn clear(&mut self)
         ensures { self.new ≡ record { high = []; low = [] } }
     {
@@ -128,7 +132,7 @@ impl Waiting {
     }
 }
 
-/// Whether two lists are the same requests in the same order. Mostly none wait.
+/// Whether two lists have the same requests in the same order. Both are usually empty.
 #[inline(always)]
 fn are_same(one: &[Request], other: &[Request]) -> bool
     ensures { IsTrue result ↔ (one.now ≡ other.now) }

@@ -1,4 +1,4 @@
--- What an initiator's table stands for: a list of what it did.
+-- What an initiator's table represents: the list of its acts.
 use Rattle.std.specs.Prelude.{◌≡◌, ℕ, ◌+◌, ◌%◌, ◌≤◌, ◌==◌, Bool, true, false, if◌then◌else◌, List, [], ◌∷◌, reverse, length, count_by, Option, Some, None, IfSome, option_map}
 use Rattle.std.specs.List.{after_last}
 use Rattle.pb_messages.specs.Fields.{Fields}
@@ -42,21 +42,21 @@ is_unanswered_at d (Opened f) = false
 is_unanswered_at d (Resent f) = false
 is_unanswered_at d (Closed address outcome) = if address == d then is_no_answer outcome else false
 
--- how many SDA and SRD went to an address since the start, or since the last outcome "no answer" there
+-- how many SDA and SRD were sent to an address since the start, or since the last outcome NoAnswer there
 abbrev pub number_to : ℕ → List Act → ℕ
 number_to d acts = count_by (is_opening_to d) (after_last (is_unanswered_at d) acts)
 
--- bits 5 and 4 of the k-th of these: FCB 1 and FCV 0 for the first, then FCV 1, and FCB 0 for an even k and 1 for an odd one
+-- bits 5 and 4 of the k-th of these: FCB 1 and FCV 0 for the first, then FCV 1, with FCB 0 for an even k, else 1
 abbrev pub kth_bits : ℕ → ℕ
 kth_bits k = if k == 1 then 0x20 else if k % 2 == 0 then 0x10 else 0x30
 
--- what comes after k of them
+-- the frame count bits after k of them
 abbrev pub count_of : ℕ → FrameCount
 count_of k = if k == 0 then First else if k % 2 == 1 then Clear else Set
 
 -- ---- the open request
 
--- the newest act but for retries, where it opened a cycle; the newest act comes first
+-- the request of the newest act apart from retries, if that act opened a cycle; the newest act is first
 abbrev pub open_in : List Act → Option Fields
 open_in [] = None
 open_in (Told f ∷ older) = None
@@ -64,7 +64,7 @@ open_in (Opened f ∷ older) = Some f
 open_in (Resent f ∷ older) = open_in older
 open_in (Closed address outcome ∷ older) = None
 
--- how many retries came last
+-- how many of the newest acts are retries
 abbrev pub retries_in : List Act → ℕ
 retries_in [] = 0
 retries_in (Told f ∷ older) = 0

@@ -1,4 +1,4 @@
--- What a responder's table stands for: a list of what the station heard.
+-- What a responder's table represents: the list of what the station heard.
 use Rattle.std.specs.Prelude.{◌≡◌, ℕ, ◌+◌, ◌-◌, ◌^◌, ◌%◌, ◌==◌, min, Bool, false, ◌&&◌, ◌||◌, if◌then◌else◌, List, [], ◌∷◌, count_by, Option, Some, None}
 use Rattle.std.specs.List.{flat_map}
 use Rattle.pb_messages.specs.Fields.{Fields}
@@ -15,7 +15,7 @@ use Rattle.pb_cycles.specs.Responding.{same_bit, service_reply}
 use Rattle.pb_cycles.specs.Tables.{ResponderTable}
 use Rattle.pb_cycles.specs.declared.responders.Kept.{Kept}
 
--- a message, and the station's type as it came
+-- a message, and the station's type when it was heard
 pub record Heard : Type 0 where
   pub station_type : ℕ
   pub message : Message
@@ -63,12 +63,12 @@ is_told ts TokenPass = false
 
 -- ---- repeats
 
--- a call is a repeat of the one before it: its frame count bit counts, and requester and bit are the same
+-- a call repeats the one before it: its frame count bit is valid, and requester and bit are the same
 abbrev pub repeats : Call → Call → Bool
 repeats before c = has_bit c.frame.fc 4
     && (address_in before.frame.sa == address_in c.frame.sa && same_bit (has_bit before.frame.fc 5) (has_bit c.frame.fc 5))
 
--- how many calls behind the first are no repeats
+-- how many calls after the first are no repeats
 abbrev pub new_behind : Call → List Call → ℕ
 new_behind before [] = 0
 new_behind before (c ∷ cs) = (if repeats before c then 0 else 1) + new_behind c cs
@@ -78,7 +78,7 @@ abbrev pub new_calls : List Call → ℕ
 new_calls [] = 0
 new_calls (c ∷ cs) = 1 + new_behind c cs
 
--- the number of SDA, SRD and SDN that are no repeats; a count of 64 bits stays at its end
+-- the number of SDA, SRD and SDN that are no repeats; a count of 64 bits saturates
 abbrev pub executed_in : ℕ → List Heard → ℕ
 executed_in ts heard = min (2 ^ 64 - 1) (count_by (λ h. is_told ts h.message) heard + new_calls (calls ts heard))
 
@@ -88,7 +88,7 @@ abbrev pub last_behind : Call → List Call → Call
 last_behind before [] = before
 last_behind before (c ∷ cs) = last_behind c cs
 
--- the last call that is no repeat, from one on that is none
+-- the last call that is no repeat, starting with one that is none
 abbrev pub last_new_behind : Call → Call → List Call → Call
 last_new_behind newest before [] = newest
 last_new_behind newest before (c ∷ cs) = last_new_behind (if repeats before c then newest else c) c cs

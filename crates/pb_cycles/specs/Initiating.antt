@@ -14,7 +14,7 @@ use Rattle.pb_cycles.specs.declared.outcomes.Outcome.TheVariants.{NoAnswer}
 
 -- ---- a request
 
--- the frame count bits of a request; a service that isn't answered has none
+-- the frame count bits of a request; a service that is not answered has none
 abbrev pub bits_for : InitiatorTable → RequestFields → ℕ
 bits_for t r = if is_answered r.service then count_bits (count_at t.counts r.da) else 0
 
@@ -22,7 +22,7 @@ bits_for t r = if is_answered r.service then count_bits (count_at t.counts r.da)
 abbrev pub first_sending : InitiatorTable → ℕ → RequestFields → Fields
 first_sending t ts r = request_frame ts r (bits_for t r)
 
--- an SDA or SRD counts, and is the open request
+-- an SDA or SRD changes the frame count bits and becomes the open request
 abbrev pub with_request : InitiatorTable → RequestFields → Fields → InitiatorTable
 with_request t r sent = record t {
   counts = slice_set t.counts r.da (count_after (count_at t.counts r.da));
@@ -56,7 +56,7 @@ after_retry t = record t { pending = retried t.pending }
 abbrev pub without_answer : InitiatorTable → ℕ → InitiatorTable
 without_answer t d = record t { counts = slice_set t.counts d First; pending = None }
 
--- the outcome where nothing came and no retry is left: of the open request
+-- the outcome if no reply came and no retry is left, for the open request
 abbrev pub silence_outcome : Option OpenRequest → Option Outcome
 silence_outcome (Some o) = Some NoAnswer
 silence_outcome None = None
@@ -65,7 +65,7 @@ abbrev pub after_silence : InitiatorTable → Option OpenRequest → InitiatorTa
 after_silence t (Some o) = without_answer t o.sent.da
 after_silence t None = t
 
--- the outcome where a message came: of the open request, if it is a reply to it
+-- the outcome of the open request by a message, if that is a reply to it
 abbrev pub message_outcome : Option OpenRequest → Message → Option Outcome
 message_outcome (Some o) m = reply_outcome o.sent.sa o.sent.da m
 message_outcome None m = None
@@ -75,17 +75,18 @@ abbrev pub closed_by : InitiatorTable → Option Outcome → InitiatorTable
 closed_by t (Some outcome) = without_request t
 closed_by t None = t
 
--- the outcome of what came, if anything
+-- the outcome by a message, or by its absence
 abbrev pub outcome_of : InitiatorTable → Option Message → Option Outcome
 outcome_of t None = silence_outcome t.pending
 outcome_of t (Some m) = message_outcome t.pending m
 
--- the table after it
+-- the table after that outcome
 abbrev pub after_outcome : InitiatorTable → Option Message → InitiatorTable
 after_outcome t None = after_silence t t.pending
 after_outcome t (Some m) = closed_by t (message_outcome t.pending m)
 
--- what an initiator keeps: a count for each station, and an open request to a station, with bit 6 of its control octet
+-- the invariant of an initiator: bits for each station, and an open request to a station, with bit 6 of its control
+-- octet
 pub record IsInitiator (t : InitiatorTable) : Type 0 where
   pub stations : length t.counts ≡ 127
   pub retries : t.retries ≤ 7

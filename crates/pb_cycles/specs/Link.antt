@@ -19,14 +19,14 @@ pub record Link : Type 0 where
   pub d : ℕ
   pub station_type : ℕ
 
--- what becomes of a sending of a request
+-- what happens to a sending of a request
 pub data Fate : Type 0 where
   RequestLost : Fate
   ReplyLost : Fate
   Delivered : Fate
 
--- a cycle as far as it has gone: the telegram of its request, the sendings that arrived and how many of them were executed,
--- the replies to them in order, and the outcome
+-- the state of a cycle: the telegram of its request, the sendings that arrived and how many of them were executed, the
+-- replies to them in order, and the outcome
 pub record Cycle : Type 0 where
   pub initiator : InitiatorTable
   pub responder : ResponderTable
@@ -62,7 +62,7 @@ resend c None more = unanswered c
 abbrev pub retry : Cycle → (Cycle → Fields → Cycle) → Cycle
 retry c more = resend c (retry_of c.initiator.pending) more
 
--- a reply comes that has an outcome, or another message
+-- a reply with an outcome is heard, or another message
 abbrev pub conclude : Cycle → Message → Option Outcome → (Cycle → Fields → Cycle) → Cycle
 conclude c m (Some outcome) more = record c { initiator = after_outcome c.initiator (Some m); outcome = Some outcome }
 conclude c m None more = retry c more
@@ -71,7 +71,7 @@ abbrev pub receive : Cycle → Option Reply → (Cycle → Fields → Cycle) →
 receive c (Some reply) more = conclude c (heard_as reply) (outcome_of c.initiator (Some (heard_as reply))) more
 receive c None more = retry c more
 
--- the sendings of a request, by what becomes of each, until its cycle has an outcome
+-- the sendings of a request, by what happens to each, until its cycle has an outcome
 abbrev pub sendings : Link → Cycle → Fields → List Fate → Cycle
 sendings l c f [] = unanswered c
 sendings l c f (RequestLost ∷ fates) = retry c (λ next g. sendings l next g fates)
@@ -93,12 +93,12 @@ begun l i t r = record {
 abbrev pub cycle : Link → InitiatorTable → ResponderTable → RequestFields → List Fate → Cycle
 cycle l i t r fates = sendings l (begun l i t r) (first_sending i l.ts r) fates
 
--- ---- cycles one after another
+-- ---- consecutive cycles
 
 abbrev pub then_more : Cycle → (Cycle → List Cycle) → List Cycle
 then_more c more = c ∷ more c
 
--- each begins with the tables that the one before it left, and so after its outcome
+-- each begins with the tables that the one before it left, after its outcome
 abbrev pub cycles : Link → InitiatorTable → ResponderTable → List (RequestFields × List Fate) → List Cycle
 cycles l i t [] = []
 cycles l i t (x ∷ xs) = then_more (cycle l i t x.0 x.1) (λ c. cycles l c.initiator c.responder xs)

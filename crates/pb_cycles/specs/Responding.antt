@@ -20,14 +20,14 @@ use Rattle.pb_cycles.specs.declared.responders.Kept.{Kept}
 abbrev pub reply_frame : ℕ → ℕ → Fields → ℕ → List ℕ → Reply
 reply_frame ts station_type f code unit = Answer (record { da = address_in f.sa; sa = ts; fc = 16 * station_type + code; unit = unit })
 
--- the reply to an SRD: the reply data with the priority of the request, or none
+-- the reply to an SRD: the reply data with the priority of the request, or NR if there is none
 abbrev pub data_reply : ℕ → ℕ → Fields → Bool → List ℕ → Reply
 data_reply ts station_type f high data_unit =
     if length data_unit == 0 then reply_frame ts station_type f 9 []
     else if high then reply_frame ts station_type f 10 data_unit
     else reply_frame ts station_type f 8 data_unit
 
--- the reply of an SDA or SRD that is executed (an SDN is never asked for it); neither takes an address extension
+-- the reply to an executed SDA or SRD (an SDN has no reply); neither supports an address extension
 abbrev pub service_reply : ℕ → ℕ → Fields → Service → Bool → List ℕ → Reply
 service_reply ts station_type f Sda high unit = if has_bit f.da 7 then reply_frame ts station_type f 3 [] else Acknowledge
 service_reply ts station_type f Sdn high unit = Acknowledge
@@ -38,12 +38,12 @@ service_reply ts station_type f Srd high unit = if has_bit f.da 7 then reply_fra
 abbrev pub same_bit : Bool → Bool → Bool
 same_bit a b = if a then b else not b
 
--- an SDA or SRD is a repeat: its frame count bit counts, and requester and bit are those of the one before
+-- an SDA or SRD is a repeat: its frame count bit is valid, and requester and bit are those of the kept one
 abbrev pub is_repeat : Option Kept → Fields → Bool
 is_repeat (Some k) f = has_bit f.fc 4 && (k.requester == address_in f.sa && same_bit k.bit (has_bit f.fc 5))
 is_repeat None f = false
 
--- a count of 64 bits that stays at its end
+-- a count of 64 bits that saturates
 abbrev pub one_more : ℕ → ℕ
 one_more n = min (2 ^ 64 - 1) (n + 1)
 
@@ -66,17 +66,17 @@ kept_reply None = None
 abbrev pub once : ResponderTable → Fields → Reply → ResponderTable
 once t f reply = if is_repeat t.kept f then t else executed t f reply
 
--- and the reply: a repeat gets the kept one
+-- the reply to it: a repeat gets the kept one
 abbrev pub reply_once : ResponderTable → Fields → Reply → Option Reply
 reply_once t f reply = if is_repeat t.kept f then kept_reply t.kept else Some reply
 
--- the table after a service that the station is asked for; an SDN to all stations is one to this station too
+-- the table after a request for a service; an SDN to all stations is also one to this station
 abbrev pub after_service : ResponderTable → ℕ → ℕ → Fields → Service → Bool → ResponderTable
 after_service t ts station_type f Sda high = if address_in f.da == ts then once t f (service_reply ts station_type f Sda high t.reply) else t
 after_service t ts station_type f Sdn high = if address_in f.da == ts || address_in f.da == 127 then counted t else t
 after_service t ts station_type f Srd high = if address_in f.da == ts then once t f (service_reply ts station_type f Srd high t.reply) else t
 
--- and the reply
+-- the reply to it
 abbrev pub reply_to_service : ResponderTable → ℕ → ℕ → Fields → Service → Bool → Option Reply
 reply_to_service t ts station_type f Sda high = if address_in f.da == ts then reply_once t f (service_reply ts station_type f Sda high t.reply) else None
 reply_to_service t ts station_type f Sdn high = None
@@ -96,7 +96,7 @@ reply_to_asked t ts station_type f Unknown = None
 abbrev pub after_framed : ResponderTable → ℕ → ℕ → Fields → ResponderTable
 after_framed t ts station_type f = if has_bit f.fc 6 then after_asked t ts station_type f (asked_by (f.fc % 16)) else t
 
--- and the reply
+-- the reply to it
 abbrev pub reply_to_framed : ResponderTable → ℕ → ℕ → Fields → Option Reply
 reply_to_framed t ts station_type f = if has_bit f.fc 6 then reply_to_asked t ts station_type f (asked_by (f.fc % 16)) else None
 
@@ -106,7 +106,7 @@ after_message t ts station_type (Framed f) = after_framed t ts station_type f
 after_message t ts station_type Acknowledgement = t
 after_message t ts station_type TokenPass = t
 
--- and what the station replies to it
+-- the station's reply to it
 abbrev pub reply_to_message : ResponderTable → ℕ → ℕ → Message → Option Reply
 reply_to_message t ts station_type (Framed f) = reply_to_framed t ts station_type f
 reply_to_message t ts station_type Acknowledgement = None

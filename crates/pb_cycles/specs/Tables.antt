@@ -4,7 +4,7 @@ use Rattle.pb_cycles.specs.declared.counts.FrameCount.{FrameCount}
 use Rattle.pb_cycles.specs.declared.initiators.OpenRequest.{OpenRequest}
 use Rattle.pb_cycles.specs.declared.responders.Kept.{Kept}
 
--- how often a request is sent again, what comes next to each address, and the open request
+-- the number of retries of a request, the next frame count bits for each address, and the open request
 pub record InitiatorTable : Type 0 where
   pub retries : ℕ
   pub counts : List FrameCount

@@ -1,3 +1,5 @@
+//! The frame count bits of an initiator, for each address.
+
 ghost use Rattle.std.specs.Prelude.{◌≡◌, ◌≢◌, ◌≤◌, ◌<◌, ◌^◌, ◌==◌, ℕ, true, false, bit_and};
 ghost use Rattle.std.specs.Bool.{Decides};
 ghost use Rattle.std.specs.Int.{bit_at};
@@ -6,20 +8,20 @@ ghost use Rattle.pb_cycles.specs.CountMasks.{count_of};
 
 use std::marker::Model;
 
-/// What comes next to an address: the frame count bits of the next SDA or SRD.
+/// The frame count bits of the next SDA or SRD to an address.
 #[derive(Clone, Copy, Debug, Default, PartialEq, Eq)]
 pub enum FrameCount {
-    /// A first request: its frame count bit does not count.
+    /// A first request: its frame count bit is 1 and not valid.
     #[default]
     First,
-    /// The frame count bit counts, and is 0.
+    /// The frame count bit is valid, and is 0.
     Clear,
-    /// The frame count bit counts, and is 1.
+    /// The frame count bit is valid, and is 1.
     Set,
 }
 
 impl FrameCount {
-    /// Bits 5 and 4 of the request's control octet: the frame count bit, and whether it counts.
+    /// Bits 5 and 4 of the request's control octet: the frame count bit, and whether it is valid.
     pub(crate) fn bits(self) -> u8
         ensures value { result ≡ count_bits self }
         ensures fits { result ≤ 0x30 }
@@ -31,7 +33,7 @@ impl FrameCount {
         }
     }
 
-    /// What comes after that request.
+    /// The frame count bits of the request after this one.
     pub(crate) fn next(self) -> FrameCount
         ensures { result ≡ count_after self }
     {
@@ -42,12 +44,12 @@ impl FrameCount {
     }
 }
 
-/// What comes next to each station, in the bits of two numbers: so it is soon copied and compared.
+/// The next frame count bits for each station, as the bits of two numbers: these are quick to copy and compare.
 #[derive(Debug, Drop)]
 pub(crate) struct FrameCounts {
-    /// The stations to which the frame count bit counts.
+    /// The stations whose next frame count bit is valid.
     counting: u128,
-    /// Those of them to which it is 1; of other stations a bit says nothing.
+    /// Those of them for which it is 1. For other stations the bit has no meaning.
     set: u128,
 }
 
@@ -68,7 +70,7 @@ impl FrameCounts {
     ghost use Rattle.pb_cycles.specs.Counts.{count_at};
     ghost use Rattle.pb_cycles.specs.declared.counts.FrameCount.TheVariants.{First, Clear, Set};
 
-    /// To each station comes a first request.
+    /// The next request to each station is a first request.
     pub(crate) fn new() -> FrameCounts
         ensures { result ≡ replicate 127 First }
     {
@@ -78,7 +80,7 @@ impl FrameCounts {
         }
     }
 
-    /// What comes next to a station.
+    /// The frame count bits of the next request to a station.
     pub(crate) fn at(&self, address: u8) -> FrameCount
         requires { address < 127 }
         ensures { result ≡ count_at self.now address }
@@ -86,7 +88,7 @@ impl FrameCounts {
         count_of(is_set(self.counting, address), is_set(self.set, address))
     }
 
-    /// Says what comes next to a station.
+    /// Sets the frame count bits of the next request to a station.
     pub(crate) fn put(&mut self, address: u8, count: FrameCount)
         requires { address < 127 }
         ensures { self.new ≡ slice_set self.old address count }
@@ -121,7 +123,7 @@ impl FrameCounts {
         self.set = with_bit(self.set, address);
     }
 
-    /// The same frame count bits.
+    /// Equal frame count bits.
     pub(crate) fn copy(&self) -> FrameCounts
         ensures { result ≡ self.now }
     {
@@ -131,7 +133,7 @@ impl FrameCounts {
         }
     }
 
-    /// Whether others are equal to them.
+    /// Whether the frame count bits for all stations are equal.
     pub(crate) fn is_same(&self, other: &FrameCounts) -> bool
         ensures { IsTrue result ↔ (self.now ≡ other.now) }
     {
@@ -149,7 +151,7 @@ fn count_of(counting: bool, set: bool) -> FrameCount
     }
 }
 
-/// Whether two numbers of stations that count are equal, and so what is set of these.
+/// Whether two sets of valid bits are equal, and so are the bits in them.
 fn are_same(counting: u128, set: u128, other_counting: u128, other_set: u128) -> bool
     ensures { Decides result
         ((counting ≡ other_counting) × (bit_and set counting ≡ bit_and other_set other_counting)) }
@@ -157,7 +159,7 @@ fn are_same(counting: u128, set: u128, other_counting: u128, other_set: u128) ->
     counting == other_counting && set & counting == other_set & other_counting
 }
 
-/// Whether the bit of a station is 1.
+/// Whether the bit of a station is set.
 fn is_set(bits: u128, address: u8) -> bool
     requires { address < 127 }
     ensures { result ≡ (bit_at bits address == 1) }
@@ -165,7 +167,7 @@ fn is_set(bits: u128, address: u8) -> bool
     (bits >> address) & 1 == 1
 }
 
-/// The bits with a station's at 1.
+/// The bits with that of a station set.
 fn with_bit(bits: u128, address: u8) -> u128
     requires { address < 127 }
     ensures set { (bit_at result address == 1) ≡ true }
@@ -175,7 +177,7 @@ fn with_bit(bits: u128, address: u8) -> u128
     bits | (1 << address)
 }
 
-/// The bits with a station's at 0.
+/// The bits with that of a station cleared.
 fn without_bit(bits: u128, address: u8) -> u128
     requires { address < 127 }
     ensures clear { (bit_at result address == 1) ≡ false }

@@ -1,3 +1,5 @@
+//! The initiator of message cycles: sends a request, repeats it, and reports the outcome.
+
 ghost use Rattle.std.specs.Prelude.{◌≡◌, ◌≤◌, if◌then◌else◌, is_some, Some, None, replicate, option_map, IfSome, IsTrue, ◌↔◌};
 ghost use Rattle.pb_telegram.specs.Grammar.{spelling};
 ghost use Rattle.pb_telegram.specs.Initiators as telegram;
@@ -15,14 +17,14 @@ use std::marker::Model;
 /// A request that waits for its reply.
 #[derive(Debug, PartialEq, Eq, Drop)]
 pub struct OpenRequest {
-    /// As it was sent.
+    /// The request as it was sent.
     pub sent: Frame,
-    /// How often it is sent again at most.
+    /// How many more times it may be sent.
     pub left: u8,
 }
 
 impl OpenRequest {
-    /// The same request.
+    /// An equal request.
     fn copy(&self) -> OpenRequest
         ensures { result ≡ self.now }
     {
@@ -32,7 +34,7 @@ impl OpenRequest {
         }
     }
 
-    /// Becomes equal to another, in the room that it has.
+    /// Overwrites this request by another, in place.
     fn copy_from(&mut self, other: &OpenRequest)
         ensures { self.new ≡ other.now }
     {
@@ -41,8 +43,7 @@ impl OpenRequest {
     }
 }
 
-/// The side of message cycles that asks: frame count bits, retries, and what replies mean
-/// (EN 50170-2, message cycles).
+/// The initiator of message cycles: frame count bits, retries, and the meaning of replies (EN 50170-2, message cycles).
 #[derive(Debug, Drop)]
 pub struct Initiator {
     retries: u8,
@@ -64,8 +65,8 @@ impl Model for Initiator {
 }
 
 impl Initiator {
-    /// An initiator that has sent nothing. It sends a request again at most `retries` times, 0 to 7,
-    /// the caller's condition.
+    /// An initiator that has sent nothing. It sends a request again at most `retries` times. The caller ensures that
+    /// `retries` is at most 7.
     pub fn new(retries: u8) -> Initiator
         requires { retries ≤ 7 }
         ensures { result ≡ record { retries = retries; counts = replicate 127 First; pending = None } }
@@ -77,12 +78,11 @@ impl Initiator {
         }
     }
 
-    /// The telegram of a request from the station `ts`, at most 126, the caller's condition. An SDA
-    /// or SRD is then the open request, also where one was open; after an SDN none is.
+    /// The telegram of a request from the station `ts`. The caller ensures that `ts` is at most 126. An SDA or SRD
+    /// becomes the open request and replaces one that was open. After an SDN no request is open.
     ///
-    /// The first SDA or SRD to an address since the start, or since the last outcome `NoAnswer`
-    /// there, has the frame count bit 1, which does not count; later ones have 0 and 1 in turn. An
-    /// SDN has no frame count bits.
+    /// The first SDA or SRD to an address since the start, or since the last outcome `NoAnswer` there, has the frame
+    /// count bit 1, not valid; later ones alternate between 0 and 1, valid. An SDN has no frame count bits.
     #[tactic(auto, using(crate::proofs::RequestBits::bit_set))]
     pub fn request(&mut self, ts: u8, request: Request) -> Telegram
         requires { ts ≤ 126 }
@@ -109,8 +109,8 @@ impl Initiator {
         telegram
     }
 
-    /// The open request once more, with the octets of its first sending. None where none is open, or
-    /// its retries are used.
+    /// Sends the open request again: the octets are those of its first sending. `None` if no request is open or no
+    /// retry is left.
     pub fn again(&mut self) -> Option<Telegram>
         ensures octets { option_map spelling result ≡ option_map frame_octets (retry_of self.old.pending) }
         ensures message { option_map message_of result ≡ option_map Framed (retry_of self.old.pending) }
@@ -126,7 +126,7 @@ impl Initiator {
         }
     }
 
-    /// The station that the open request was sent to, if one is open.
+    /// The station to which the open request was sent; `None` if none is open.
     pub fn open_to(&self) -> Option<u8>
         ensures { result ≡ option_map (λ request. request.sent.da) self.now.pending }
     {
@@ -136,14 +136,14 @@ impl Initiator {
         }
     }
 
-    /// Whether [`Initiator::again`] would give a telegram.
+    /// Whether [`Initiator::again`] would return a telegram.
     pub fn retry_left(&self) -> bool
         ensures { result ≡ is_some (retry_of self.now.pending) }
     {
         matches!(&self.pending, Some(request) if request.left > 0)
     }
 
-    /// Becomes equal to another, in the room that it has.
+    /// Overwrites this initiator by another, in place.
     pub fn copy_from(&mut self, other: &Initiator)
         ensures { self.new ≡ other.now }
     {
@@ -154,7 +154,7 @@ impl Initiator {
         }
     }
 
-    /// An equal initiator, with which one can see what a turn would do.
+    /// An equal initiator, to try out a turn on.
     pub fn copy(&self) -> Initiator
         ensures { result ≡ self.now }
     {
@@ -165,7 +165,7 @@ impl Initiator {
         }
     }
 
-    /// Whether another is equal to it.
+    /// Whether two initiators are equal.
     pub fn is_same(&self, other: &Initiator) -> bool
         ensures { IsTrue result ↔ (self.now ≡ other.now) }
     {
@@ -174,9 +174,9 @@ impl Initiator {
             && is_same_request(&self.pending, &other.pending)
     }
 
-    /// The outcome of the open request by what came, which closes it: a reply, or None where no
-    /// reply came and no retry is left, which gives `NoAnswer`. None where no request is open, or
-    /// the telegram is no reply to it.
+    /// Closes the open request and returns its outcome. The argument is a received telegram, or `None` if no reply came
+    /// and no retry is left; the outcome is then `NoAnswer`. The result is `None`, and the request stays open, if the
+    /// telegram is no reply to it. The result is also `None` if no request is open.
     pub fn outcome(&mut self, reply: Option<&Telegram>) -> Option<Outcome>
         ensures outcome { result ≡ outcome_of self.old (option_map (λ t. message_of t.now) reply.entry) }
         ensures table { self.new ≡ after_outcome self.old (option_map (λ t. message_of t.now) reply.entry) }
@@ -187,7 +187,7 @@ impl Initiator {
         }
     }
 
-    /// The outcome of the open request by a message, which closes it where it is a reply.
+    /// The outcome by a message. If it is a reply, it closes the open request.
     fn heard(&mut self, message: &Message) -> Option<Outcome>
         ensures outcome { result ≡ outcome_of self.old (Some message.now) }
         ensures table { self.new ≡ after_outcome self.old (Some message.now) }
@@ -200,8 +200,7 @@ impl Initiator {
         Some(outcome)
     }
 
-    /// The outcome of the open request where nothing came: the next one to its address is a first
-    /// one.
+    /// The outcome `NoAnswer`, which closes the open request. The next request to its address is a first one.
     fn silent(&mut self) -> Option<Outcome>
         ensures outcome { result ≡ outcome_of self.old None }
         ensures table { self.new ≡ after_outcome self.old None }
@@ -215,7 +214,7 @@ impl Initiator {
     }
 }
 
-/// Becomes what another is. It is a call of its own since a request is seldom open, and its room is then not moved.
+/// Slow path of `copy_from`, kept out of line: usually no request is open, and its octets then need not be moved.
 #[inline(never)]
 fn copy_pending(pending: &mut Option<OpenRequest>, other: &Option<OpenRequest>)
     ensures { pending.new ≡ other.now }
@@ -226,7 +225,7 @@ fn copy_pending(pending: &mut Option<OpenRequest>, other: &Option<OpenRequest>)
     }
 }
 
-/// The same request is open.
+/// Copies an open request, in place if one is open already.
 fn become_open(pending: &mut Option<OpenRequest>, request: &OpenRequest)
     ensures { pending.new ≡ Some request.now }
 {

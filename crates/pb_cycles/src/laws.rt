@@ -1,3 +1,5 @@
+//! Laws of message cycles: what replies mean, what the tables represent, and that a request is executed once.
+
 ghost use Rattle.std.specs.Prelude.{◌≡◌, ℕ, ◌+◌, ◌≤◌, List, [], ◌∷◌, ◌++◌, Some, None, Option, Bool, replicate, IsTrue, IsFalse, All, reverse};
 ghost use Rattle.pb_messages.specs.Fields.{Fields};
 ghost use Rattle.pb_messages.specs.RequestFields.{RequestFields};
@@ -18,8 +20,8 @@ ghost use Rattle.pb_cycles.specs.declared.initiators.OpenRequest.{OpenRequest};
 ghost use Rattle.pb_cycles.specs.declared.outcomes.Outcome.{Outcome};
 ghost use Rattle.pb_cycles.specs.declared.outcomes.Outcome.TheVariants.{Acked, Data, NoResource};
 
-/// What each function code of a reply means, with the data of the reply: OK and NR acknowledge; UE, RR
-/// and RS have no resource; DL, DH, RDL and RDH bring data; no other code is known.
+/// The meaning of each function code of a reply: OK and NR acknowledge; UE, RR and RS have no resource; DL, DH, RDL and
+/// RDH bring the data of the reply; no other code is known.
 pub fn what_reply_codes_mean()
     ensures acked { (unit : List ℕ)
         → (code_outcome 0 unit ≡ Some Acked) × (code_outcome 9 unit ≡ Some Acked) }
@@ -38,9 +40,9 @@ pub fn what_reply_codes_mean()
     ensures above { (code : ℕ) (unit : List ℕ) → 16 ≤ code → code_outcome code unit ≡ None }
 {}
 
-/// What the responder `d` replies to an SDA or SRD of the initiator `ts` is a reply to it there, and
-/// means what was meant: an SDA is acknowledged, an SRD gets the reply data, or an acknowledgement
-/// where there is none, and an address extension finds no resource.
+/// The reply of the responder `d` to an SDA or SRD of the initiator `ts` means there what it means here: an SDA is
+/// acknowledged; an SRD gets the reply data, or an acknowledgement if there is none; a request with an address
+/// extension gets no resource.
 pub fn a_reply_means_what_was_meant()
     ensures extension { (ts d station_type : ℕ) (f : Fields) (service : Service) (high : Bool)
         (unit : List ℕ) → ts ≤ 126 → d ≤ 126 → station_type ≤ 3 → f.sa ≡ ts
@@ -60,10 +62,9 @@ pub fn a_reply_means_what_was_meant()
         → reply_outcome ts d (heard_as (service_reply d station_type f Srd high [])) ≡ Some Acked }
 {}
 
-/// An initiator's table stands for the list of what it did: a new one for the empty list, and for
-/// every list that it stands for before, it stands for that list with the new act at its end
-/// afterwards. So the k-th SDA or SRD to an address since the start, or since the last outcome
-/// "no answer" there, has its frame count bits, and a retry is the telegram that opened the cycle.
+/// An initiator's table represents the list of its acts: a new table represents the empty list, and each call appends
+/// its act to the list that the table represents. The k-th SDA or SRD to an address, since the start or since the last
+/// outcome `NoAnswer` there, thus has the k-th frame count bits, and a retry is the telegram that opened the cycle.
 pub fn an_initiator_stands_for_its_acts()
     ensures fresh { (retries : ℕ)
         → InitiatorStandsFor (record { retries = retries; counts = replicate 127 First; pending = None }) [] }
@@ -87,10 +88,9 @@ pub fn an_initiator_stands_for_its_acts()
         → after_outcome t reply ≡ t }
 {}
 
-/// A responder's table stands for the list of what the station `ts` heard: a new one for the empty
-/// list, and for every list that it stands for before, it stands for that list with the new message
-/// at its end afterwards. So it has executed the SDA, SRD and SDN that are no repeats, and keeps the
-/// last SDA or SRD with its reply.
+/// A responder's table represents the list of messages that the station `ts` heard: a new table represents the empty
+/// list, and each message is appended to the list that the table represents. The responder has thus executed each SDA,
+/// SRD and SDN that is no repeat, and keeps the last SDA or SRD with its reply.
 pub fn a_responder_stands_for_what_it_heard()
     ensures fresh { (ts : ℕ) (reply : List ℕ)
         → ResponderStandsFor ts (record { reply = reply; kept = None; executed = 0 }) [] }
@@ -100,11 +100,10 @@ pub fn a_responder_stands_for_what_it_heard()
         ++ record { station_type = station_type; message = m } ∷ []) }
 {}
 
-/// Over a link between one initiator and one responder that loses requests and replies, where each
-/// cycle ends by an outcome before the next begins: a request whose frame count bit counts is
-/// executed at most once, however often it is sent, and exactly once where it was answered; a first
-/// request is executed once for each sending that arrives; and all sendings of a request get the
-/// same reply.
+/// Over a link between one initiator and one responder that loses requests and replies, with each cycle ended by an
+/// outcome before the next begins: a request with a valid frame count bit is executed at most once, however often it is
+/// sent, and exactly once if it was answered; a first request is executed once for each sending that arrives; and all
+/// sendings of a request get the same reply.
 ///
 /// The initiator has sent nothing before; what the responder has heard before does not matter.
 pub fn a_request_is_executed_once()

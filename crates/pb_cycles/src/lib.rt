@@ -1,11 +1,10 @@
-//! Message cycles of the PROFIBUS data link layer (FDL): frame count bits, retries, replies, and what
-//! came of a request (EN 50170-2, message cycles).
+//! Message cycles of the PROFIBUS data link layer (FDL): frame count bits, retries, replies, and outcomes of requests
+//! (EN 50170-2, message cycles).
 //!
-//! A station with the token takes a [`Request`] of those that wait at it (pb_core, `Waiting`), and its [`Initiator`]
-//! makes the telegram, repeats it, and says by an [`Outcome`] what came of it. A station that is asked answers
-//! as its [`Responder`] says, which executes a repeated request once. A [`Request`], and a [`Queue`] as a copy of those
-//! that wait, are of pb_messages, and handed on here.
-//! No call takes memory.
+//! A station with the token takes one of its waiting requests ([`Request`]; pb_core, `Waiting`). Its [`Initiator`]
+//! makes the telegram, repeats it, and returns an [`Outcome`]. A station that is asked answers by its [`Responder`],
+//! which executes a repeated request once. [`Request`] and [`Queue`], a copy of the waiting requests, are re-exported
+//! from pb_messages. No call takes memory.
 #![tactic(auto)]
 
 mod counts;

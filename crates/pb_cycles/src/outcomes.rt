@@ -1,3 +1,5 @@
+//! The outcome of a request, and the meaning of replies.
+
 ghost use Rattle.std.specs.Prelude.{◌≡◌, ◌≤◌, length, option_map};
 ghost use Rattle.pb_messages.specs.Messages.{message_of};
 ghost use Rattle.pb_cycles.specs.Outcomes.{code_outcome, is_reply_between, reply_outcome, status_reply};
@@ -7,10 +9,10 @@ use arrayvec::ArrayVec;
 use pb_messages::{Frame, Message};
 use pb_telegram::{Fc, Telegram, copy_octets, put_octets};
 
-/// What came of a request (IEC 61158-4-3, confirmation of a data link service).
+/// The outcome of a request (IEC 61158-4-3, confirmation of a data link service).
 #[derive(Debug, PartialEq, Eq, Drop)]
 pub enum Outcome {
-    /// The data was taken, and none came back.
+    /// The data was taken, and no data came back.
     Acked,
     /// Data came back.
     Data(ArrayVec<u8, 246>),
@@ -33,7 +35,7 @@ impl Outcome {
         }
     }
 
-    /// Becomes equal to another, in the room that it has.
+    /// Overwrites this outcome by another, in place.
     pub fn copy_from(&mut self, other: &Outcome)
         ensures { self.new ≡ other.now }
     {
@@ -45,7 +47,7 @@ impl Outcome {
         }
     }
 
-    /// Becomes data that came back.
+    /// Overwrites this outcome by data that came back, in place if this one has data too.
     fn become_data(&mut self, unit: &ArrayVec<u8, 246>)
         ensures { self.new ≡ Data unit.now }
     {
@@ -58,7 +60,7 @@ impl Outcome {
     }
 }
 
-/// The outcome of an SDA or SRD that `ts` sent to `da`, where the message is a reply to it.
+/// The outcome of an SDA or SRD from `ts` to `da`, if the message is a reply to it.
 pub(crate) fn reply_outcome(ts: u8, da: u8, message: &Message) -> Option<Outcome>
     ensures { result ≡ reply_outcome ts da message.now }
 {
@@ -72,9 +74,9 @@ pub(crate) fn reply_outcome(ts: u8, da: u8, message: &Message) -> Option<Outcome
     }
 }
 
-/// The control octet of the reply to a Request FDL Status that the station `ts` sent to the station
-/// `da`, where the telegram is a reply to it with a known code. A short acknowledgement is none
-/// (EN 50170-2, request FDL status).
+/// The control octet of the reply to a Request FDL Status from the station `ts` to the station `da`; `None` if the
+/// telegram is no reply to it with a known code. A short acknowledgement is no reply to it (EN 50170-2, request FDL
+/// status).
 pub fn status_reply(ts: u8, da: u8, telegram: &Telegram) -> Option<Fc>
     ensures { result ≡ option_map (λ fc. record { 0 = fc }) (status_reply ts da (message_of telegram.now)) }
 {
@@ -90,14 +92,14 @@ pub fn status_reply(ts: u8, da: u8, telegram: &Telegram) -> Option<Fc>
     }
 }
 
-/// Whether it is a reply telegram from the station `da` to the station `ts`.
+/// Whether this is a reply telegram from the station `da` to the station `ts`.
 fn is_reply_between(ts: u8, da: u8, frame: &Frame) -> bool
     ensures { result ≡ is_reply_between ts da frame.now }
 {
     !Fc(frame.fc()).is_request() && frame.da() % 128 == ts && frame.sa() % 128 == da
 }
 
-/// The meaning of a reply's function code, with the data of the reply.
+/// The meaning of a reply's function code, with the data of the reply; `None` for an unknown code.
 fn code_outcome(code: u8, unit: &[u8]) -> Option<Outcome>
     requires { length unit.now ≤ 246 }
     ensures { result ≡ code_outcome code unit.now }

@@ -1,3 +1,5 @@
+//! The responder of message cycles: answers requests, and executes a repeated one once.
+
 ghost use Rattle.std.specs.Prelude.{◌≡◌, ◌≤◌, ◌<◌, ◌^◌, length, Some, None, option_map};
 ghost use Rattle.pb_telegram.specs.Grammar.{spelling};
 ghost use Rattle.pb_messages.specs.Messages.{reply_octets, heard_as, message_of};
@@ -8,19 +10,19 @@ use pb_messages::{Asked, Frame, Message, Reply, Service};
 use pb_telegram::{Fc, Telegram, copy_octets, put_octets};
 use std::marker::Model;
 
-/// What a responder keeps of the last SDA or SRD.
+/// The last SDA or SRD that a responder executed.
 #[derive(Debug, PartialEq, Eq, Drop)]
 pub struct Kept {
     /// The address of the station that asked.
     pub requester: u8,
-    /// The frame count bit.
+    /// Its frame count bit.
     pub bit: bool,
-    /// The reply.
+    /// Its reply.
     pub reply: Reply,
 }
 
 impl Kept {
-    /// The same.
+    /// An equal value.
     fn copy(&self) -> Kept
         ensures { result ≡ self.now }
     {
@@ -31,7 +33,7 @@ impl Kept {
         }
     }
 
-    /// Becomes equal to another, in the room that it has.
+    /// Overwrites this value by another, in place.
     fn copy_from(&mut self, other: &Kept)
         ensures { self.new ≡ other.now }
     {
@@ -41,8 +43,8 @@ impl Kept {
     }
 }
 
-/// The side of message cycles that answers (EN 50170-2, message cycles). It executes a request once,
-/// also where it comes again.
+/// The responder of message cycles (EN 50170-2, message cycles). It executes a request once, also if the request is
+/// repeated.
 #[derive(Debug, PartialEq, Eq, Drop)]
 pub struct Responder {
     reply: ArrayVec<u8, 246>,
@@ -65,8 +67,7 @@ impl Model for Responder {
 }
 
 impl Responder {
-    /// A responder that has heard nothing. It answers an SRD with the data `reply`, or with NR where
-    /// that is empty.
+    /// A responder that has heard nothing. It answers an SRD with the data `reply`, or with NR if that is empty.
     pub fn new(reply: ArrayVec<u8, 246>) -> Responder
         ensures { result ≡ record { reply = reply.items; kept = None; executed = 0 } }
     {
@@ -77,7 +78,7 @@ impl Responder {
         }
     }
 
-    /// Becomes equal to another, in the room that it has.
+    /// Overwrites this responder by another, in place.
     pub fn copy_from(&mut self, other: &Responder)
         ensures { self.new ≡ other.now }
     {
@@ -88,7 +89,7 @@ impl Responder {
         }
     }
 
-    /// An equal responder, with which one can see what a turn would do.
+    /// An equal responder, to try out a turn on.
     pub fn copy(&self) -> Responder
         ensures { result ≡ self.now }
     {
@@ -104,7 +105,7 @@ impl Responder {
         }
     }
 
-    /// The data that it answers an SRD with, at most 246 octets.
+    /// The data with which it answers an SRD, at most 246 octets.
     pub fn data(&self) -> &[u8]
         ensures value { result.now ≡ self.now.reply }
         ensures fits { length result.now ≤ 246 }
@@ -112,8 +113,7 @@ impl Responder {
         &self.reply
     }
 
-    /// How many requests were executed: SDA, SRD and SDN that are no repeats. The count stays at
-    /// 2^64 - 1.
+    /// How many requests were executed: SDA, SRD and SDN that are no repeats. The count saturates at 2^64 - 1.
     pub fn executed(&self) -> u64
         ensures value { result ≡ self.now.executed }
         ensures fits { result < 2 ^ 64 }
@@ -121,15 +121,14 @@ impl Responder {
         self.executed
     }
 
-    /// What the station `ts`, at most 126, replies to a telegram, if anything. Its station type is 0
-    /// passive, 1 master not ready, 2 master ready to enter the ring, 3 master in the ring. Both
-    /// bounds are the caller's conditions.
+    /// The reply of the station `ts` to a telegram; `None` if it does not reply. `station_type` is 0 passive, 1 master
+    /// not ready, 2 master ready to enter the ring, 3 master in the ring. The caller ensures that `ts` is at most 126
+    /// and `station_type` at most 3.
     ///
-    /// A repeated SDA or SRD to this station gets the reply that was kept; another is executed. An
-    /// SDA gets a short acknowledgement, and an SRD the reply data with the priority of the request,
-    /// or NR where there is none; with an address extension (bit 7 of DA) both get RS. An SDN to
-    /// this station or to all is executed and not answered. Request FDL Status gets the station
-    /// type. No reply has an address extension.
+    /// A repeated SDA or SRD to this station gets the kept reply; any other is executed. An SDA gets a short
+    /// acknowledgement. An SRD gets the reply data with the priority of the request, or NR if there is none. With an
+    /// address extension (bit 7 of DA), both get RS. An SDN to this station or to all stations is executed and not
+    /// answered. Request FDL Status gets the station type. No reply has an address extension.
     pub fn answer(&mut self, ts: u8, station_type: u8, telegram: &Telegram) -> Option<Telegram>
         requires station { ts ≤ 126 }
         requires type_bits { station_type ≤ 3 }
@@ -170,7 +169,7 @@ impl Responder {
         }
     }
 
-    /// The reply to a service that a station is asked for.
+    /// The reply to a request for a service.
     fn answer_service(
         &mut self,
         ts: u8,
@@ -198,7 +197,7 @@ impl Responder {
         Some(self.once(frame, reply))
     }
 
-    /// Counts a request that is executed.
+    /// Counts an executed request.
     fn count_one(&mut self)
         ensures { self.new ≡ counted self.old }
     {
@@ -206,7 +205,7 @@ impl Responder {
         *executed = executed.saturating_add(1);
     }
 
-    /// Executes an SDA or SRD with this reply, or gives the reply kept where it is a repeat.
+    /// Executes an SDA or SRD with this reply. A repeat is not executed and gets the kept reply.
     fn once(&mut self, frame: &Frame, reply: Reply) -> Reply
         ensures reply { Some result ≡ reply_once self.old frame.now reply }
         ensures table { self.new ≡ once self.old frame.now reply }
@@ -227,7 +226,7 @@ impl Responder {
     }
 }
 
-/// Becomes what another is. It is a call of its own since often nothing is kept, and its room is then not moved.
+/// Slow path of `copy_from`, kept out of line: usually nothing is kept, and its octets then need not be moved.
 #[inline(never)]
 fn copy_kept(kept: &mut Option<Kept>, other: &Option<Kept>)
     ensures { kept.new ≡ other.now }
@@ -238,7 +237,7 @@ fn copy_kept(kept: &mut Option<Kept>, other: &Option<Kept>)
     }
 }
 
-/// The same is kept.
+/// Copies a kept request, in place if one is kept already.
 fn keep(kept: &mut Option<Kept>, last: &Kept)
     ensures { kept.new ≡ Some last.now }
 {
@@ -248,7 +247,7 @@ fn keep(kept: &mut Option<Kept>, last: &Kept)
     }
 }
 
-/// A reply telegram from `ts`, whose type is `station_type`, to the station that sent the request.
+/// A reply telegram from `ts`, with its type `station_type`, to the sender of the request.
 fn reply_frame(ts: u8, station_type: u8, request: &Frame, code: u8, unit: &[u8]) -> Reply
     requires station { ts ≤ 126 }
     requires type_bits { station_type ≤ 3 }
@@ -260,7 +259,7 @@ fn reply_frame(ts: u8, station_type: u8, request: &Frame, code: u8, unit: &[u8])
     Reply::Answer(Frame::new(request.sa() % 128, ts, fc, copy_octets(unit)))
 }
 
-/// The reply to an SRD: the reply data with the priority of the request, or none.
+/// The reply to an SRD: the reply data with the priority of the request, or NR if there is none.
 fn data_reply(ts: u8, station_type: u8, request: &Frame, high: bool, unit: &[u8]) -> Reply
     requires station { ts ≤ 126 }
     requires type_bits { station_type ≤ 3 }
@@ -274,7 +273,7 @@ fn data_reply(ts: u8, station_type: u8, request: &Frame, high: bool, unit: &[u8]
     reply_frame(ts, station_type, request, code, unit)
 }
 
-/// The reply of a service that is executed. No service takes an address extension.
+/// The reply to a service that is executed. No service supports an address extension.
 fn service_reply(
     ts: u8,
     station_type: u8,
@@ -298,8 +297,7 @@ fn service_reply(
     }
 }
 
-/// Whether an SDA or SRD is a repeat of the one before: its frame count bit counts, and requester and
-/// bit are the same.
+/// Whether an SDA or SRD repeats the kept one: its frame count bit is valid, and requester and bit are equal.
 fn is_repeat(kept: &Kept, request: &Frame) -> bool
     ensures { result ≡ is_repeat (Some kept.now) request.now }
 {

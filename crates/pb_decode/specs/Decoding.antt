@@ -8,7 +8,7 @@ use Rattle.pb_telegram.specs.declared.faults.TelegramFault.{TelegramFault}
 use Rattle.pb_decode.specs.Characters.{characters_of}
 use Rattle.pb_decode.specs.Texts.{short_text, var_text, fixed_text, token_text, fault_text}
 
--- the text of the telegram that octets spell, whose first octet tells its form
+-- the text of the telegram that octets spell; the first octet decides its form
 abbrev pub spelled_text : List ℕ → List ℕ
 spelled_text xs =
     if is_short xs then short_text (slice_index xs 1) (slice_index xs 2) (slice_index xs 3)
@@ -17,7 +17,7 @@ spelled_text xs =
     else if is_token xs then token_text (slice_index xs 1) (slice_index xs 2)
     else codes "ack"
 
--- the text of the fault, or of the telegram where there is none
+-- the text of the fault, or of the telegram if there is none
 abbrev pub text_unless_fault : Option TelegramFault → List ℕ → List ℕ
 text_unless_fault (Some fault) xs = fault_text fault
 text_unless_fault None xs = spelled_text xs
@@ -26,7 +26,7 @@ text_unless_fault None xs = spelled_text xs
 abbrev pub answer_text : List RxChar → List ℕ
 answer_text chars = text_unless_fault (fault_of chars) (octets chars)
 
--- the text of a line's characters, where it is hex
+-- the text of a line's characters, or the fault that it is not hex
 abbrev pub hex_text : Option (List RxChar) → List ℕ
 hex_text None = codes "fault 0 NotHex"
 hex_text (Some chars) = answer_text chars
@@ -40,7 +40,7 @@ is_refused (Some chars) = is_some (fault_of chars)
 abbrev pub line_text : List ℕ → List ℕ
 line_text line = hex_text (characters_of line) ++ codes "\n"
 
--- a line ends with a line feed, a carriage return and a line feed, or the input; after the last line feed there is none
+-- a line ends with a line feed, a carriage return and a line feed, or the input; none begins after the last line feed
 abbrev pub input_lines : List ℕ → List (List ℕ)
 input_lines input = map without_terminator (lines_of input)
 

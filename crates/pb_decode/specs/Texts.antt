@@ -7,7 +7,7 @@ use Rattle.pb_telegram.specs.declared.telegrams.Telegram.TheVariants.{Short, Var
 use Rattle.pb_telegram.specs.declared.faults.TelegramFault.{TelegramFault}
 use Rattle.pb_telegram.specs.declared.faults.TelegramFault.TheVariants.{Faulty}
 
--- an address, with a plus sign where bit 7 of its octet is set
+-- an address, with a plus sign if bit 7 of its octet is set
 abbrev pub address_text : ℕ → List ℕ
 address_text octet = decimal (octet % 128) ++ (if nat_le 128 octet then codes "+" else [])
 
@@ -39,7 +39,7 @@ telegram_text (Fixed8 t) = fixed_text t.da t.sa t.fc t.unit
 telegram_text (Token t) = token_text t.da t.sa
 telegram_text Ack = codes "ack"
 
--- the place that a damaged character's fault has after its name
+-- the index of the damaged character, after the fault's name
 abbrev pub place_text : TelegramFault → List ℕ
 place_text (Faulty place) = codes " " ++ decimal place
 place_text fault = []

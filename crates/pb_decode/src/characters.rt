@@ -1,3 +1,5 @@
+//! Reads the hex digits of a line as characters for a receiver.
+
 ghost use Rattle.std.specs.Prelude.{◌≡◌, ◌<◌, ◌≤◌, [], drop, length, IfSome, OnSome, is_some};
 ghost use Rattle.hex.specs.Hex.{hex_digit_value};
 ghost use Rattle.pb_telegram.specs.Receiving.{StandsFor};
@@ -5,9 +7,9 @@ ghost use Rattle.pb_decode.specs.Characters.{is_blank, octet_of_digits, characte
 
 use pb_telegram::{Receiver, RxChar};
 
-/// Feeds the characters that a line of hex stands for to a receiver to which none has come, and
-/// says whether the line is hex: spaces and tabs apart, pairs of hex digits of either case, or `--`
-/// for a damaged character. What the receiver has when the line is no hex is left open.
+/// Feeds the characters of a line of hex to a receiver that has been fed none, and returns whether the line is hex:
+/// pairs of hex digits of either case, or `--` for a damaged character. Spaces and tabs are ignored. If the line is not
+/// hex, the receiver's state is unspecified.
 pub fn feed_characters(receiver: &mut Receiver, line: &[u8]) -> bool
     requires { StandsFor receiver.old [] }
     ensures hex { result ≡ is_some (characters_of line.now) }
@@ -26,8 +28,8 @@ pub fn feed_characters(receiver: &mut Receiver, line: &[u8]) -> bool
     true
 }
 
-/// The next byte of a line from a place on that is no blank; the place goes behind it, or to the
-/// end of the line where there is none.
+/// Returns the next byte of a line, from `place` on, that is no space or tab, and moves `place` past it. If there is
+/// none, it returns `None` and moves `place` to the end of the line.
 fn next_digit(line: &[u8], place: &mut usize) -> Option<u8>
     requires { place.old ≤ length line.now }
     ensures next { IsNextDigit result (drop place.old line.now) (drop place.new line.now) }
@@ -51,7 +53,7 @@ fn is_blank(byte: u8) -> bool
     byte == b' ' || byte == b'\t'
 }
 
-/// The character that two bytes stand for.
+/// The character that two bytes spell: an octet or a damaged character.
 fn character(first: u8, second: u8) -> Option<RxChar>
     ensures { result ≡ character_of first second }
 {

@@ -1,3 +1,5 @@
+//! The text of a telegram is the text of the characters that spell it.
+
 ghost use Rattle.std.specs.Prelude.{◌≡◌, List};
 ghost use Rattle.pb_telegram.specs.Grammar.{Spells};
 ghost use Rattle.pb_telegram.specs.declared.chars.RxChar.{RxChar};
@@ -7,7 +9,7 @@ ghost use Rattle.pb_decode.specs.Texts.{telegram_text};
 
 use pb_telegram::{spelled_unit_is_the_telegrams, what_is_spelled_has_no_fault};
 
-/// The text of characters that spell a telegram is that telegram's.
+/// The text of characters that spell a telegram is the text of that telegram.
 pub fn spelled_text_is_the_telegrams()
     ensures { (chars : List RxChar) (t : Telegram) → Spells chars t → answer_text chars ≡ telegram_text t }
 {

@@ -1,7 +1,7 @@
-//! Lines of hex into lines of text: what `ringplay decode` writes for what it has read.
+//! Decodes lines of hex into lines of text: what `ringplay decode` writes for its input.
 //!
-//! [`decode`] goes through the lines, has a receiver of pb_telegram take the characters of each, and appends the text
-//! of the telegram that they spell, or of their first fault.
+//! For each line, [`decode`] feeds the characters to a receiver of pb_telegram, and appends the text of the telegram
+//! that they spell, or of their first fault.
 #![tactic(auto)]
 
 mod characters;

@@ -1,3 +1,5 @@
+//! Decodes an input, line by line.
+
 ghost use Rattle.std.specs.Prelude.{◌≡◌, ◌++◌, ◌||◌, List, IfOk, OnOk, is_some};
 ghost use Rattle.pb_telegram.specs.Faults.{fault_of};
 ghost use Rattle.pb_telegram.specs.Receiving.{StandsFor};
@@ -12,16 +14,16 @@ use bstr::ByteSlice;
 use pb_telegram::{Receiver, what_is_spelled_has_no_fault};
 use std::alloc::{AllocError, Global};
 
-/// Lines of text, and whether one of them is a fault.
+/// Lines of text, and whether any of them is a fault.
 #[derive(Drop)]
 pub struct Decoded {
-    /// The lines, each with a line feed, one for each line of the input.
+    /// The lines, each ended by a line feed: one for each line of the input.
     pub text: Vec<u8>,
-    /// Whether one of them is a fault.
+    /// Whether any line is a fault.
     pub is_refused: bool,
 }
 
-/// The lines of text for lines of hex.
+/// Decodes lines of hex into lines of text.
 ///
 /// Fault: memory was refused.
 pub fn decode(alloc: Global, input: &[u8]) -> Result<Decoded, AllocError>
@@ -39,8 +41,8 @@ pub fn decode(alloc: Global, input: &[u8]) -> Result<Decoded, AllocError>
     Ok(Decoded { text, is_refused })
 }
 
-/// Appends the line of text for a line of hex, and says whether it is refused; `receiver` is for its
-/// characters.
+/// Appends the line of text for a line of hex, and returns whether that line is refused. `receiver` is working memory
+/// for its characters.
 fn push_line(text: &mut Vec<u8>, receiver: &mut Receiver, line: &[u8]) -> Result<bool, AllocError>
     ensures text { OnOk result (text.new.items ≡ text.old.items ++ line_text line.now) }
     ensures refused { IfOk result (λ refused. refused ≡ is_refused (characters_of line.now)) }
@@ -50,8 +52,7 @@ fn push_line(text: &mut Vec<u8>, receiver: &mut Receiver, line: &[u8]) -> Result
     Ok(refused)
 }
 
-/// Appends the text of the characters that a line stands for, where it is hex, and says whether the
-/// line is refused.
+/// Appends the text of a line's characters, or the fault `NotHex`, and returns whether the line is refused.
 fn push_hex(text: &mut Vec<u8>, receiver: &mut Receiver, line: &[u8]) -> Result<bool, AllocError>
     ensures text { OnOk result (text.new.items ≡ text.old.items ++ hex_text (characters_of line.now)) }
     ensures refused { IfOk result (λ refused. refused ≡ is_refused (characters_of line.now)) }
@@ -64,8 +65,8 @@ fn push_hex(text: &mut Vec<u8>, receiver: &mut Receiver, line: &[u8]) -> Result<
     Ok(true)
 }
 
-/// Appends the text of the characters that came to a receiver, the telegram that they spell or
-/// their first fault, and says whether it is a fault.
+/// Appends the text of the telegram that the receiver's characters spell, or of their first fault, and returns whether
+/// it is a fault.
 fn push_answer(text: &mut Vec<u8>, receiver: &Receiver) -> Result<bool, AllocError>
     ensures text { (chars : List RxChar) → StandsFor receiver.now chars
         → OnOk result (text.new.items ≡ text.old.items ++ answer_text chars) }
@@ -81,7 +82,7 @@ fn push_answer(text: &mut Vec<u8>, receiver: &Receiver) -> Result<bool, AllocErr
     push_other_answer(text, receiver)
 }
 
-/// The same, for any other answer.
+/// Slow path of `push_answer`: any answer but a short acknowledgement.
 fn push_other_answer(text: &mut Vec<u8>, receiver: &Receiver) -> Result<bool, AllocError>
     ensures text { (chars : List RxChar) → StandsFor receiver.now chars
         → OnOk result (text.new.items ≡ text.old.items ++ answer_text chars) }

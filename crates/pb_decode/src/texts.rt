@@ -1,3 +1,5 @@
+//! The texts of telegrams and of their faults.
+
 ghost use Rattle.std.specs.Prelude.{◌≡◌, ◌≤◌, ◌++◌, ◌∷◌, [], OnOk, codes, decimal, length};
 ghost use Rattle.hex.specs.Hex.{encode_lower, encode_with};
 ghost use Rattle.pb_telegram.specs.declared.telegrams.Telegram.TheVariants.{Ack};
@@ -7,7 +9,7 @@ use itoa::{Buffer, Integer};
 use pb_telegram::{Telegram, TelegramFault};
 use std::alloc::AllocError;
 
-/// The most octets that a unit has.
+/// The most octets of a unit.
 const LONGEST_UNIT: usize = 246;
 
 /// Appends the text of a telegram.
@@ -54,7 +56,7 @@ pub fn push_fault(text: &mut Vec<u8>, fault: &TelegramFault) -> Result<(), Alloc
     push_place(text, fault)
 }
 
-/// Appends the place of a damaged character, which the other faults don't have.
+/// Appends the index of the damaged character. Other faults have none.
 fn push_place(text: &mut Vec<u8>, fault: &TelegramFault) -> Result<(), AllocError>
     ensures { OnOk result (text.new.items ≡ text.old.items ++ place_text fault.now) }
 {
@@ -67,7 +69,7 @@ fn push_place(text: &mut Vec<u8>, fault: &TelegramFault) -> Result<(), AllocErro
     }
 }
 
-/// Appends the destination and the source address and the control octet.
+/// Appends the addresses and the control octet.
 fn push_head(text: &mut Vec<u8>, da: u8, sa: u8, fc: u8) -> Result<(), AllocError>
     ensures { OnOk result (text.new.items ≡ text.old.items ++ head_text da sa fc) }
 {
@@ -76,7 +78,7 @@ fn push_head(text: &mut Vec<u8>, da: u8, sa: u8, fc: u8) -> Result<(), AllocErro
     push_octet(text, fc)
 }
 
-/// Appends the destination and the source address, the control octet and the unit.
+/// Appends the addresses, the control octet and the unit.
 fn push_data(text: &mut Vec<u8>, da: u8, sa: u8, fc: u8, unit: &[u8]) -> Result<(), AllocError>
     requires { length unit.now ≤ 246 }
     ensures { OnOk result (text.new.items ≡ text.old.items ++ data_text da sa fc unit.now) }
@@ -86,7 +88,7 @@ fn push_data(text: &mut Vec<u8>, da: u8, sa: u8, fc: u8, unit: &[u8]) -> Result<
     push_unit(text, unit)
 }
 
-/// Appends the octets of a unit, each as two hex digits in lower case.
+/// Appends the octets of a unit, each as two lower-case hex digits.
 fn push_unit(text: &mut Vec<u8>, unit: &[u8]) -> Result<(), AllocError>
     requires { length unit.now ≤ 246 }
     ensures { OnOk result (text.new.items ≡ text.old.items ++ encode_lower unit.now) }
@@ -97,7 +99,7 @@ fn push_unit(text: &mut Vec<u8>, unit: &[u8]) -> Result<(), AllocError>
     text.extend_from_slice(digits)
 }
 
-/// Appends the destination and the source address.
+/// Appends the destination address and the source address.
 fn push_addresses(text: &mut Vec<u8>, da: u8, sa: u8) -> Result<(), AllocError>
     ensures { OnOk result (text.new.items ≡ text.old.items ++ addresses_text da sa) }
 {
@@ -107,7 +109,7 @@ fn push_addresses(text: &mut Vec<u8>, da: u8, sa: u8) -> Result<(), AllocError>
     push_address(text, sa)
 }
 
-/// Appends an address, with a plus sign where bit 7 of its octet is set.
+/// Appends an address, and a plus sign if bit 7 of its octet is set.
 fn push_address(text: &mut Vec<u8>, octet: u8) -> Result<(), AllocError>
     ensures { OnOk result (text.new.items ≡ text.old.items ++ address_text octet) }
 {
@@ -125,7 +127,7 @@ fn push_number<N: Integer>(text: &mut Vec<u8>, number: N) -> Result<(), AllocErr
     text.extend_from_slice(Buffer::new().format(number).as_bytes())
 }
 
-/// Appends an octet as two hex digits in lower case.
+/// Appends an octet as two lower-case hex digits.
 #[tactic(auto, unfolding(hex::specs::Hex::encode_with))]
 fn push_octet(text: &mut Vec<u8>, octet: u8) -> Result<(), AllocError>
     ensures { OnOk result (text.new.items ≡ text.old.items ++ encode_lower (octet ∷ [])) }

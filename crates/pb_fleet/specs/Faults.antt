@@ -1,4 +1,4 @@
--- Why a fleet gives no report.
+-- Why a fleet returns no report.
 use Rattle.std.specs.Prelude.{◌≡◌, ℕ, ◌≤◌, Result, IsOk, MatchResult}
 use Rattle.pb_model.specs.World as model
 use Rattle.pb_model.specs.World.{World}
@@ -6,11 +6,11 @@ use Rattle.pb_taps.specs.Faults.{new_fault}
 use Rattle.pb_fleet.specs.declared.faults.FleetFault.{FleetFault}
 use Rattle.pb_fleet.specs.declared.faults.FleetFault.TheVariants as fault
 
--- so many workers are a crew
+-- a valid number of workers
 abbrev pub IsCrew : ℕ → Type 0
 IsCrew workers = (1 ≤ workers) × (workers ≤ 64)
 
--- a fault that comes of a fleet with a world to play on
+-- a fault of a fleet with a world to play on
 abbrev pub IsOfPlay : FleetFault → Type 0
 IsOfPlay fault.BadWorkers = ⊥
 IsOfPlay (fault.Commit tap now why) = Unit {0}
@@ -21,8 +21,8 @@ IsOfPlay (fault.Closing why) = Unit {0}
 IsOfPlay fault.NoMemory = Unit {0}
 IsOfPlay (fault.New why) = ⊥
 
--- why a fleet of so many workers gives no report, with what its new world is: they are no crew; or there is no such world;
--- or any other fault, where neither is so
+-- why a fleet of this many workers returns no report, given its new world: the number is not valid; or there is no such
+-- world; or any other fault, if neither holds
 abbrev pub RefusesFleet : ℕ → Result World model.NewFault → FleetFault → Type 0
 RefusesFleet workers made fault.BadWorkers = IsCrew workers → ⊥
 RefusesFleet workers made (fault.Commit tap now why) = IsCrew workers × IsOk made

@@ -9,15 +9,16 @@ use Rattle.pb_segment.specs.Origins.{Origin}
 use Rattle.pb_segment.specs.Reports.{ReportView}
 use Rattle.pb_segment.specs.declared.outlooks.Outlook.{Outlook}
 
--- of what the new world of a scenario is made
+-- the definition of the new world of a scenario
 abbrev pub begins : Scenario → Origin
 begins s = record { params = s.params; specs = s.taps }
 
--- outlooks as runs say them
+-- outlooks as the plain data of runs
 abbrev pub looks_of : List Outlook → List runs.Look
 looks_of outlooks = map (λ o. record { place = o.place; dues = o.due; change = o.next_change }) outlooks
 
--- a report's history leads from a scenario's new world to one with the report's trace, which keeps the promises of the token and of silence
+-- a report's history leads from a scenario's new world to one with the report's trace, which keeps the promises of the
+-- token and of silence
 pub record IsPlayed (s : Scenario) (r : ReportView) : Type 0 where
   pub first : World
   pub last : World

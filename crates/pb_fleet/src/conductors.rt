@@ -1,3 +1,5 @@
+//! The conductor: drives a scenario's steps and time, and has the turns served.
+
 ghost use Rattle.std.specs.Prelude.{◌≡◌, ◌<◌, ◌≤◌, IfOk, IfSome, length};
 
 use crate::faults::PlayFault;
@@ -10,7 +12,7 @@ use std::alloc::Global;
 use std::sync::Wait;
 use std::sync::ledger::Ledger;
 
-/// The conductor's seat, and what was seen from it last.
+/// The conductor's seat, and the last outlook.
 #[derive(Drop)]
 pub(crate) struct Conductor<L: Ledger> {
     pub(crate) seat: ConductorSeat<L>,
@@ -18,13 +20,13 @@ pub(crate) struct Conductor<L: Ledger> {
 }
 
 impl<L: Ledger> Conductor<L> {
-    /// Nothing was seen from the seat yet.
+    /// A conductor that has seen no outlook.
     pub(crate) fn new(seat: ConductorSeat<L>) -> Conductor<L> {
         Conductor { seat, seen: None }
     }
 
-    /// Drives a scenario from instant to instant, and has the turns taken, with a worker of its own. It stops where a
-    /// worker has met a fault.
+    /// Drives a scenario from instant to instant, and has the turns taken, also by a worker of its own. It stops if a
+    /// worker had a fault.
     pub(crate) fn conduct<R: Wait, G: Gate>(
         &mut self,
         worker: &mut Worker<'_, '_, L, R, G>,
@@ -41,8 +43,8 @@ impl<L: Ledger> Conductor<L> {
         Ok(())
     }
 
-    /// Plays the instant at which a walk through the scenario is, and answers the next one, if there is one. The list
-    /// of its turns is made in a room that is used anew.
+    /// Plays the instant at which the walk is, and returns the next instant, if there is one. The memory of the list of
+    /// turns is reused.
     fn instant<R: Wait, G: Gate>(
         &mut self,
         worker: &mut Worker<'_, '_, L, R, G>,
@@ -69,7 +71,7 @@ impl<L: Ledger> Conductor<L> {
         Ok(next)
     }
 
-    /// What some steps of a moment say before the turns or after them happens.
+    /// Drives the events that some steps trigger before or after the turns.
     fn steps<R: Wait>(
         &mut self,
         rt: &R,
@@ -87,7 +89,7 @@ impl<L: Ledger> Conductor<L> {
         Ok(())
     }
 
-    /// An event happens at a moment.
+    /// Drives an event at `now`.
     fn drive<R: Wait>(
         &mut self,
         rt: &R,
@@ -102,7 +104,7 @@ impl<L: Ledger> Conductor<L> {
         }
     }
 
-    /// Looks at the bus, and keeps what is seen.
+    /// Takes an outlook, and keeps it.
     fn look<R: Wait>(
         &mut self,
         rt: &R,
@@ -123,7 +125,7 @@ impl<L: Ledger> Conductor<L> {
         }
     }
 
-    /// What was seen last, where it is of all taps.
+    /// The last outlook, if it has all taps.
     fn shown(&self, walk: &Walk<'_>) -> Result<&Outlook, PlayFault>
         ensures { IfOk result (λ o. length o.now.due ≡ walk.now.taps) }
     {

@@ -1,10 +1,12 @@
+//! Draws the numbers of offers, without a lock.
+
 ghost use Rattle.std.specs.Prelude.{◌≡◌, ◌≤◌};
 ghost use Rattle.pb_tickets.specs.Seats.{IsOf, parts_of};
 
 use pb_tickets::{TicketSeat, Tickets};
 use std::alloc::{AllocError, Global};
 
-/// Who draws the numbers of offers: a seat at the run's tickets.
+/// A drawer of the numbers of offers: a seat at the run's tickets.
 #[derive(Drop)]
 pub(crate) struct Drawer<'a> {
     pub(crate) tickets: &'a Tickets,
@@ -13,13 +15,15 @@ pub(crate) struct Drawer<'a> {
 }
 
 impl Drawer<'_> {
-    /// The next number, which nobody else draws; None once there are no more.
+    /// The next number, which no other drawer gets; `None` if there are no more.
     pub(crate) fn draw(&mut self) -> Option<u64> {
         self.tickets.draw(&mut self.seat)
     }
 }
 
-/// A drawer for each of a crew but the one with the given seat. Its fault: memory was refused.
+/// A drawer for each worker of the crew except the owner of the given seat.
+///
+/// Fault: memory was refused.
 pub(crate) fn helpers<'a>(
     alloc: Global,
     tickets: &'a Tickets,

@@ -1,15 +1,17 @@
+//! Why a fleet returns no report.
+
 ghost use Rattle.std.specs.Prelude.{◌≡◌};
 ghost use Rattle.pb_fleet.specs.Faults.{IsOfPlay};
 ghost use Rattle.pb_fleet.specs.declared.faults.PlayFault.TheVariants as play;
 
+use pb_refusals::NoMemory;
 use pb_segment::{CloseFault, CommitFault, NewFault};
-use pb_station::NoMemory;
 use std::alloc::AllocError;
 use thiserror::Error;
 
-/// Why a fleet gives no report. `BadWorkers` is looked for first, and right after it `New`, which stands last here;
-/// both come before any worker starts. Of several other faults the one that stands first here is given, and of several
-/// of one kind that of the least tap.
+/// Why a fleet returns no report. `BadWorkers` is tested first, and then `New`, which is the last one here; both before
+/// any worker starts. If there are several other faults, the first in this list is returned, and of several of one kind
+/// that of the tap with the lowest index.
 #[derive(Clone, Copy, Debug, PartialEq, Eq, Error)]
 pub enum FleetFault {
     /// 1: the number of workers is not 1 to 64.
@@ -18,34 +20,34 @@ pub enum FleetFault {
     /// 2: a tap could not take its turn.
     #[error("Commit {tap} {now} {fault}")]
     Commit {
-        /// The tap, counted from 0.
+        /// The index of the tap, from 0.
         tap: usize,
         /// The clock, in bit times.
         now: u64,
-        /// Why; `Disagree` also where the tap could not be seen.
+        /// The fault of the segment; `Disagree` also if the glance disagreed.
         fault: CommitFault,
     },
-    /// 3: what is no turn could not happen, or the bus could not be seen.
+    /// 3: an event that is no turn could not be applied, or an outlook failed.
     #[error("Drive {now} {fault}")]
     Drive {
         /// The clock, in bit times.
         now: u64,
-        /// Why; `Disagree` also where the bus could not be seen.
+        /// The fault of the segment; `Disagree` also if the outlook disagreed.
         fault: CommitFault,
     },
-    /// 4: the gate answered false for a tap.
+    /// 4: the gate returned false for a tap.
     #[error("GateClosed {0}")]
     GateClosed(usize),
-    /// 5: a thread could not be made, also for want of memory.
+    /// 5: a thread could not be spawned, also because memory was refused.
     #[error("NoThread")]
     NoThread,
     /// 6: the segment could not be closed, or what has happened on it is not the scenario's run (`Disagree`).
     #[error("Closing {0}")]
     Closing(CloseFault),
-    /// 7: memory was refused, but in a commit or a drive, or for a thread.
+    /// 7: memory was refused, except in a commit, in a drive or for a thread.
     #[error("NoMemory")]
     NoMemory,
-    /// 8: there is no new world of the scenario's taps.
+    /// 8: the scenario's taps make no new world.
     #[error("New {0}")]
     New(NewFault),
 }
@@ -100,7 +102,7 @@ impl From<NoMemory> for PlayFault {
 }
 
 impl PlayFault {
-    /// By what faults are compared: the place of the kind, and the tap.
+    /// How faults are ordered: by kind, then by tap.
     fn rank(self) -> (u8, usize) {
         match self {
             PlayFault::Commit { tap, .. } => (2, tap),
@@ -113,7 +115,7 @@ impl PlayFault {
     }
 }
 
-/// The fault that is given of two, of which either may be missing.
+/// The lesser of two faults; if one is `None`, the other.
 pub(crate) fn least(one: Option<PlayFault>, other: Option<PlayFault>) -> Option<PlayFault> {
     match (one, other) {
         (None, fault) | (fault, None) => fault,

@@ -30,25 +30,24 @@ use std::thread::Threads;
 /// The most workers of a fleet.
 const MOST_WORKERS: usize = 64;
 
-/// Plays a scenario with some workers, one in this thread and each other in one of its own, and gives the report of all
-/// that has happened. The report's trace is that of the scenario's run on one thread, for every number of workers,
-/// every schedule and every gate. Where the events of its history break no premise, one station at most may initiate after
-/// them, the trace names it, and each initiator telegram is legal (medium access: token passing). Where none of them loses
-/// a telegram or lets a turn come late, no running master that isn't offline has been left in silence for longer than its
-/// time-out and the lag.
+/// Plays a scenario with some workers, one in this thread and each other in its own thread, and returns the report of
+/// all that happened. The report's trace is that of the scenario's run on one thread, for every number of workers,
+/// every schedule and every gate. If the events of its history break no premise, at most one station may initiate after
+/// them, the trace names that one, and each initiator telegram is legal (medium access: token passing). If none of them
+/// loses a telegram or lets a turn be late, no running master that is not offline has been in silence, as it hears the
+/// bus, for longer than its time-out and the lag.
 ///
-/// A conductor drives the steps of the scenario, and time from one instant to the next. In each instant it
-/// offers the turns of all taps that are due and aren't withheld, all together. Workers, the conductor among
-/// them, draw the offers by tickets; one looks at the tap, asks the gate, decides the turn outside the lock, and
-/// commits it. There are no more workers than taps. At the end all that was told and shown is compared, and
-/// the history has to be cut into the scenario's instants, both at once where there are two workers: no event is
-/// applied twice.
+/// A conductor drives the steps of the scenario, and time from one instant to the next. In each instant it publishes
+/// the turns of all taps that are due and not withheld, together. Workers, including the conductor, draw these offers
+/// by tickets. A worker glances at the tap, asks the gate, decides the turn outside the lock, and commits it. There are
+/// no more workers than taps. At the end receipts and outlooks are compared with the history, and the history must be
+/// cut into the scenario's instants; with two or more workers both are done concurrently. No event is applied twice.
 ///
-/// Faults: `BadWorkers` for fewer than 1 or more than 64; then `New` where there is no new world of the
-/// scenario's taps. After another fault no more turns are offered, all workers are joined, and the least of
-/// the faults is given: `Commit` with a tap, the clock in bit times and the segment's fault; `Drive` with the
-/// clock and the fault; `GateClosed` with a tap for which the gate answered false; `NoThread`; `Closing`;
-/// `NoMemory`. Of several of one kind it is that of the least tap.
+/// Faults: `BadWorkers` for fewer than 1 or more than 64 workers; then `New` if the scenario's taps make no new world.
+/// After any other fault no more turns are offered, all workers are joined, and the least fault is returned: `Commit`
+/// with the tap, the clock in bit times and the segment's fault; `Drive` with the clock and the fault; `GateClosed`
+/// with a tap for which the gate returned false; `NoThread`; `Closing`; `NoMemory`. Of several of one kind, it is that
+/// of the tap with the lowest index.
 pub fn run_fleet<R: Threads + Wait + Sync, G: Gate>(
     rt: &R,
     alloc: Global,
@@ -75,7 +74,7 @@ pub fn run_fleet<R: Threads + Wait + Sync, G: Gate>(
     Ok(report)
 }
 
-/// Plays it on a new world, with the ledger that is named.
+/// Plays the scenario on a new world, with the ledger `L`.
 fn fleet<L: Ledger + Send + Sync, R: Threads + Wait + Sync, G: Gate>(
     rt: &R,
     alloc: Global,
@@ -125,7 +124,7 @@ fn fleet<L: Ledger + Send + Sync, R: Threads + Wait + Sync, G: Gate>(
     }
 }
 
-/// A report, where a review has found that what it tells is the run of a scenario.
+/// The report, if the review has found that it is the run of the scenario.
 fn reviewed(scenario: &Scenario, report: Report, is_run: bool) -> Result<Report, PlayFault>
     requires report { IsReport report }
     requires origin { report.origin ≡ begins scenario.now.scenario }
@@ -141,7 +140,7 @@ fn reviewed(scenario: &Scenario, report: Report, is_run: bool) -> Result<Report,
     }
 }
 
-/// Plays it with a crew that draws turns by tickets: the conductor works in this thread, and each helper in one of
+/// Plays the scenario with a crew that draws turns by tickets. The conductor works in this thread, and each helper in
 /// its own.
 fn play<'a, L: Ledger + Send + Sync, R: Threads + Wait + Sync, G: Gate>(
     rt: &'a R,

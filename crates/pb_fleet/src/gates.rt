@@ -1,8 +1,9 @@
+//! The gate: a hook before each turn.
+
 /// What a worker asks before it decides a turn.
 pub trait Gate: Sync {
-    /// Whether a tap, counted from 0, may take the turn that it is offered. A worker calls it outside the
-    /// lock, between its glance and its commit, so it may wait for the turn of a later tap of the same
-    /// instant, as long as fewer turns wait than there are workers. False ends the run. It has to return: that
-    /// is the caller's condition.
+    /// Whether a tap, with its index from 0, may take the turn that it is offered. A worker calls this outside the
+    /// lock, between its glance and its commit. It may therefore wait for the turn of a later tap of the same instant,
+    /// as long as fewer turns wait than there are workers. `false` ends the run. The caller ensures that it returns.
     fn between(&self, tap: usize) -> bool;
 }

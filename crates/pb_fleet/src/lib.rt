@@ -1,5 +1,5 @@
-//! A fleet of workers that plays a scenario: they draw turns by tickets, and decide them side by side in threads,
-//! and the trace is that of the scenario's run on one thread, for every number of workers and every schedule.
+//! A fleet of workers that plays a scenario. The workers draw turns by tickets and decide them concurrently, and the
+//! trace is that of the scenario's run on one thread, for every number of workers and every schedule.
 #![tactic(auto)]
 
 mod conductors;

@@ -1,4 +1,4 @@
-//! How turns are offered, and how conductor and workers wait for one another.
+//! How turns are offered, and how the conductor and the helpers wait for each other.
 
 ghost use Rattle.std.specs.Prelude.{◌<◌};
 
@@ -11,31 +11,32 @@ use std::sync::{Mutex, Wait};
 use std::thread::Parker;
 use std::time::Duration;
 
-/// How often the conductor looks whether it may go on before it sleeps: a few microseconds, less than a wake-up takes.
+/// How many times the conductor looks whether it may continue before it sleeps: a few microseconds, less than a wake-up
+/// takes.
 const LOOKS: u32 = 1000;
 
-/// How long the helper that watches sleeps before it looks again, in microseconds.
+/// How long the watching helper sleeps before it looks again, in microseconds.
 const WATCH: u64 = 100;
 
-/// How many turns are few in that time: more are sooner taken by those who are awake than by one who has to be woken.
+/// If at least this many turns were taken in that time, the active workers are faster than waking another one.
 const FEW: u64 = 8;
 
-/// How many taps are named in a word, in eight bits each: a store takes as long as dozens of other instructions.
+/// How many taps are packed in a word, in eight bits each: a store costs as much as dozens of other instructions.
 const NAMED: usize = 8;
 
-/// The most offers of a run: a history has no more events.
+/// The most offers of a run: a history has at most as many events.
 pub(crate) const MOST_OFFERS: u64 = 1_000_000;
 
-/// No number of an offer.
+/// Not the number of an offer.
 const NONE: u64 = u64::MAX;
 
-/// The offers of a run, each a moment and a tap whose turn it is, numbered from 0 on. Those of an instant are
-/// published together, and an offer lends the seat of its tap.
+/// The offers of a run, numbered from 0: each is a moment, and a tap whose turn it is. Those of an instant are
+/// published together. An offer lends the seat of its tap.
 #[derive(Drop)]
 pub(crate) struct Pool<L: Ledger> {
     /// The seat of each tap.
     seats: Vec<Mutex<TapSeat<L>>>,
-    /// The taps of the instant's offers, in their order, [`NAMED`] in a word.
+    /// The taps of the instant's offers, in ascending order, [`NAMED`] in a word.
     taps: Vec<AtomicU64>,
     /// The instant, in bit times.
     now: AtomicU64,
@@ -47,16 +48,16 @@ pub(crate) struct Pool<L: Ledger> {
     open: AtomicUsize,
     /// Whether an offer was served with a fault.
     failed: AtomicBool,
-    /// Whether no offers come any more.
+    /// Whether no more offers come.
     ended: AtomicBool,
     conductor: Parker,
-    /// Where the helpers wait.
+    /// Where each helper waits.
     beds: Vec<Bed>,
-    /// How many of them wait for any offer.
+    /// How many helpers wait for any offer.
     idle: AtomicUsize,
-    /// Whether one of those watches.
+    /// Whether one of these helpers watches.
     watched: AtomicBool,
-    /// How many of them wait for the offer whose number they have drawn.
+    /// How many helpers wait for the offer with the number that they have drawn.
     holding: AtomicUsize,
 }
 
@@ -64,9 +65,9 @@ pub(crate) struct Pool<L: Ledger> {
 #[derive(Drop)]
 struct Bed {
     helper: Parker,
-    /// Whether it waits for any offer.
+    /// Whether the helper waits for any offer.
     is_idle: AtomicBool,
-    /// The number of the one offer that it waits for, or `NONE`.
+    /// The number of the only offer for which it waits, or `NONE`.
     number: AtomicU64,
 }
 
@@ -80,17 +81,19 @@ impl Bed {
     }
 }
 
-/// An offer: whose turn it is, at which moment.
+/// An offer: a tap's turn at a moment.
 #[derive(Clone, Copy, Debug)]
 pub(crate) struct Offer {
     /// The moment, in bit times.
     pub(crate) now: u64,
-    /// The tap, counted from 0.
+    /// The index of the tap, from 0.
     pub(crate) tap: usize,
 }
 
 impl<L: Ledger> Pool<L> {
-    /// No offers yet, of turns of the taps of some seats, for so many helpers. Its fault: memory was refused.
+    /// A pool without offers, with the seats of the taps and places for this many helpers.
+    ///
+    /// Fault: memory was refused.
     pub(crate) fn new(
         alloc: Global,
         seats: Vec<TapSeat<L>>,
@@ -126,8 +129,8 @@ impl<L: Ledger> Pool<L> {
         })
     }
 
-    /// Offers the turns of some taps at a moment, all together, once all offers before were served. False where a run
-    /// can't have so many offers; then it does nothing.
+    /// Publishes the turns of some taps at a moment, together, after all offers before were served. Returns false, and
+    /// does nothing, if the run would have too many offers.
     pub(crate) fn publish(&self, now: u64, turns: &[usize]) -> bool {
         let first = self.published.load(Ordering::SeqCst);
         let published = first.saturating_add(turns.len() as u64);
@@ -145,7 +148,7 @@ impl<L: Ledger> Pool<L> {
         true
     }
 
-    /// The offer with a number that was published.
+    /// The published offer with this number.
     pub(crate) fn offer(&self, number: u64) -> Option<Offer> {
         let place = number.saturating_sub(self.first.load(Ordering::SeqCst)) as usize;
         let word = self.taps.get(place / NAMED)?;
@@ -160,12 +163,12 @@ impl<L: Ledger> Pool<L> {
         self.seats.get(tap)
     }
 
-    /// Whether the offer with a number was published.
+    /// Whether the offer with this number is published.
     pub(crate) fn is_published(&self, number: u64) -> bool {
         number < self.published.load(Ordering::SeqCst)
     }
 
-    /// An offer was served, perhaps with a fault.
+    /// An offer was served; `failed` is whether with a fault.
     pub(crate) fn served(&self, failed: bool) {
         if failed {
             self.failed.store(true, Ordering::SeqCst);
@@ -175,7 +178,7 @@ impl<L: Ledger> Pool<L> {
         }
     }
 
-    /// The conductor waits until all offers of the instant were served. False where one was with a fault.
+    /// The conductor waits until all offers of the instant are served. Returns false if one was served with a fault.
     pub(crate) fn wait_until_served<R: Wait>(&self, rt: &R) -> bool {
         for _ in 0..LOOKS {
             if self.is_served() {
@@ -196,9 +199,9 @@ impl<L: Ledger> Pool<L> {
         self.open.load(Ordering::SeqCst) == 0
     }
 
-    /// A helper waits until one more is wanted. False once no offers come any more. One of those who wait watches, and
-    /// looks from time to time whether those who are awake get on, or the gate holds them; it wakes another to watch when
-    /// it goes. The others sleep, so that nobody who takes turns has to wake anyone.
+    /// A helper waits until one more worker is needed. Returns false if no more offers come. One of the waiting helpers
+    /// watches: it looks from time to time whether the active workers make progress or are held by the gate, and before
+    /// it leaves it wakes another one to watch. The others stay parked, so the hot path never issues a wake-up.
     pub(crate) fn wait_for_any<R: Wait>(&self, rt: &R, helper: usize) -> bool {
         let Some(bed) = self.beds.get(helper) else {
             return false;
@@ -226,8 +229,8 @@ impl<L: Ledger> Pool<L> {
         !self.has_ended()
     }
 
-    /// A helper waits until the offer with the number that it has drawn was published. False once no offers come any
-    /// more.
+    /// A helper waits until the offer with the number that it has drawn is published. Returns false if no more offers
+    /// come.
     pub(crate) fn wait_for<R: Wait>(&self, rt: &R, helper: usize, number: u64) -> bool {
         if self.is_published(number) {
             return true;
@@ -248,7 +251,7 @@ impl<L: Ledger> Pool<L> {
         self.is_published(number)
     }
 
-    /// Sends all helpers home: no offers come any more.
+    /// Releases all helpers: no more offers come.
     pub(crate) fn end(&self) {
         self.ended.store(true, Ordering::SeqCst);
         for bed in &self.beds {
@@ -256,7 +259,9 @@ impl<L: Ledger> Pool<L> {
         }
     }
 
-    /// The seats of all taps, in their order. Its fault: memory was refused.
+    /// The seats of all taps, in their order.
+    ///
+    /// Fault: memory was refused.
     pub(crate) fn into_seats(self, alloc: Global) -> Result<Vec<TapSeat<L>>, AllocError> {
         let mut seats = Vec::with_capacity(alloc, self.seats.len())?;
         for seat in self.seats {
@@ -265,19 +270,19 @@ impl<L: Ledger> Pool<L> {
         Ok(seats)
     }
 
-    /// How many of the crew don't wait for an offer.
+    /// How many workers of the crew do not wait for an offer.
     fn awake(&self) -> usize {
         let crew = self.beds.len().saturating_add(1);
         crew.saturating_sub(self.idle.load(Ordering::SeqCst))
             .saturating_sub(self.holding.load(Ordering::SeqCst))
     }
 
-    /// Whether no offers come any more.
+    /// Whether no more offers come.
     fn has_ended(&self) -> bool {
         self.ended.load(Ordering::SeqCst)
     }
 
-    /// Whether there are more offers than those who are awake serve, and few turns were taken since so many had been.
+    /// Whether there are more open offers than active workers, and few turns were taken since their number was `taken`.
     fn is_one_wanted(&self, taken: u64) -> bool {
         self.open.load(Ordering::SeqCst) > self.awake() && self.taken() < taken.saturating_add(FEW)
     }
@@ -288,19 +293,19 @@ impl<L: Ledger> Pool<L> {
         self.published.load(Ordering::SeqCst).saturating_sub(open)
     }
 
-    /// A helper waits for any offer.
+    /// Marks a helper as waiting for any offer.
     fn lies_down(&self, bed: &Bed) {
         self.idle.fetch_add(1, Ordering::SeqCst);
         bed.is_idle.store(true, Ordering::SeqCst);
     }
 
-    /// It doesn't any more.
+    /// Marks a helper as no longer waiting for any offer.
     fn gets_up(&self, bed: &Bed) {
         bed.is_idle.store(false, Ordering::SeqCst);
         self.idle.fetch_sub(1, Ordering::SeqCst);
     }
 
-    /// Wakes a helper that waits for any offer, if there is one.
+    /// Wakes one helper that waits for any offer, if there is one.
     fn wake_one(&self) {
         for bed in &self.beds {
             if bed.is_idle.load(Ordering::SeqCst) {
@@ -310,7 +315,7 @@ impl<L: Ledger> Pool<L> {
         }
     }
 
-    /// Wakes the helpers that wait for an offer of their own among those that were published.
+    /// Wakes the helpers whose own offers are now published.
     fn wake_holders(&self, published: u64) {
         if self.holding.load(Ordering::SeqCst) == 0 {
             return;
@@ -323,7 +328,7 @@ impl<L: Ledger> Pool<L> {
     }
 }
 
-/// The names of some taps, in one word.
+/// The indices of some taps, packed in one word.
 fn names(taps: &[usize]) -> u64 {
     let mut word = 0;
     for tap in taps.iter().rev() {
@@ -332,7 +337,7 @@ fn names(taps: &[usize]) -> u64 {
     word
 }
 
-/// The tap that a word names at a place.
+/// The tap at a place of a word.
 fn named_at(word: u64, place: usize) -> usize
     requires { place < 8 }
 {

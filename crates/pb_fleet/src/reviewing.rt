@@ -1,4 +1,4 @@
-//! Reviews what has happened on a segment: whether it is the run of a scenario.
+//! Reviews the history of a segment: whether it is the run of a scenario.
 
 ghost use Rattle.std.specs.Prelude.{◌≡◌, true, IfOk};
 ghost use Rattle.pb_runs.specs.Laws.{IsRunOf};
@@ -10,7 +10,7 @@ use pb_scenario::Scenario;
 use pb_segment::{Draft, Event};
 use std::alloc::{AllocError, Global};
 
-/// What has happened on a segment, as a review reads it.
+/// The history of a segment, as a review reads it.
 #[derive(Drop)]
 struct Played<'a> {
     draft: Draft<'a>,
@@ -47,8 +47,9 @@ impl<'a> pb_review::Report for Played<'a> {
     }
 }
 
-/// True only where what has happened is the run of a scenario, as its outlooks show. No event is applied. The fault: memory
-/// was refused.
+/// Whether the history is the run of a scenario, as its outlooks show. No event is applied.
+///
+/// Fault: memory was refused.
 pub(crate) fn review(
     alloc: Global,
     scenario: &Scenario,

@@ -1,4 +1,4 @@
-//! Tests of fleets: what no contract says of workers that play side by side, and of the faults that end them.
+//! Tests of fleets: what no contract states about workers in threads, and about the faults that end them.
 
 use crate::{FleetFault, Gate, run_fleet};
 use pb_scenario::{Scenario, read};
@@ -17,7 +17,7 @@ tap = [{ name = 'a', kind = 'master', address = 1 }, { name = 'b', kind = 'maste
 step = [{ at = 0, do = 'start', tap = 'a' }, { at = 0, do = 'start', tap = 'b' }]
 ";
 
-/// The same, and at 950 `b` is to hear what it sends itself damaged.
+/// The same scenario; at 950 tap `b` is to receive its own telegram damaged, which is refused.
 const OWN_DAMAGE: &str = "version = 1
 until = 1400
 bus = { tsl = 100, tid1 = 37, tid2 = 60, tsdr = 11, lag = 0, ttr = 10000, gap = 10, hsa = 5, retries = 1 }
@@ -36,7 +36,7 @@ step = [{ at = 0, do = 'start', tap = 'a' }, { at = 0, do = 'start', tap = 'b' }
         { at = 0, do = 'start', tap = 'c' }]
 ";
 
-/// The same up to 100,000, by when thousands of events have happened.
+/// The same three masters up to 100,000, with thousands of events.
 const LONG: &str = "version = 1
 until = 100000
 bus = { tsl = 100, tid1 = 37, tid2 = 60, tsdr = 11, lag = 0, ttr = 10000, gap = 10, hsa = 5, retries = 1 }
@@ -53,7 +53,7 @@ bus = { tsl = 100, tid1 = 37, tid2 = 60, tsdr = 11, lag = 0, ttr = 10000, gap = 
 tap = []
 ";
 
-/// Lets each tap through.
+/// Lets every tap through.
 #[derive(Drop)]
 struct Open;
 
@@ -63,7 +63,7 @@ impl Gate for Open {
     }
 }
 
-/// Lets one tap not through.
+/// Stops one tap.
 #[derive(Drop)]
 struct Shut(usize);
 
@@ -73,7 +73,7 @@ impl Gate for Shut {
     }
 }
 
-/// Lets the first tap through alone.
+/// Lets only the first tap through.
 #[derive(Drop)]
 struct First;
 
@@ -83,7 +83,7 @@ impl Gate for First {
     }
 }
 
-/// Holds tap 1 until tap 2 has come, for a while.
+/// Holds tap 1 until tap 2 has come, for a limited time.
 #[derive(Drop)]
 struct Meeting {
     has_come: AtomicBool,
@@ -120,7 +120,7 @@ fn begin_of(entry: &Entry) -> u64 {
     }
 }
 
-/// The trace is that of one thread, for each number of workers; others than 1 to 64 are refused.
+/// The trace is that of one thread, for each number of workers. Numbers other than 1 to 64 are refused.
 #[test]
 fn plays_with_any_number_of_workers(rt: HostRuntime) {
     let alloc = rt.alloc();
@@ -136,7 +136,7 @@ fn plays_with_any_number_of_workers(rt: HostRuntime) {
     }
 }
 
-/// What has happened in a long run is gone over by one worker, two or three, who say the same of it.
+/// The history of a long run is compared by one worker, two or three, with the same result.
 #[test]
 fn goes_over_a_long_run_with_any_number_of_workers(rt: HostRuntime) {
     let alloc = rt.alloc();
@@ -151,7 +151,7 @@ fn goes_over_a_long_run_with_any_number_of_workers(rt: HostRuntime) {
     }
 }
 
-/// Faults of a gate, of a step and of a new world.
+/// The faults of a gate, of a step and of a new world.
 #[test]
 fn names_what_stops_it(rt: HostRuntime) {
     let alloc = rt.alloc();
@@ -169,7 +169,7 @@ fn names_what_stops_it(rt: HostRuntime) {
     assert_eq!(rt; fault_of(NO_TAPS, &Shut(9)), no_taps);
 }
 
-/// Of two taps that the gate doesn't let through in one instant the first is told, whoever came first.
+/// Of two taps that the gate stops in one instant, the first one is reported, whichever came first.
 #[test]
 fn tells_the_least_tap(rt: HostRuntime) {
     let alloc = rt.alloc();
@@ -180,7 +180,7 @@ fn tells_the_least_tap(rt: HostRuntime) {
     }
 }
 
-/// Two taps that are due in one instant are decided side by side.
+/// Two taps that are due in one instant are decided concurrently.
 #[test]
 fn workers_run_side_by_side(rt: HostRuntime) {
     let alloc = rt.alloc();
@@ -194,8 +194,8 @@ fn workers_run_side_by_side(rt: HostRuntime) {
     }
 }
 
-/// With so many taps as fill words of eight and lists, and one more or less, the trace is that of the one master. Memory is
-/// ample, and no call says that more is wanted; and all helpers leave.
+/// With as many taps as fill words of eight and lists, and one more or fewer, the trace is that of the only master.
+/// Memory is ample, no call returns `NoMemory`, and all helpers end.
 #[test]
 fn plays_with_any_number_of_taps(rt: HostRuntime) {
     for taps in [1, 7, 8, 9, 15, 16, 17, 31, 33, 63, 65, 127] {
@@ -206,7 +206,7 @@ fn plays_with_any_number_of_taps(rt: HostRuntime) {
     }
 }
 
-/// A segment of so many taps is played by some workers.
+/// A segment of this many taps is played by some workers.
 fn plays<R: AllocGlobal + Abort + Threads + Wait + Sync>(rt: &R, taps: usize, workers: usize) {
     let alloc = rt.alloc();
     let text = segment(rt, taps);
@@ -216,7 +216,7 @@ fn plays<R: AllocGlobal + Abort + Threads + Wait + Sync>(rt: &R, taps: usize, wo
     assert!(rt; report.trace().iter().map(begin_of).eq(begins), "{taps}");
 }
 
-/// A file of a master and passive stations at so many taps in all, which all start at 0, up to 1,000.
+/// A file with a master and passive stations, this many taps in all, which start at 0 and run to 1,000.
 fn segment(rt: &(impl AllocGlobal + Abort), taps: usize) -> String {
     let mut tables = String::new(rt.alloc());
     for tap in 0..taps {
@@ -236,8 +236,8 @@ bus = {{ tsl = 100, tid1 = 37, tid2 = 60, tsdr = 11, lag = 0, ttr = 10000, gap =
     .expect(rt, "memory")
 }
 
-/// Of two who come to it in one instant the first waits for the second, and one of them is not let through. As the
-/// conductor is one of them, the other is a helper.
+/// Of two turns in one instant the first waits for the second, and one of them is stopped. One of the workers is the
+/// conductor, so the other is a helper.
 #[derive(Drop)]
 struct Ambush {
     come: AtomicUsize,
@@ -259,7 +259,7 @@ impl Gate for Ambush {
     }
 }
 
-/// The fault of a turn is told, whether the conductor has met it or a helper.
+/// The fault of a turn is reported, whether the conductor or a helper had it.
 #[test]
 fn tells_the_fault_of_a_helper(rt: HostRuntime) {
     let alloc = rt.alloc();
@@ -277,7 +277,7 @@ fn tells_the_fault_of_a_helper(rt: HostRuntime) {
     }
 }
 
-/// Lets each tap through, and keeps which have come.
+/// Lets every tap through, and records which have come.
 #[derive(Drop)]
 struct Seen {
     taps: [AtomicBool; 2],
@@ -300,8 +300,8 @@ impl Seen {
         }
     }
 
-    /// The number of a fault for want of memory: 2 of a commit, which comes behind the gate, 3 of a drive, 5 of a
-    /// thread, where others than the conductor work, and 7 of all else. None of another fault.
+    /// The number of a fault from refused memory: 2 in a commit, which comes after the gate; 3 in a drive; 5 for a
+    /// thread, if there are helpers; 7 anywhere else. `None` for any other fault.
     fn number(&self, fault: FleetFault, workers: usize) -> Option<u8> {
         const REFUSED: CommitFault = CommitFault::World(WorldFault::NoMemory);
         match fault {
@@ -317,7 +317,7 @@ impl Seen {
     }
 }
 
-/// Run with one allocation refused: a fleet plays, or memory was refused.
+/// With one allocation refused, a fleet plays or returns a fault from refused memory.
 #[test]
 fn refused_memory_in_a_fleet_of_one(rt: HostRuntime) {
     is_refused_or_plays(&rt, 1);

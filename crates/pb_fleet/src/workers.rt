@@ -1,3 +1,5 @@
+//! A worker: serves offered turns.
+
 use crate::drawers::Drawer;
 use crate::faults::{PlayFault, least};
 use crate::gates::Gate;
@@ -8,7 +10,7 @@ use std::alloc::Global;
 use std::sync::Wait;
 use std::sync::ledger::Ledger;
 
-/// One who takes turns that are offered.
+/// A worker, which serves offered turns.
 #[derive(Drop)]
 pub(crate) struct Worker<'a, 't, L: Ledger, R, G> {
     pub(crate) rt: &'a R,
@@ -19,14 +21,14 @@ pub(crate) struct Worker<'a, 't, L: Ledger, R, G> {
     drawer: Drawer<'t>,
     /// The number that was drawn before its offer was published.
     held: Option<u64>,
-    /// What a tap says in a turn.
+    /// What a tap sends in a turn.
     says: SendBuffer,
-    /// The least fault that was met.
+    /// The least fault that this worker had.
     pub(crate) fault: Option<PlayFault>,
 }
 
 impl<'a, 't, L: Ledger, R: Wait, G: Gate> Worker<'a, 't, L, R, G> {
-    /// One who has served nothing yet.
+    /// A worker that has served nothing.
     pub(crate) fn new(
         rt: &'a R,
         alloc: Global,
@@ -48,7 +50,7 @@ impl<'a, 't, L: Ledger, R: Wait, G: Gate> Worker<'a, 't, L, R, G> {
         }
     }
 
-    /// A helper draws numbers, and serves their offers, until no more come. Its fault is the least that was met.
+    /// A helper draws numbers and serves their offers until no more come. Returns the least fault that it had.
     pub(crate) fn help(mut self, helper: usize) -> Option<PlayFault> {
         for _ in self.rt.forever() {
             if !self.pool.wait_for_any(self.rt, helper) {
@@ -65,8 +67,8 @@ impl<'a, 't, L: Ledger, R: Wait, G: Gate> Worker<'a, 't, L, R, G> {
         self.fault
     }
 
-    /// The conductor offers turns at a moment, serves those whose numbers the helpers don't draw, and waits until all
-    /// were served. False where one was with a fault.
+    /// The conductor publishes turns at a moment, serves those whose numbers it draws, and waits until all are served.
+    /// Returns false if one was served with a fault.
     pub(crate) fn serve_all(&mut self, now: u64, turns: &[usize]) -> bool {
         if !self.pool.publish(now, turns) {
             self.fault = least(self.fault, turns.first().map(|tap| full(*tap, now)));
@@ -81,7 +83,7 @@ impl<'a, 't, L: Ledger, R: Wait, G: Gate> Worker<'a, 't, L, R, G> {
         self.pool.wait_until_served(self.rt)
     }
 
-    /// The number of an offer that was published, which this worker is to serve.
+    /// The number of a published offer that this worker is to serve.
     fn next_number(&mut self) -> Option<u64> {
         let number = match self.held.take() {
             Some(number) => number,
@@ -94,7 +96,7 @@ impl<'a, 't, L: Ledger, R: Wait, G: Gate> Worker<'a, 't, L, R, G> {
         None
     }
 
-    /// Takes the turn of the offer with a number.
+    /// Serves the offer with this number.
     fn serve(&mut self, number: u64) {
         let met = self.take_offer(number).err();
         self.fault = least(self.fault, met);
@@ -111,8 +113,8 @@ impl<'a, 't, L: Ledger, R: Wait, G: Gate> Worker<'a, 't, L, R, G> {
         }
     }
 
-    /// A tap takes its turn at a moment: the worker looks at it, asks the gate, and decides, all without the
-    /// segment's lock but the look and the end.
+    /// A tap takes its turn at a moment: the worker glances at it, asks the gate, decides, and commits. Only glance and
+    /// commit take the segment's lock.
     fn take_turn(&mut self, seat: &mut TapSeat<L>, now: u64) -> Result<(), PlayFault> {
         let tap = seat.tap();
         let refused = |fault: CommitFault| PlayFault::Commit { tap, now, fault };
@@ -135,7 +137,7 @@ impl<'a, 't, L: Ledger, R: Wait, G: Gate> Worker<'a, 't, L, R, G> {
     }
 }
 
-/// A history has no room for a tap's turn at a moment.
+/// The fault of a history without room for a tap's turn.
 fn full(tap: usize, now: u64) -> PlayFault {
     PlayFault::Commit {
         tap,

@@ -1,4 +1,4 @@
--- What holds of every world on the way to the promise: what is on the bus, and what stations keep, is over in time.
+-- The invariant behind the promise: what is on the bus, and what stations keep, is over in time.
 use Rattle.std.specs.Prelude.{◌≡◌, ◌⊎◌, ℕ, ◌+◌, ◌*◌, ◌≤◌, ◌<◌, true, false, List, slice_get, Some, IfSome}
 use Rattle.pb_timers.specs.Timers.{Params}
 use Rattle.pb_model.specs.Trace.{Entry, Sent, Noise}
@@ -17,13 +17,14 @@ abbrev pub IsCalmBy : ℕ → Entry → Type 0
 IsCalmBy q (Noise span) = span.end ≤ q
 IsCalmBy q (Sent r) = is_token_record r ≡ true → r.end ≤ q
 
--- the tokens of one tap are
+-- the tokens of one tap are over by a moment
 abbrev pub OwnTokensBy : (tap q : ℕ) → Entry → Type 0
 OwnTokensBy tap q (Noise span) = Unit {0}
 OwnTokensBy tap q (Sent r) = r.tap ≡ tap → is_token_record r ≡ true → r.end ≤ q
 
--- What may give a tap the token, or keep it waiting as holder, is over by a moment. Either all tokens and noise are; or the moment is not before the clock, and the tap's own
--- tokens are. The second case is needed where a stop cuts the token of another tap: its end moves to an earlier moment, still after the clock, and nobody has taken it.
+-- What may give a tap the token, or keep it waiting as holder, is over by a moment. Either all tokens and noise are; or
+-- the moment is not before the clock, and the tap's own tokens are. The second case is needed if a stop cuts the token
+-- of another tap: its end moves to an earlier moment, still after the clock, and no station has taken it.
 abbrev pub IsCalmFor : (now tap q : ℕ) → List Entry → Type 0
 IsCalmFor now tap q trace = Each (IsCalmBy q) trace ⊎ ((now ≤ q) × Each (OwnTokensBy tap q) trace)
 
@@ -32,12 +33,12 @@ abbrev pub EndsBy : ℕ → Entry → Type 0
 EndsBy z (Noise span) = Unit {0}
 EndsBy z (Sent r) = is_initiator r ≡ true → r.end ≤ z
 
--- no telegram is longer than the longest
+-- no telegram is longer than the longest one
 abbrev pub IsShort : Entry → Type 0
 IsShort (Noise span) = Unit {0}
 IsShort (Sent r) = r.end ≤ r.begin + longest
 
--- what is there has begun before a moment
+-- every entry has begun before a moment
 abbrev pub BeganBefore : ℕ → Entry → Type 0
 BeganBefore to (Noise span) = span.begin < to
 BeganBefore to (Sent r) = r.begin < to
@@ -47,14 +48,15 @@ abbrev pub RepliesBy : ℕ → Entry → Type 0
 RepliesBy b (Noise span) = Unit {0}
 RepliesBy b (Sent r) = is_initiator r ≡ false → r.begin ≤ b
 
--- requests leave time for all that follows from them
+-- requests leave time for all that follows them
 abbrev pub RequestsBy : (time b : ℕ) → Entry → Type 0
 RequestsBy time b (Noise span) = Unit {0}
 RequestsBy time b (Sent r) = is_initiator r ≡ true → is_token_record r ≡ false → r.begin + time ≤ b
 
 -- ---- a running tap
 
--- Its station keeps within its time as holder. A reply that it keeps is due a reply delay after the clock at most, and after the initiator telegrams.
+-- Its station keeps within its time as holder. A reply that it keeps is due at most a reply delay after the clock, and
+-- after the initiator telegrams.
 pub record FlowTap (p : Params) (now : ℕ) (trace : List Entry) (k : ℕ) (t : Tap) : Type 0 where
   pub spends : (q : ℕ) → IsCalmFor now k q trace → Spends p (q + p.ttd) (view p t)
   pub waits : IfSome (view p t).reply (λ a. a.ready ≤ now + p.tsdr)
@@ -62,7 +64,8 @@ pub record FlowTap (p : Params) (now : ℕ) (trace : List Entry) (k : ℕ) (t : 
 
 -- ---- the world
 
--- Replies begin within a slot after the initiator telegrams are over. Requests begin in a holder's time, counted from when tokens and noise are over.
+-- Replies begin within a slot after the initiator telegrams are over. Requests begin within a holder's time, counted
+-- from when tokens and noise are over.
 pub record Flow (w : World) : Type 0 where
   pub reply_in_time : w.params.tsdr + w.params.lag + 2 * w.params.ttd < w.params.tsl
   pub short : Each IsShort w.trace

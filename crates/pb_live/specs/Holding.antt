@@ -10,13 +10,13 @@ use Rattle.pb_turn.specs.Phases.{Phase, Offline, PassiveIdle, Listening, Idle, C
 use Rattle.pb_turn.specs.Stations.{Station}
 use Rattle.pb_live.specs.NeverDead.{longest, attempt, tries, cycle}
 
--- The latest moment at which a holder speaks next, by a moment before which it had its last two receipts and noise was over: a cycle is started within the target
--- rotation time, and one of high priority beyond it.
+-- The latest moment at which a holder speaks next, given a moment before which it had its last two receipts and noise
+-- was over: a cycle starts within the target rotation time, and one of high priority after it.
 abbrev pub limit : Params → ℕ → Bool → ℕ
 limit p d false = d + (p.ttr - 1) + cycle p
 limit p d true = d + (p.ttr - 1) + cycle p + cycle p
 
--- whether no cycle of high priority may start beyond the target rotation time
+-- whether no cycle of high priority may start after the target rotation time
 abbrev pub has_used : Option Receipt → Bool
 has_used None = true
 has_used (Some r) = r.high
@@ -26,7 +26,7 @@ abbrev pub left_of : Option OpenRequest → ℕ
 left_of None = 0
 left_of (Some o) = o.left
 
--- what is left of a holder's time, by the moment at which its own last telegram began
+-- what is left of a holder's time, given the moment at which its own last telegram began
 abbrev pub SpendsBy : Params → (end left begin : ℕ) → Phase → Type 0
 SpendsBy p end left begin Offline = Unit {0}
 SpendsBy p end left begin PassiveIdle = Unit {0}
@@ -40,7 +40,7 @@ SpendsBy p end left begin (AwaitStatus of slot) = begin + attempt p ≤ end
 SpendsBy p end left begin (Pass tries ready) = Unit {0}
 SpendsBy p end left begin (Checking tries) = Unit {0}
 
--- both receipts that count were by a moment
+-- both receipts that count were before a moment
 abbrev pub ReceivedBy : ℕ → Option Receipt → Type 0
 ReceivedBy d last = IfSome last (λ r. (r.at ≤ d) × (r.previous ≤ d))
 
@@ -52,26 +52,26 @@ pub record Spends (p : Params) (d : ℕ) (s : Station) : Type 0 where
   pub short : s.own.end ≤ s.own.begin + longest
   pub spends : SpendsBy p (limit p d (has_used s.rotation.last)) (left_of s.cycles.initiator.pending) s.own.begin s.phase
 
--- What a turn says: no more than the longest telegram; and a token, and so its receipt, ends by the moment.
+-- What a turn sends: no more than the longest telegram; and a token, and thus its receipt, ends by the moment.
 abbrev pub IsSaidBy : ℕ → ℕ → Option (List ℕ) → Type 0
 IsSaidBy d now said = IfSome said (λ octets. (bits (length octets) ≤ longest) × (is_token octets ≡ true → now + bits (length octets) ≤ d))
 
--- what it says, if it isn't a token, leaves time for all that follows from it
+-- what it sends, if it is no token, leaves time for all that follows it
 abbrev pub LeavesTail : Params → ℕ → ℕ → Option (List ℕ) → Type 0
 LeavesTail p d now said = IfSome said (λ octets. is_token octets ≡ false → now + attempt p ≤ limit p d true)
 
--- where a token comes
+-- if a token is heard
 abbrev pub IfToken : Arrival → Type 0 → Type 0
 IfToken (Token da sa) X = X
 IfToken (Framed f) X = Unit {0}
 IfToken Acknowledgement X = Unit {0}
 IfToken NoTelegram X = Unit {0}
 
--- an End comes in the time of an attempt, or by the moment by which noise was over
+-- an End is within the time of an attempt, or by the moment by which noise was over
 abbrev pub EndsInTime : Params → (d begin at : ℕ) → Type 0
 EndsInTime p d begin at = (at ≤ d) ⊎ (at ≤ begin + 2 * longest + (p.tsl - 1))
 
--- an End comes in time where a phase waits for a reply
+-- an End is in time, if the phase waits for a reply
 abbrev pub IfAwaited : Phase → Type 0 → Type 0
 IfAwaited Offline X = Unit {0}
 IfAwaited PassiveIdle X = Unit {0}
@@ -84,16 +84,17 @@ IfAwaited (AwaitStatus of slot) X = X
 IfAwaited (Pass tries ready) X = Unit {0}
 IfAwaited (Checking tries) X = Unit {0}
 
--- what a mark has to meet: a token came by the moment, and what ends while a reply is awaited ends in time
+-- the requirement on a mark: a token ended by the moment, and what ends while a reply is awaited ends in time
 abbrev pub Comes : Params → ℕ → Station → Mark → Type 0
 Comes p d s (Begin at seen) = Unit {0}
 Comes p d s (End at seen chars) = IfToken (arrival_of chars) (at ≤ d) × IfAwaited s.phase (EndsInTime p d s.own.begin at)
 
--- what a phase says keeps within the time; and what a holder says, if it isn't a token, leaves time for all that follows from it
+-- what a phase sends keeps within the time; and what a holder sends, if it is no token, leaves time for all that
+-- follows it
 abbrev pub PhaseSays : Params → (d now : ℕ) → Phase → Station × Option (List ℕ) → Type 0
 PhaseSays p d now ph turn = IsSaidBy d now turn.1 → Spends p d turn.0 × (may_initiate ph ≡ true → LeavesTail p d now turn.1)
 
--- a phase in which the token is used
+-- a phase that uses the token
 abbrev pub IsCycling : Phase → Type 0
 IsCycling Offline = ⊥
 IsCycling PassiveIdle = ⊥

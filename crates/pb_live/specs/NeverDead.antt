@@ -1,12 +1,14 @@
 -- The bus is never dead.
 --
--- In every run that keeps the premises, of any master n that has run since m at the latest and isn't offline: if no noise is active from m to now, and
+-- In every run that keeps the premises, for any master n that has run since m or earlier and is not offline: if no
+-- noise is active from m to now, and
 --
 --     now > m + (ttr - 1) + C + C' + TTO(n) + lag + ttd,
 --
--- then a token telegram is on the bus at some moment from m to now, both included: whatever is damaged, starts, stops and is asked for meanwhile. C is the longest
--- cycle with its retries, and C' is one up to the end of its reply. A token telegram counts for as long as it is in the air: a claim too, one that is damaged, and
--- one that a stop cuts short. Two runs in Examples.antt reach the bound.
+-- then a token telegram is on the bus at some moment from m to now, both included, with any damage, starts, stops and
+-- requests meanwhile. C is the longest cycle with its retries, and C' is one up to the end of its reply. A token
+-- telegram counts while it is on the bus: also a claim, one that is damaged, and one that a stop cuts short. Two runs
+-- in Examples.antt reach the bound.
 use Rattle.std.specs.Prelude.{◌≡◌, ℕ, ◌+◌, ◌-◌, ◌*◌, ◌≤◌, ◌<◌, Bool, true, false, ◌&&◌, List, None}
 use Rattle.std.specs.List.{list_any}
 use Rattle.pb_timers.specs.Timers.{Params, bits, tto}
@@ -26,12 +28,12 @@ use Rattle.pb_token.specs.Promises.{HasRun, IsMasterAt}
 abbrev pub longest : ℕ
 longest = bits 255
 
--- one attempt of a cycle: the longest request, the slot but for its last bit time, the longest reply, which begins within the slot, the idle time after it and the lag
--- of the next turn
+-- one attempt of a cycle: the longest request, the slot without its last bit time, the longest reply, which begins
+-- within the slot, the idle time after it and the lag of the next turn
 abbrev pub attempt : Params → ℕ
 attempt p = 2 * longest + (p.tsl - 1) + p.tid1 + p.lag
 
--- some attempts; unfolded in few proofs alone, since a product of two variables stops `omega`
+-- some attempts; unfolded only in few proofs, since a product of two variables stops `omega`
 unfoldable pub tries : ℕ → ℕ → ℕ
 tries n each = n * each
 
@@ -43,9 +45,10 @@ cycle p = tries p.retries (attempt p) + attempt p
 abbrev pub cycle_to_reply : Params → ℕ
 cycle_to_reply p = tries p.retries (attempt p) + 2 * longest + (p.tsl - 1)
 
--- How long the bus may be without a token, for a master of an address. Another station may hold the token for the target rotation time and two cycles: one that starts
--- in the last bit time within that time, and one of high priority after it. If it stops as the last reply ends, the bus is silent for as long as the silence bound
--- allows: that master's time-out, the lag and the cable delay.
+-- How long the bus may be without a token, for a master with an address. Another station may hold the token for the
+-- target rotation time and two cycles: one that starts in the last bit time within that time, and one of high priority
+-- after it. If it stops as the last reply ends, the bus is silent for as long as the silence bound allows: that
+-- master's time-out, the lag and the cable delay.
 abbrev pub longest_without : Params → ℕ → ℕ
 longest_without p address = (p.ttr - 1) + cycle p + cycle_to_reply p + tto p address + p.lag + p.ttd
 
@@ -57,11 +60,11 @@ is_token_telegram (Framed f) = false
 is_token_telegram Acknowledgement = false
 is_token_telegram NoTelegram = false
 
--- a record of a token telegram, by the octets that its sender began to send: whatever became of them on the way
+-- a record of a token telegram, by the octets that its sender began to send, whatever happened to them on the way
 abbrev pub is_token_record : Record → Bool
 is_token_record r = is_token_telegram (telegram_of r)
 
--- a token telegram is in the air at some moment from one on, before another
+-- a token telegram is on the bus at some moment between two, the first included, the second not
 abbrev pub is_token_within : (from to : ℕ) → Entry → Bool
 is_token_within from to (Noise span) = false
 is_token_within from to (Sent r) = is_token_record r && is_within from to (record { begin = r.begin; end = r.end })
@@ -79,12 +82,13 @@ has_noise_since m w = list_any (is_noise_within m (w.now + 1)) w.trace
 
 -- ---- the promise
 
--- a world whose bus is not dead: none of its masters has been for longer than its bound without a token and without noise
+-- a world whose bus is not dead: none of its masters has been for longer than its bound without a token and without
+-- noise
 abbrev pub HasAToken : World → Type 0
 HasAToken w = (tap m : ℕ) (t : Tap) → IsMasterAt w tap t → t.since ≤ m → m + longest_without w.params t.spec.address < w.now
     → has_noise_since m w ≡ false → has_token_since m w ≡ true
 
--- Each list of events that keeps the premises leads to one. Every moment of a run is the end of a list.
+-- Each list of events that keeps the premises leads to such a world. Every moment of a run is the end of a list.
 abbrev pub NeverDead : Type 0
 NeverDead = (p : Params) (specs : List TapSpec) (events : List Event) (new w : World) → IsValid p → HasRun p specs events new w
     → first_broken new events ≡ None → HasAToken w

@@ -1,4 +1,5 @@
--- What comes of a worked run: which premises it breaks, and how long the bus has been without a token for one of its masters.
+-- The outcome of a worked run: which premises it breaks, and how long the bus has been without a token for one of its
+-- masters.
 use Rattle.std.specs.Prelude.{ℕ, ◌-◌, Bool, true, false, not, nat_le, ◌&&◌, ◌||◌, if◌then◌else◌, List, [], ◌∷◌, ◌++◌, slice_get, Option, Some, None, Result, Ok, Err}
 use Rattle.pb_timers.specs.Timers.{Params}
 use Rattle.pb_turn.specs.Phases.{is_offline}
@@ -37,7 +38,7 @@ abbrev pub ran : RunSoFar → List Event → RunSoFar
 ran c [] = c
 ran c (e ∷ es) = ran (ran_after c e (step c.world e)) es
 
--- a stretch up to the clock, for a master that has run since its beginning and isn't offline
+-- a stretch up to the clock, for a master that has run since its begin and is not offline
 pub record Stretch : Type 0 where
   -- the numbers of the premises that the run breaks
   pub broken : List ℕ

@@ -1,4 +1,4 @@
-//! Worked runs: the bound is reached, and longer stretches without a token where a premise is broken.
+//! Worked runs: the bound is reached; longer stretches without a token if a premise is broken.
 
 ghost use Rattle.std.specs.Prelude.{◌≡◌, [], ◌∷◌, Some, true, false};
 ghost use Rattle.pb_live.specs.Examples.{
@@ -19,18 +19,17 @@ ghost use Rattle.pb_live.specs.Examples.{
 };
 ghost use Rattle.pb_live.specs.Stretches.{Stretch, stretch_on, quiet};
 
-/// The premises can be met, and the bound is reached, without retries and with one: the last of three masters has
-/// been without a token for so long that only in the next bit time one has to come.
+/// The premises can be met, and the bound is reached, without retries and with one. The last of three masters has been
+/// without a token for so long that a token must come in the next bit time.
 pub fn the_bound_is_reached()
     ensures once { stretch_on slow_bus three_and_a_replier long_hold 2 3018 ≡ quiet [] 15360 15360 }
     ensures again { stretch_on slow_bus_with_retries three_and_a_replier long_hold_with_retries 2 3018
         ≡ quiet [] 27690 27690 }
 {}
 
-/// Where noise goes on, or a premise is broken, the bus may be without a token for longer than the bound: for ever
-/// where noise doesn't end or a master takes no turn, and else for as long as two holders keep each other waiting.
-/// We know of no such run in which the fourth premise alone is broken: stations that claim at once hear each other,
-/// and give the token up.
+/// If noise continues or a premise is broken, the bus may be without a token for longer than the bound: forever if
+/// noise does not end or a master takes no turn, else as long as two holders keep each other waiting. No such run is
+/// known in which only the fourth premise is broken: stations that claim at once hear each other and give the token up.
 pub fn each_premise_is_needed()
     ensures noise { stretch_on slow_bus three_and_a_replier noise_goes_on 2 0
         ≡ Some (record { broken = []; noise = true; token = false; lasts = 16000; bound = 15360 }) }

@@ -1,5 +1,4 @@
-//! How long a station holds the token after its last receipt: all that it says with it is bounded by the target
-//! rotation time and two cycles.
+//! How long a station holds the token after its last receipt: at most the target rotation time and two cycles.
 
 ghost use Rattle.std.specs.Prelude.{◌≡◌, ◌≤◌, ◌+◌, ℕ, Bool, true, Some, IfSome};
 ghost use Rattle.pb_timers.specs.Timers.{Params};
@@ -10,8 +9,8 @@ ghost use Rattle.pb_turn.specs.Stations.{Station, started, speaks_at};
 ghost use Rattle.pb_turn.specs.Turns.{speech};
 ghost use Rattle.pb_live.specs.Holding.{Spends, Comes, PhaseSays, IsCycling, limit};
 
-/// A station that starts has all its time. What it reads in time, timers that end, and what it says in time keep it
-/// within its time. So what a holder says is a token, or leaves time for all that follows from it.
+/// A station that starts has all its time left. Marks that it reads in time, timers that end, and what it sends in time
+/// keep it within its time. Thus what a holder sends is a token, or leaves time for all that follows it.
 pub fn a_holder_keeps_within_its_time()
     ensures started { (p : Params) (d now : ℕ) (s : Station) (master : Bool) → Spends p d (started p s master now) }
     ensures timer { (p : Params) (d bound : ℕ) (s : Station) → Spends p d s → Spends p d (after_timer p bound s) }
@@ -22,7 +21,7 @@ pub fn a_holder_keeps_within_its_time()
         → PhaseSays p d now s.phase (speech p s (speaks_at s) now) }
 {}
 
-/// A station that uses the token and is to speak does so by the target rotation time and two cycles after its last
+/// A station that uses the token and has to speak does so within the target rotation time and two cycles after its last
 /// receipts.
 pub fn a_holder_speaks_in_time()
     ensures { (p : Params) (d moment : ℕ) (s : Station) → speaks_at s ≡ Some moment → IsCycling s.phase → Spends p d s

@@ -1,7 +1,7 @@
-//! Liveness: the bus is never dead. In every run that keeps the premises of the token theorem, a token telegram is
-//! never long away, whatever is damaged, starts, stops and is asked for.
+//! Liveness: the bus is never dead. In every run that keeps the premises of the token theorem, the next token telegram
+//! comes within a stated time, with any damage, starts, stops and requests.
 //!
-//! `specs/NeverDead.antt` states it. This crate has no code that runs: its functions do nothing, and their
+//! `specs/NeverDead.antt` states it. This crate has no code that runs: its functions have empty bodies, and their
 //! contracts are laws.
 #![tactic(auto)]
 

@@ -1,10 +1,10 @@
-//! What the calls of a world promise of what they leave.
+//! What the calls of a world promise about the worlds that they leave.
 
 ghost use Rattle.pb_live.specs.Promises.{NewWorldsBegin, RunsLeadOn};
 
-/// A new world, and what further events leave, keep three promises by the events that led to them: one token, and a
-/// bus that is not dead, where the events break no premise; and no master in silence for longer than its bound, where
-/// none of them loses a telegram or lets a turn come late.
+/// A new world, and every world that further events leave, keeps three promises that depend on the events that led to
+/// it. If they break no premise, at most one station holds the token and the bus is not dead. If none of them loses a
+/// telegram or lets a turn be late, no master is in silence for longer than its bound.
 pub fn a_run_keeps_its_promises()
     ensures new { NewWorldsBegin }
     ensures run { RunsLeadOn }

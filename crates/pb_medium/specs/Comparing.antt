@@ -7,7 +7,7 @@ use Rattle.std.specs.Ordering.{on, eq_of_both}
 use Rattle.pb_model.specs.Trace.{Heard, Own, Whole, Damaged, Unheard, Pending}
 use Rattle.pb_medium.specs.declared.entries.Record.{Record}
 
--- a number for each way in which a tap may have heard a telegram
+-- a number for each way in which a telegram may reach a tap
 abbrev pub code_of : Heard → ℕ
 code_of Own = 0
 code_of Whole = 1
@@ -15,11 +15,11 @@ code_of Damaged = 2
 code_of Unheard = 3
 code_of Pending = 4
 
--- each tap heard it alike
+-- it reached each tap in the same way
 abbrev pub is_heard_alike : List Heard → List Heard → Bool
 is_heard_alike = pointwise (on code_of nat_eq)
 
--- its speaker, its octets, its begin and its end are the same, and each tap heard it alike
+-- speaker, octets, begin and end are the same, and it reached each tap in the same way
 abbrev pub is_same_record : Record → Record → Bool
 is_same_record =
     eq_of_both (on (λ r. r.tap) nat_eq)

@@ -1,4 +1,4 @@
--- An entry of the trace as the model says it.
+-- An entry of the trace as the model's plain data.
 use Rattle.std.specs.Prelude.{map}
 use Rattle.pb_model.specs.Trace as model
 use Rattle.pb_medium.specs.declared.entries.Heard.{Heard}

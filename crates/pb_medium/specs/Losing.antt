@@ -10,7 +10,7 @@ use Rattle.pb_taps.specs.declared.faults.WorldFault.TheVariants as fault
 abbrev pub has_nothing_to_lose : ℕ → ℕ → ℕ → List Entry → Bool
 has_nothing_to_lose tap speaker now entries = tap == speaker || not (list_any (begins_from now speaker) entries)
 
--- entries of which the telegram that the speaker begins now never comes to the tap
+-- entries with the telegram that the speaker begins now lost at the tap
 abbrev pub lost : ℕ → ℕ → ℕ → List Entry → List Entry
 lost tap speaker now entries = change_first (begins_from now speaker) (unheard_at tap) entries
 

@@ -6,7 +6,7 @@ use Rattle.pb_model.specs.World.{trace_limit}
 use Rattle.pb_taps.specs.declared.faults.WorldFault.{WorldFault}
 use Rattle.pb_taps.specs.declared.faults.WorldFault.TheVariants as fault
 
--- whether noise is in the air among some entries
+-- whether there is noise on the bus, among some entries
 abbrev pub has_noise : ℕ → List Entry → Bool
 has_noise now entries = list_any (is_noise_at now) entries
 
@@ -14,7 +14,7 @@ has_noise now entries = list_any (is_noise_at now) entries
 abbrev pub has_no_room : Bool → ℕ → Bool
 has_no_room noisy entries = not noisy && nat_le trace_limit entries
 
--- why there is no noise of some length
+-- why noise of some length is refused
 abbrev pub RefusesNoise : ℕ → Bool → ℕ → WorldFault → Type 0
 RefusesNoise bits noisy entries fault.ZeroTime = (bits == 0) ≡ true
 RefusesNoise bits noisy entries fault.TraceFull = ((bits == 0) ≡ false) × (has_no_room noisy entries ≡ true)

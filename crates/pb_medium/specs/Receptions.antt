@@ -9,7 +9,8 @@ use Rattle.pb_medium.specs.declared.receptions.Reception.TheInside.{Inside}
 abbrev pub holds : TapSet → ℕ → Bool
 holds s tap = bit_at s.bits tap == 1
 
--- what a telegram is to a tap to which it never came, that sent it, or to which it came whole or damaged; else it is pending
+-- how a telegram reached a tap at which it was lost, that sent it, or that received it whole or damaged; else it is
+-- pending
 abbrev pub heard_as : (unheard own whole damaged : Bool) → Heard
 heard_as true own whole damaged = Unheard
 heard_as false true whole damaged = Own
@@ -17,15 +18,15 @@ heard_as false false true damaged = Whole
 heard_as false false false true = Damaged
 heard_as false false false false = Pending
 
--- what it is to a tap
+-- how it reached a tap
 abbrev pub heard_by_tap : Inside → ℕ → Heard
 heard_by_tap r tap = heard_as (holds r.unheard tap) (tap == r.speaker) (holds r.whole tap) (holds r.damaged tap)
 
--- what it is to each of so many taps, the first of them at a position
+-- how it reached each of this many taps, the first of them at an index
 abbrev pub listed : (ℕ → Heard) → ℕ → ℕ → List Heard
 listed heard tap zero = []
 listed heard tap (suc more) = heard tap ∷ listed heard (tap + 1) more
 
--- what it is to each tap
+-- how it reached each tap
 abbrev pub heard_list : Inside → List Heard
 heard_list r = listed (heard_by_tap r) 0 r.taps

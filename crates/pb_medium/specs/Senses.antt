@@ -9,29 +9,29 @@ use Rattle.pb_turn.specs.Spans.{Span}
 use Rattle.pb_model.specs.Trace.{Record, Entry, characters_at}
 use Rattle.pb_model.specs.Medium.{reaches, is_unheard, sensed, overlaps, sends_during, begins_in, ends_in}
 
--- during a stretch a tap senses one thing alone, and sends nothing
+-- during a stretch a tap senses exactly one entry, and sends nothing
 abbrev pub is_undisturbed : (delay tap since : ℕ) → List Entry → Span → Bool
 is_undisturbed delay tap since trace span =
     count_by (overlaps span) (sensed delay tap since trace) == 1 && not (list_any (sends_during tap span) trace)
 
--- a telegram comes to a tap with nothing else since a moment, while the tap sends nothing
+-- a telegram reaches a tap with nothing else since a moment, while the tap sends nothing
 abbrev pub is_alone : (delay tap since : ℕ) → List Entry → Record → Bool
 is_alone delay tap since trace r =
     not (r.tap == tap || is_unheard (slice_get r.heard tap)) && is_undisturbed delay tap since trace (reaches delay r)
 
--- every character of a telegram went out, and comes good to a tap
+-- every character of a telegram was sent, and reaches a tap undamaged
 abbrev pub is_undamaged : ℕ → Record → Bool
 is_undamaged tap r = length (characters_at tap r) == length r.octets && list_all (λ char. not (is_bad char)) (characters_at tap r)
 
--- what a burst brings is told by the telegram that fills it: its characters, else one damaged character
+-- a burst brings the characters of the telegram that fills it, else one damaged character
 abbrev pub TellsBurst : ℕ → Option Record → List RxChar → Type 0
 TellsBurst tap (Some r) chars = chars ≡ characters_at tap r
 TellsBurst tap None chars = chars ≡ Bad ∷ []
 
--- when a burst begins from one moment on and before another, if one does
+-- when a burst begins between two moments, the first included, the second not, if one does
 abbrev pub begin_between : List Span → ℕ → ℕ → Option ℕ
 begin_between spans from to = option_map (λ (span : Span). span.begin) (find (begins_in spans from to) spans)
 
--- when a burst ends after one moment, at another at the latest, if one does
+-- when a burst ends after one moment, and at another at the latest, if one does
 abbrev pub end_between : List Span → ℕ → ℕ → Option ℕ
 end_between spans from to = option_map (λ (span : Span). span.end) (find (ends_in spans from to) spans)

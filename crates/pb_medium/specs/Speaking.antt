@@ -1,15 +1,15 @@
--- What a tap says goes into the trace.
+-- What a tap sends is put into the trace.
 use Rattle.std.specs.Prelude.{◌≡◌, ℕ, Bool, true, false, List, Option, is_some, nat_le, ◌&&◌}
 use Rattle.pb_model.specs.Trace.{Entry, Sent, Noise}
 use Rattle.pb_model.specs.World.{trace_limit}
 use Rattle.pb_taps.specs.declared.faults.WorldFault.{WorldFault}
 use Rattle.pb_taps.specs.declared.faults.WorldFault.TheVariants as fault
 
--- whether there is something to say, and no room for it in a trace of some length
+-- whether there is something to send, and no room for it in a trace of some length
 abbrev pub is_full : Option (List ℕ) → ℕ → Bool
 is_full said entries = is_some said && nat_le trace_limit entries
 
--- why what is said doesn't come into a trace of some length
+-- why what is sent is not put into a trace of some length
 abbrev pub RefusesSaid : Option (List ℕ) → ℕ → WorldFault → Type 0
 RefusesSaid said entries fault.TraceFull = is_full said entries ≡ true
 RefusesSaid said entries fault.NoMemory = (is_full said entries ≡ false) × (is_some said ≡ true)

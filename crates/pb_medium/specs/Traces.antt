@@ -20,7 +20,7 @@ over_of t = t.over
 abbrev pub recent_of : Trace → List model.Entry
 recent_of t = drop t.over (entries_of t)
 
--- the place of an entry among others: right before the first that it goes before, or behind them all
+-- the index of an entry among others: right before the first one that it precedes, or after them all
 abbrev pub place_of : model.Entry → List model.Entry → ℕ
 place_of e entries = position_or_len (model.goes_before e) entries
 
@@ -39,7 +39,7 @@ pub record HasRoom (t : Trace) : Type 0 where
   pub few : length t.entries.items < trace_limit
   pub held : length t.entries.items < vec_capacity t.entries
 
--- why there is no room for one entry more: there are as many as there may be, or memory was refused
+-- why there is no room for one more entry: the trace is full, or memory was refused
 abbrev pub RefusesRoom : Trace → WorldFault → Type 0
 RefusesRoom t fault.TraceFull = trace_limit ≤ length (entries_of t)
 RefusesRoom t fault.NoMemory = length (entries_of t) < trace_limit

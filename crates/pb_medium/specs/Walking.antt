@@ -1,4 +1,4 @@
--- What is left of a walk over taps.
+-- The rest of an iteration over taps.
 use Rattle.std.specs.Prelude.{List, drop}
 use Rattle.pb_model.specs.Trace.{Heard}
 use Rattle.pb_medium.specs.declared.hearing.HeardByTap.{HeardByTap}

@@ -1,3 +1,5 @@
+//! When something on the medium changes next.
+
 ghost use Rattle.std.specs.Prelude.{◌≡◌, ◌+◌, map};
 ghost use Rattle.std.specs.List.{list_any};
 ghost use Rattle.std.specs.Option.{option_map};
@@ -6,7 +8,7 @@ ghost use Rattle.pb_runs.specs.Bus.{is_in_air, next_known};
 
 use crate::entries::Entry;
 
-/// When something reaches the taps next, from a moment on. One bit time later a tap can know of it.
+/// When something next reaches the taps, at `now` or later, in bit times. A tap can know of it one bit time later.
 pub fn next_begin(entries: &[Entry], delay: u32, now: u64) -> Option<u64>
     ensures { option_map (λ begin. begin + 1) result ≡ next_known delay now (map entry_of entries.now) }
 {
@@ -17,7 +19,7 @@ pub fn next_begin(entries: &[Entry], delay: u32, now: u64) -> Option<u64>
         .min()
 }
 
-/// Whether something that began before a moment is in the air at it.
+/// Whether something that began before `now` is still on the bus at `now`.
 pub fn something_lasts(entries: &[Entry], delay: u32, now: u64) -> bool
     ensures { result ≡ list_any (is_in_air delay now) (map entry_of entries.now) }
 {

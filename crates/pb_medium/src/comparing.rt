@@ -1,4 +1,4 @@
-//! Telegrams are equal where all that a user sees of them is.
+//! Equality of telegrams: all that a user sees of them is equal.
 
 ghost use Rattle.std.specs.Prelude.{◌≡◌, nat_eq};
 ghost use Rattle.std.specs.Cmp.Lexicographic.{pointwise};
@@ -54,7 +54,7 @@ impl Eq for Record {
     ghost laws = { same-record-equiv };
 }
 
-/// Whether each tap heard two telegrams alike.
+/// Whether two telegrams reached each tap in the same way.
 fn is_heard_alike(one: &Reception, other: &Reception) -> bool
     ensures { result ≡ pointwise (on code_of nat_eq) one.now other.now }
 {
@@ -69,7 +69,7 @@ fn is_heard_alike(one: &Reception, other: &Reception) -> bool
     true
 }
 
-/// A number for each way in which a tap may have heard a telegram.
+/// A number for each way in which a telegram may reach a tap.
 fn code_of(how: Heard) -> u8
     ensures { result ≡ code_of (heard_of how) }
 {

@@ -1,3 +1,5 @@
+//! A speaker that stops: its telegram is cut.
+
 ghost use Rattle.std.specs.Prelude.{◌≡◌, length, map};
 ghost use Rattle.pb_model.specs.Trace.{cut_at, cut_end};
 ghost use Rattle.pb_medium.specs.Entries.{entry_of, record_of};
@@ -11,7 +13,7 @@ impl Trace {
     ghost use Rattle.pb_model.specs.Trace.{cut_at};
     ghost use Rattle.pb_medium.specs.Traces.{RecentBecomes};
 
-    /// What a tap sends at the clock ends with the character that is on its way.
+    /// Ends what a tap sends at the clock with the character being sent.
     pub fn cut(&mut self, tap: usize, now: Moment)
         ensures { RecentBecomes (map (cut_at now tap)) self.old self.new }
     {
@@ -19,7 +21,7 @@ impl Trace {
     }
 }
 
-/// What a tap sends at a moment ends with the character that is on its way.
+/// Ends what a tap sends at `now` with the character being sent.
 fn cut_all(entries: &mut [Entry], tap: usize, now: Moment)
     ensures length { length entries.new ≡ length entries.old }
     ensures cut { map entry_of entries.new ≡ map (cut_at now tap) (map entry_of entries.old) }
@@ -39,7 +41,7 @@ fn cut(entry: &mut Entry, tap: usize, now: Moment)
     }
 }
 
-/// When a telegram ends whose speaker stops at a moment. A sum past the numbers there are is past its own end.
+/// When a telegram ends whose speaker stops at `now`. A sum that would overflow is later than its own end.
 fn cut_end(telegram: &Record, now: Moment) -> u64
     ensures { result ≡ cut_end now (record_of telegram.now) }
 {

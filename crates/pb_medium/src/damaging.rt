@@ -1,3 +1,5 @@
+//! Damages a telegram at a tap.
+
 ghost use Rattle.std.specs.Prelude.{◌≡◌, true, false, IfErr, IfSome, OnErr, OnOk, Some, None, length, map, find};
 ghost use Rattle.pb_model.specs.Step as step;
 ghost use Rattle.pb_model.specs.Step.{change_first, with_hit};
@@ -17,8 +19,9 @@ impl Trace {
     ghost use Rattle.pb_medium.specs.Entries.{hit_of};
     ghost use Rattle.pb_medium.specs.Traces.{recent_of, RecentBecomes, StaysAs};
 
-    /// Damages the first telegram of a speaker in the air, at another tap: the earliest that has not reached the
-    /// others. Faults, the first that applies: `NothingInAir`; `NoMemory`.
+    /// Damages a speaker's first telegram on the bus, the earliest that has not reached the others, at another tap.
+    ///
+    /// Faults, the first that applies: `NothingInAir`; `NoMemory`.
     pub fn damage(
         &mut self,
         delay: u32,
@@ -35,7 +38,7 @@ impl Trace {
         damage(&mut self.entries[self.over..], delay, speaker, now, hit)
     }
 
-    /// Whether a telegram of a speaker is in the air that is hit so.
+    /// Whether a speaker has a telegram on the bus that can be damaged in this way.
     pub fn can_hit(&self, delay: u32, speaker: usize, now: Moment, hit: Hit) -> bool
         ensures { result ≡ can_hit delay speaker now (hit_of hit) (recent_of self.entry.now) }
     {
@@ -43,7 +46,7 @@ impl Trace {
     }
 }
 
-/// Damages the first telegram of a speaker in the air, at another tap.
+/// Damages a speaker's first telegram on the bus, at another tap.
 fn damage(
     entries: &mut [Entry],
     delay: u32,
@@ -68,7 +71,7 @@ fn damage(
     }
 }
 
-/// The telegram that is hit.
+/// The index of the telegram that is damaged.
 fn target(entries: &[Entry], delay: u32, speaker: usize, now: Moment, hit: Hit) -> Option<usize>
     ensures none { result ≡ None → can_hit delay speaker now (hit_of hit) (map entry_of entries.now) ≡ false }
     ensures some { IfSome result
@@ -100,7 +103,7 @@ fn first_in_air(entries: &[Entry], delay: u32, speaker: usize, now: Moment) -> O
     None
 }
 
-/// Whether a place is among the octets that were meant.
+/// Whether the telegram has a character with this index, among all octets that were to be sent.
 fn has_place(entry: &Entry, place: Option<u8>) -> bool
     ensures { result ≡ step.has_place (Some (entry_of entry.now)) place }
 {

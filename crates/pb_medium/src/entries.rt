@@ -12,38 +12,39 @@ use arrayvec::ArrayVec;
 pub enum Heard {
     /// The tap sent it.
     Own,
-    /// It came whole.
+    /// It was received whole.
     Whole,
-    /// It came damaged, or the tap didn't run all the while.
+    /// It was received damaged, or the tap did not run all the time.
     Damaged,
-    /// It never came.
+    /// It was lost: it never reached the tap.
     Unheard,
-    /// It is in the air.
+    /// It has not reached the tap yet.
     #[default]
     Pending,
 }
 
-/// Damage at a tap: of the character at a place of the telegram, or of every character.
+/// Damage at a tap: of one character of the telegram, by its index, or of every character.
 #[derive(Clone, Copy, Debug)]
 pub struct Hit {
     pub tap: usize,
     pub place: Option<u8>,
 }
 
-/// One telegram on the bus. Two are equal where their speakers, octets, begins and ends are, and each tap heard them alike.
+/// One telegram on the bus. Two are equal if their speakers, octets, begins and ends are, and each tap received them in
+/// the same way.
 #[derive(Debug, Drop)]
 pub struct Record {
-    /// The tap that sent it, counted from 0.
+    /// The index of the tap that sent it, from 0.
     pub tap: usize,
-    /// All octets that were meant.
+    /// All octets that were to be sent.
     pub octets: ArrayVec<u8, 255>,
     /// When it began, in bit times.
     pub begin: u64,
-    /// When it ends, in bit times: this moment is no longer in it.
+    /// When it ends, in bit times. This moment is the first after it.
     pub end: u64,
     /// How it reached each tap.
     pub heard: Reception,
-    /// Damage done to it so far.
+    /// The damage done to it so far.
     pub(crate) hits: Vec<Hit>,
     ghost begins: { begin ≤ last_moment },
     ghost ends: { end ≤ last_moment },
@@ -54,7 +55,7 @@ pub struct Record {
 pub enum Entry {
     /// A telegram.
     Sent(Record),
-    /// Noise from one moment to another, in bit times.
+    /// Noise between two moments, in bit times.
     Noise {
         /// When it begins.
         begin: u64,
@@ -70,14 +71,14 @@ impl Record {
     ghost use Rattle.pb_model.specs.Trace.{hits_place};
     ghost use Rattle.pb_medium.specs.Entries.{record_of};
 
-    /// When it is on the bus.
+    /// When it is on the bus, at its speaker.
     pub fn span(&self) -> Span
         ensures { result ≡ record { begin = self.now.begin; end = self.now.end } }
     {
         Span::new(self.begin, self.end)
     }
 
-    /// When it is at the taps of others, which it reaches a cable delay later.
+    /// When it is at the taps of others: a cable delay later.
     pub(crate) fn reaches(&self, delay: u32) -> Span
         ensures { result ≡ reaches delay (record_of self.now) }
     {
@@ -92,14 +93,14 @@ impl Record {
         self.end + u64::from(delay)
     }
 
-    /// Whether it never comes to a tap.
+    /// Whether it is lost at a tap.
     pub(crate) fn is_unheard(&self, tap: usize) -> bool
         ensures { result ≡ is_unheard (slice_get (record_of self.now).heard tap) }
     {
         self.heard.is_unheard(tap)
     }
 
-    /// Whether the character at a place comes damaged to a tap.
+    /// Whether the character with index `place` is damaged at a tap.
     pub(crate) fn is_hit(&self, tap: usize, place: usize) -> bool
         ensures { result ≡ list_any (hits_place tap place) (record_of self.now).hits }
     {
@@ -150,7 +151,7 @@ impl Entry {
         }
     }
 
-    /// Whether it goes before another that begins with it: noise goes first, then telegrams by tap.
+    /// Whether it precedes another entry with the same begin: noise first, then telegrams by tap.
     fn ranks_below(&self, other: &Entry) -> bool
         ensures { result ≡ nat_lt (rank (entry_of self.now)) (rank (entry_of other.now)) }
     {
@@ -161,7 +162,7 @@ impl Entry {
         }
     }
 
-    /// Whether it goes before another in the trace.
+    /// Whether it precedes another entry in the trace.
     pub fn goes_before(&self, other: &Entry) -> bool
         ensures { result ≡ goes_before (entry_of self.now) (entry_of other.now) }
     {

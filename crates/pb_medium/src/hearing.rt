@@ -1,9 +1,9 @@
-//! A walk over how a telegram reached each tap.
+//! Iterates over how a telegram reached each tap.
 
 use crate::entries::Heard;
 use crate::receptions::Reception;
 
-/// How a telegram reached each tap that is left, in the order of the taps.
+/// How a telegram reached each remaining tap, in the order of the taps.
 #[derive(Drop)]
 pub struct HeardByTap<'a> {
     reception: &'a Reception,

@@ -1,5 +1,5 @@
-//! The medium: the telegrams and noise on it, what each tap hears of them, and what befalls them on their way.
-//! All times are in bit times.
+//! The medium: its telegrams and noise, what each tap hears of them, and damage, loss and noise. All times are in bit
+//! times.
 #![tactic(auto)]
 
 mod changing;

@@ -1,3 +1,5 @@
+//! The quick case: one undisturbed entry on the bus.
+
 ghost use Rattle.std.specs.Prelude.{IfSome, IsTrue, map};
 ghost use Rattle.pb_medium.specs.Entries.{entry_of, record_of};
 ghost use Rattle.pb_medium.specs.Lone.{lone_of, IsLone, IsPlain};
@@ -7,19 +9,19 @@ use crate::senses::sent_octets;
 use crate::spans::Span;
 use pb_taps::Tap;
 
-/// What alone is on a bus, where each tap but its speaker's gets it as it was sent: noise, or a telegram that nothing
-/// hits and no tap loses.
+/// The only entry on a bus, which reaches each tap but its speaker as it was sent: noise, or a telegram without damage
+/// or loss.
 #[derive(Clone, Copy, Debug)]
 pub struct Lone<'a> {
-    /// The tap that sends it, if it is no noise.
+    /// The tap that sends it; `None` for noise.
     pub speaker: Option<usize>,
     /// When it is at the taps.
     pub span: Span,
-    /// The octets of it that went out, if it is no noise.
+    /// The octets that were sent; `None` for noise.
     pub octets: Option<&'a [u8]>,
 }
 
-/// What alone is on a bus, if it is so plain.
+/// The only entry on a bus, if it is undisturbed.
 #[inline(always)]
 pub fn lone_in(entries: &[Entry], delay: u32) -> Option<Lone<'_>>
     ensures { IfSome result (λ l. IsLone delay (lone_of l) (map entry_of entries.now)) }
@@ -47,7 +49,7 @@ impl Lone<'_> {
     ghost use Rattle.pb_medium.specs.Lone.{lone_of, is_sensed_by};
     ghost use Rattle.pb_taps.specs.Taps.{tap_of};
 
-    /// Whether the tap at a position senses it: the tap runs, doesn't send it, and started before it ends.
+    /// Whether the tap at an index senses it: the tap runs, does not send it, and started before its end.
     #[inline(always)]
     pub fn is_sensed_by(&self, position: usize, tap: &Tap) -> bool
         ensures { result ≡ is_sensed_by (lone_of self.now) position (tap_of tap.now) }
@@ -58,7 +60,7 @@ impl Lone<'_> {
     }
 }
 
-/// Whether a telegram lasts, nothing hits it, and no tap loses it.
+/// Whether a telegram has a duration, and neither damage nor loss.
 #[inline(always)]
 pub(crate) fn is_plain(telegram: &Record) -> bool
     ensures { IsTrue result → IsPlain (record_of telegram.now) }

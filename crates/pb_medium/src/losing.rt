@@ -1,3 +1,5 @@
+//! Loses a telegram at a tap.
+
 ghost use Rattle.std.specs.Prelude.{◌≡◌, map};
 ghost use Rattle.std.specs.List.{position};
 ghost use Rattle.pb_model.specs.Trace as model;
@@ -13,8 +15,9 @@ impl Trace {
     ghost use Rattle.pb_medium.specs.Losing.{has_nothing_to_lose, lost, IsNothingInAir};
     ghost use Rattle.pb_medium.specs.Traces.{recent_of, RecentBecomes};
 
-    /// The telegram that a speaker has begun at the clock never comes to another tap. Its fault:
-    /// `NothingInAir`.
+    /// Loses, at another tap, the telegram that a speaker has begun at the clock.
+    ///
+    /// Fault: `NothingInAir`.
     pub fn lose(&mut self, tap: usize, speaker: usize, now: Moment) -> Result<(), WorldFault>
         ensures ok { OnOk result (RecentBecomes (lost tap speaker now) self.old self.new) }
         ensures found { OnOk result (has_nothing_to_lose tap speaker now (recent_of self.old) ≡ false) }
@@ -34,7 +37,7 @@ impl Trace {
         }
     }
 
-    /// Whether no telegram of another speaker begins at the clock that could be lost at a tap.
+    /// Whether there is no telegram of another speaker, begun at the clock, that a tap could lose.
     pub fn has_nothing_to_lose(&self, tap: usize, speaker: usize, now: Moment) -> bool
         ensures { result ≡ has_nothing_to_lose tap speaker now (recent_of self.entry.now) }
     {
@@ -42,7 +45,7 @@ impl Trace {
     }
 }
 
-/// The telegram that a speaker has begun at the clock.
+/// The index of the telegram that a speaker has begun at the clock.
 fn begun_at_clock(entries: &[Entry], speaker: usize, now: Moment) -> Option<usize>
     ensures { result ≡ position (model.begins_from now speaker) (map entry_of entries.now) }
 {
@@ -60,7 +63,7 @@ fn begins_from(entry: &Entry, speaker: usize, moment: u64) -> bool
     }
 }
 
-/// A telegram never comes to a tap.
+/// Marks a telegram as lost at a tap.
 fn lose_at(entry: &mut Entry, tap: usize)
     ensures { entry_of entry.new ≡ model.unheard_at tap (entry_of entry.old) }
 {

@@ -1,4 +1,4 @@
-//! Telegrams that a user of the library makes, so that a trace from anywhere can be judged.
+//! Telegrams that a user of the library makes, to judge a trace from anywhere.
 
 ghost use Rattle.std.specs.Prelude.{◌≡◌, ◌≤◌, IfOk, IfErr, OnOk, Some, None, [], map, nat_lt, not, if◌then◌else◌, ◌||◌, ◌==◌};
 ghost use Rattle.pb_refusals.specs.FirstFault.{first_fault};
@@ -15,10 +15,10 @@ use thiserror::Error;
 /// The most taps of a bus.
 const MOST_TAPS: usize = 127;
 
-/// The last moment of a clock, in bit times.
+/// The last moment of the clock, in bit times.
 const LAST_MOMENT: u64 = 1_000_000_000_000;
 
-/// Why there is no such telegram.
+/// Why a telegram is refused.
 #[derive(Clone, Copy, Debug, PartialEq, Eq, Error)]
 pub enum RecordFault {
     /// 1: it does not end after it begins.
@@ -27,7 +27,7 @@ pub enum RecordFault {
     /// 2: it begins or ends past 1,000,000,000,000 bit times, the clock's limit.
     #[error("ClockFull")]
     ClockFull,
-    /// 3: how it was heard does not fit: there are more than 127 taps, its speaker is none of them, it is not its
+    /// 3: how it was heard does not fit: there are more than 127 taps, its speaker is not one of them, it is not its
     /// speaker's own, or it is another tap's own.
     #[error("Hears")]
     Hears,
@@ -39,12 +39,12 @@ impl Record {
     ghost use Rattle.pb_medium.specs.Entries.{heard_of, record_of};
     ghost use Rattle.pb_medium.specs.Making.{record_faults};
 
-    /// A telegram of a tap, counted from 0: all octets that were meant, when it began and ended, in bit times, and how it
-    /// reached each tap of the bus, in their order. It takes no memory.
+    /// A telegram of the tap with this index, from 0: all octets that were to be sent, when it began and ended, in bit
+    /// times, and how it reached each tap of the bus, in their order. No memory is allocated.
     ///
-    /// Faults, the first that applies: `Ends` where it does not end after it begins; `ClockFull` where a moment is past
-    /// 1,000,000,000,000; `Hears` where `heard` is no list of a bus with this speaker: it has more than 127 taps, or the
-    /// speaker is none of them, or another tap than the speaker has it as `Own`, or the speaker hasn't.
+    /// Faults, the first that applies: `Ends` if it does not end after it begins; `ClockFull` if a moment is past
+    /// 1,000,000,000,000; `Hears` if `heard` is no list of a bus with this speaker: it has more than 127 taps, the
+    /// speaker is not one of them, another tap has it as `Own`, or the speaker does not.
     pub fn new(
         alloc: Global,
         tap: usize,
@@ -85,21 +85,21 @@ impl Record {
     }
 }
 
-/// Whether a moment is past the clock's limit.
+/// Whether a moment is past the last moment of the clock.
 fn is_past(begin: u64, end: u64) -> bool
     ensures { result ≡ (nat_lt clock_limit begin || nat_lt clock_limit end) }
 {
     begin > LAST_MOMENT || end > LAST_MOMENT
 }
 
-/// Whether a list says how a telegram of a speaker reached each tap of a bus.
+/// Whether a list is how a telegram of this speaker may have reached each tap of a bus.
 fn fits_taps(speaker: usize, heard: &[Heard]) -> bool
     ensures { result ≡ fits_taps speaker (map heard_of heard.now) }
 {
     heard.len() <= MOST_TAPS && speaker < heard.len() && is_own_alone(speaker, heard)
 }
 
-/// Whether the speaker alone has the telegram as its own.
+/// Whether the telegram is the speaker's own and no other tap's.
 fn is_own_alone(speaker: usize, heard: &[Heard]) -> bool
     ensures { result ≡ is_own_alone speaker 0 (map heard_of heard.now) }
 {
@@ -111,7 +111,7 @@ fn is_own_alone(speaker: usize, heard: &[Heard]) -> bool
     true
 }
 
-/// Whether a tap has a telegram as its own just where it is the speaker.
+/// Whether the telegram is a tap's own exactly if the tap is the speaker.
 fn fits_tap(speaker: usize, tap: usize, how: Heard) -> bool
     ensures { result ≡ (if tap == speaker then is_own (heard_of how) else not (is_own (heard_of how))) }
 {

@@ -1,3 +1,5 @@
+//! Makes or extends noise.
+
 ghost use Rattle.std.specs.Prelude.{◌≡◌, map};
 ghost use Rattle.std.specs.List.{position};
 ghost use Rattle.pb_model.specs.Trace as trace;
@@ -15,8 +17,9 @@ impl Trace {
     ghost use Rattle.pb_medium.specs.Noising.{has_noise, has_no_room, RefusesNoise};
     ghost use Rattle.pb_medium.specs.Traces.{entries_of, recent_of, RecentBecomes, StaysAs};
 
-    /// Noise for some time from the clock on, in bit times. What is in the air lasts so long, or there is new
-    /// noise. Faults, the first that applies: `ZeroTime`; for new noise, `TraceFull` and `NoMemory`.
+    /// Makes noise for `bits` bit times from the clock on: noise on the bus is extended, else there is new noise.
+    ///
+    /// Faults, the first that applies: `ZeroTime`; for new noise, `TraceFull` and `NoMemory`.
     pub fn make_noise(&mut self, now: Moment, bits: u32) -> Result<(), WorldFault>
         requires { now ≤ clock_limit }
         ensures ok { OnOk result
@@ -44,7 +47,7 @@ impl Trace {
         Ok(())
     }
 
-    /// Whether noise is in the air.
+    /// Whether there is noise on the bus.
     pub fn has_noise(&self, now: Moment) -> bool
         ensures { result ≡ has_noise now (recent_of self.entry.now) }
     {
@@ -52,7 +55,7 @@ impl Trace {
     }
 }
 
-/// The noise that is in the air.
+/// The index of the noise on the bus.
 fn noise_in_air(entries: &[Entry], now: Moment) -> Option<usize>
     ensures { result ≡ position (trace.is_noise_at now) (map entry_of entries.now) }
 {
@@ -70,7 +73,7 @@ fn is_noise_at(entry: &Entry, moment: u64) -> bool
     }
 }
 
-/// Noise lasts until a moment at least.
+/// Extends noise until a moment, if it ends earlier.
 fn prolong(entry: &mut Entry, until: u64)
     ensures { entry_of entry.new ≡ trace.noisy_until until (entry_of entry.old) }
 {

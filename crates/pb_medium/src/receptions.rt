@@ -1,20 +1,22 @@
+//! How a telegram reached each tap, in little memory.
+
 use crate::entries::Heard;
 use crate::tap_sets::TapSet;
 use std::marker::Model;
 
-/// How a telegram reached each tap of a bus, as a list of `Heard`: kept in sets of taps, so that it is small on a bus
-/// of any size.
+/// How a telegram reached each tap of a bus, as a list of `Heard`. It is stored as sets of taps, and thus small on a
+/// bus of any size.
 #[derive(Debug, Drop)]
 pub struct Reception {
     /// How many taps there are.
     taps: usize,
-    /// The tap that sent it.
+    /// The tap that sent the telegram.
     speaker: usize,
-    /// Taps to which it came whole.
+    /// Taps that received it whole.
     whole: TapSet,
-    /// Taps to which it came damaged.
+    /// Taps that received it damaged.
     damaged: TapSet,
-    /// Taps to which it never came.
+    /// Taps at which it was lost.
     unheard: TapSet,
 }
 
@@ -39,7 +41,7 @@ impl Reception {
     ghost use Rattle.pb_medium.specs.Entries.{heard_of};
     ghost use Rattle.pb_medium.specs.Making.{is_own_alone, own_or_pending};
 
-    /// What a telegram that has just begun is to so many taps: own to its speaker, pending to the others.
+    /// The reception of a telegram that has just begun: own at its speaker, pending at the other taps.
     pub(crate) fn at_first(speaker: usize, taps: usize) -> Reception
         requires { taps ≤ tap_limit }
         ensures { (ts : List model.Tap) → length ts ≡ taps → result ≡ trace.heard_at_first speaker 0 ts }
@@ -53,8 +55,7 @@ impl Reception {
         }
     }
 
-    /// How a telegram of a speaker reached each of some taps: it is the speaker's own and no other's, the caller's
-    /// condition.
+    /// The reception with these values. The caller ensures that the telegram is the speaker's own and no other tap's.
     pub(crate) fn of(speaker: usize, heard: &[Heard]) -> Reception
         requires few { length heard.now ≤ tap_limit }
         requires own { is_own_alone speaker 0 (map heard_of heard.now) ≡ true }
@@ -73,7 +74,7 @@ impl Reception {
         reception
     }
 
-    /// How it reached a tap to which it was pending, or that sent it.
+    /// Notes how it reached a tap at which it was pending or that sent it.
     fn note(&mut self, tap: usize, how: Heard)
         requires inside { tap < length self.old }
         requires first { get_or self.old tap trace.Pending ≡ own_or_pending (heard_of how) }
@@ -94,7 +95,7 @@ impl Reception {
         self.taps
     }
 
-    /// How it reached a tap, if there is one.
+    /// How it reached a tap; `None` if there is no such tap.
     pub fn get(&self, tap: usize) -> Option<Heard>
         ensures { option_map heard_of result ≡ slice_get self.now tap }
     {
@@ -105,7 +106,7 @@ impl Reception {
         }
     }
 
-    /// How it reached one of the taps.
+    /// How it reached a tap. The caller ensures that the tap exists.
     pub fn at(&self, tap: usize) -> Heard
         requires { tap < length self.now }
         ensures { slice_get self.now tap ≡ Some (heard_of result) }
@@ -123,7 +124,7 @@ impl Reception {
         }
     }
 
-    /// Whether it never comes to a tap.
+    /// Whether it is lost at a tap.
     pub(crate) fn is_unheard(&self, tap: usize) -> bool
         ensures { result ≡ model.is_unheard (slice_get self.now tap) }
     {
@@ -133,14 +134,14 @@ impl Reception {
         tap < self.taps && self.unheard.contains(tap)
     }
 
-    /// Whether there is no tap to which it never comes.
+    /// Whether it is lost at no tap.
     pub(crate) fn is_heard_by_all(&self) -> bool
         ensures { IsTrue result → (tap : ℕ) → model.is_unheard (slice_get self.now tap) ≡ false }
     {
         self.unheard.is_empty()
     }
 
-    /// It never comes to a tap, if there is one.
+    /// Marks it as lost at a tap, if that tap exists.
     pub(crate) fn lose(&mut self, tap: usize)
         ensures { self.new ≡ slice_set self.old tap trace.Unheard }
     {
@@ -149,7 +150,7 @@ impl Reception {
         }
     }
 
-    /// To a tap to which it was pending it came whole or damaged.
+    /// Notes, for a tap at which it was pending, that it was received whole or damaged.
     pub(crate) fn settle(&mut self, tap: usize, whole: bool)
         requires { tap < length self.old }
         ensures { self.new
@@ -162,7 +163,7 @@ impl Reception {
         }
     }
 
-    /// An equal one.
+    /// An equal reception.
     pub(crate) fn copy(&self) -> Reception
         ensures { result ≡ self.now }
     {

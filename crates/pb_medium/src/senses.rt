@@ -1,3 +1,5 @@
+//! What a tap senses of the entries of a trace: begins and ends of bursts, and their characters.
+
 ghost use Rattle.std.specs.Prelude.{◌≡◌, [], ℕ, ◌-◌, ◌/◌, ◌≤◌, List, map, count_by, length, not, take, if◌then◌else◌};
 ghost use Rattle.std.specs.List.{list_any, list_all};
 ghost use Rattle.std.specs.Option.{option_and_then, option_map};
@@ -20,7 +22,7 @@ use pb_taps::Tap;
 use pb_telegram::RxChar;
 use pb_timers::CHARACTER_BITS;
 
-/// When a burst begins at a tap, which has sensed since a moment, from one moment on and before another.
+/// When a burst begins at a tap that senses since `since`: at `from` or later, and before `to`.
 pub fn begin_between(
     entries: &[Entry],
     delay: u32,
@@ -42,7 +44,7 @@ pub fn begin_between(
     Some(first.begin())
 }
 
-/// When a burst ends at a tap, which has sensed since a moment, after one moment, at another at the latest.
+/// When a burst ends at a tap that senses since `since`: after `from`, and at `to` at the latest.
 pub fn end_between(
     entries: &[Entry],
     delay: u32,
@@ -64,7 +66,7 @@ pub fn end_between(
     Some(first.end())
 }
 
-/// Whether a telegram fills a burst of the tap at a position alone.
+/// Whether a telegram alone fills a burst of the tap at an index.
 #[inline(always)]
 pub(crate) fn fills_burst(
     entries: &[Entry],
@@ -81,8 +83,8 @@ pub(crate) fn fills_burst(
         && is_alone(entries, delay, position, tap.since, telegram)
 }
 
-/// The telegram that fills the burst of a tap which ends at a moment, alone: the burst brings its characters. Where
-/// there is none, it brings one damaged character.
+/// The telegram that alone fills the tap's burst that ends at `moment`: the burst brings its characters. If there is
+/// none, the burst brings one damaged character.
 pub fn filling_telegram<'a>(
     entries: &'a [Entry],
     delay: u32,
@@ -99,7 +101,7 @@ pub fn filling_telegram<'a>(
     telegram_in(filling)
 }
 
-/// The telegram that an entry is, if there is one and it is no noise.
+/// The telegram of an entry; `None` for noise.
 #[inline(always)]
 fn telegram_in(entry: Option<&Entry>) -> Option<&Record>
     ensures { (tap : ℕ) → TellsBurst tap (option_map (λ r. record_of r.now) result)
@@ -111,7 +113,7 @@ fn telegram_in(entry: Option<&Entry>) -> Option<&Record>
     }
 }
 
-/// The characters of a telegram that went out, as the tap at a position gets them.
+/// The characters of a telegram that were sent, as the tap at an index receives them.
 pub fn telegram_characters(telegram: &Record, position: usize) -> ArrayVec<RxChar, 255>
     ensures { result.items ≡ trace.characters_at position (record_of telegram.now) }
 {
@@ -120,7 +122,7 @@ pub fn telegram_characters(telegram: &Record, position: usize) -> ArrayVec<RxCha
     chars
 }
 
-/// Whether a telegram of the entries came whole to the tap at a position.
+/// Whether the tap at an index received a telegram of the entries whole.
 pub fn is_whole_at(
     entries: &[Entry],
     delay: u32,
@@ -138,7 +140,7 @@ pub fn is_whole_at(
     fills_burst(entries, delay, position, tap, telegram) && is_undamaged_at(telegram, position)
 }
 
-/// The next end in the air, at a speaker or at the taps of others.
+/// The next end on the bus, at a speaker or at the taps of others.
 pub fn next_end(entries: &[Entry], delay: u32, now: u64) -> Option<u64>
     ensures { result ≡ world.next_end_of delay now (map entry_of entries.now) }
 {
@@ -148,21 +150,21 @@ pub fn next_end(entries: &[Entry], delay: u32, now: u64) -> Option<u64>
         .min()
 }
 
-/// Whether something is reaching a tap now.
+/// Whether something reaches a tap now.
 pub fn is_reached(entries: &[Entry], delay: u32, tap: usize, now: u64) -> bool
     ensures { result ≡ list_any (step.reaches_now delay tap now) (map entry_of entries.now) }
 {
     entries.iter().any(|entry| at_tap(entry, delay, tap).is_some_and(|span| span.contains(now)))
 }
 
-/// Whether an entry is a telegram of a speaker that is in the air: it has not reached the others yet.
+/// Whether an entry is a speaker's telegram that is still on the bus: its end has not reached the others.
 pub fn is_in_air_by(entry: &Entry, delay: u32, speaker: usize, now: u64) -> bool
     ensures { result ≡ world.is_in_air_by delay now speaker (entry_of entry.now) }
 {
     matches!(entry, Entry::Sent(telegram) if telegram.tap == speaker && now < telegram.reached_end(delay))
 }
 
-/// The next end of an entry, which a telegram has at its speaker before it has it at the taps of others.
+/// The next end of an entry. A telegram ends at its speaker first, and then at the taps of others.
 fn entry_next_end(entry: &Entry, delay: u32, now: u64) -> Option<u64>
     ensures { result ≡ world.entry_next_end delay now (entry_of entry.now) }
 {
@@ -173,14 +175,14 @@ fn entry_next_end(entry: &Entry, delay: u32, now: u64) -> Option<u64>
     }
 }
 
-/// An end that lies after a moment.
+/// The end, if it is after `now`.
 fn later_end(now: u64, end: u64) -> Option<u64>
     ensures { result ≡ world.later_end now end }
 {
     (now < end).then_some(end)
 }
 
-/// Whether a burst begins at a tap, which has sensed since a moment.
+/// Whether a burst begins at `moment`, at a tap that senses since `since`.
 fn burst_begins(entries: &[Entry], delay: u32, tap: usize, since: u64, moment: u64) -> bool
     ensures { result ≡ model.burst_begins (sensed delay tap since (map entry_of entries.now)) moment }
 {
@@ -188,7 +190,7 @@ fn burst_begins(entries: &[Entry], delay: u32, tap: usize, since: u64, moment: u
         && !lasts_through(entries, delay, tap, since, moment)
 }
 
-/// Whether a burst ends at a tap, which has sensed since a moment.
+/// Whether a burst ends at `moment`, at a tap that senses since `since`.
 fn burst_ends(entries: &[Entry], delay: u32, tap: usize, since: u64, moment: u64) -> bool
     ensures { result ≡ model.burst_ends (sensed delay tap since (map entry_of entries.now)) moment }
 {
@@ -223,7 +225,7 @@ fn ends_at(entries: &[Entry], delay: u32, tap: usize, since: u64, moment: u64) -
         .any(|span| span.end() == moment)
 }
 
-/// Whether a telegram comes to the tap at a position with nothing else, while that tap sends nothing.
+/// Whether a telegram reaches the tap at an index with nothing else, while that tap sends nothing.
 #[inline(always)]
 fn is_alone(entries: &[Entry], delay: u32, position: usize, since: u64, telegram: &Record) -> bool
     ensures { result ≡ is_alone delay position since (map entry_of entries.now) (record_of telegram.now) }
@@ -234,7 +236,7 @@ fn is_alone(entries: &[Entry], delay: u32, position: usize, since: u64, telegram
     is_undisturbed(entries, delay, position, since, telegram.reaches(delay))
 }
 
-/// Whether the tap at a position senses one thing alone during a stretch, and sends nothing.
+/// Whether the tap at an index senses exactly one entry during a stretch of time, and sends nothing.
 fn is_undisturbed(entries: &[Entry], delay: u32, position: usize, since: u64, span: Span) -> bool
     ensures { result ≡ is_undisturbed delay position since (map entry_of entries.now) span }
 {
@@ -242,7 +244,7 @@ fn is_undisturbed(entries: &[Entry], delay: u32, position: usize, since: u64, sp
         && !sends_in(entries, position, span)
 }
 
-/// Whether an entry is a telegram whose end reaches the taps at a moment, and that fills a burst alone.
+/// Whether an entry is a telegram whose end reaches the taps at `moment`, and that alone fills a burst.
 #[inline(always)]
 fn fills_burst_to(
     entries: &[Entry],
@@ -262,7 +264,7 @@ fn fills_burst_to(
     }
 }
 
-/// Whether every character of a telegram went out, and comes good to the tap at a position.
+/// Whether every character of a telegram was sent, and reaches the tap at an index undamaged.
 pub(crate) fn is_undamaged_at(telegram: &Record, position: usize) -> bool
     ensures { result ≡ is_undamaged position (record_of telegram.now) }
 {
@@ -273,7 +275,7 @@ pub(crate) fn is_undamaged_at(telegram: &Record, position: usize) -> bool
     chars.len() == telegram.octets.len() && are_good(&chars)
 }
 
-/// An entry at a tap: noise, and what other taps send, save what is unheard there.
+/// When an entry is at a tap: noise, or a telegram of another tap that is not lost there.
 #[inline(always)]
 fn at_tap(entry: &Entry, delay: u32, tap: usize) -> Option<Span>
     ensures { result ≡ at_tap delay tap (entry_of entry.now) }
@@ -285,7 +287,7 @@ fn at_tap(entry: &Entry, delay: u32, tap: usize) -> Option<Span>
     }
 }
 
-/// What of an entry a tap has sensed since a moment.
+/// What a tap that senses since `since` has sensed of an entry.
 #[inline(always)]
 fn sensed(entry: &Entry, delay: u32, tap: usize, since: u64) -> Option<Span>
     ensures { result ≡ option_and_then (part_after since) (at_tap delay tap (entry_of entry.now)) }
@@ -293,7 +295,7 @@ fn sensed(entry: &Entry, delay: u32, tap: usize, since: u64) -> Option<Span>
     at_tap(entry, delay, tap).and_then(|span| span.part_after(since))
 }
 
-/// How many stretches that a tap has sensed overlap a stretch.
+/// How many stretches that a tap has sensed overlap a given one.
 fn count_overlapping(entries: &[Entry], delay: u32, tap: usize, since: u64, span: Span) -> usize
     ensures { result ≡ count_by (overlaps span) (sensed delay tap since (map entry_of entries.now)) }
 {
@@ -304,7 +306,7 @@ fn count_overlapping(entries: &[Entry], delay: u32, tap: usize, since: u64, span
         .count()
 }
 
-/// Whether the tap at a position sends during a stretch.
+/// Whether the tap at an index sends during a stretch of time.
 fn sends_in(entries: &[Entry], position: usize, span: Span) -> bool
     ensures { result ≡ list_any (model.sends_during position span) (map entry_of entries.now) }
 {
@@ -313,7 +315,7 @@ fn sends_in(entries: &[Entry], position: usize, span: Span) -> bool
         .any(|entry| sends_during(entry, position, span))
 }
 
-/// The same, in some room.
+/// Writes the characters of a telegram that were sent, as the tap at an index receives them.
 fn characters_at(telegram: &Record, position: usize, chars: &mut ArrayVec<RxChar, 255>)
     ensures { chars.new.items ≡ trace.characters_at position (record_of telegram.now) }
 {
@@ -324,7 +326,7 @@ fn characters_at(telegram: &Record, position: usize, chars: &mut ArrayVec<RxChar
     characters_of(telegram, position, octets, chars);
 }
 
-/// How many octets of a telegram went out.
+/// How many octets of a telegram were sent.
 #[inline(always)]
 pub(crate) fn sent_octets(telegram: &Record) -> usize
     ensures count { take result telegram.now.octets.items
@@ -352,7 +354,7 @@ fn sends_during(entry: &Entry, tap: usize, span: Span) -> bool
     }
 }
 
-/// The characters of octets that come good.
+/// Writes octets as undamaged characters.
 fn good_characters(octets: &[u8], chars: &mut ArrayVec<RxChar, 255>)
     requires { length octets.now ≤ 255 }
     ensures { chars.new.items ≡ trace.characters_from 0 [] 0 octets.now }
@@ -363,7 +365,7 @@ fn good_characters(octets: &[u8], chars: &mut ArrayVec<RxChar, 255>)
     }
 }
 
-/// The characters of octets that went out, as the tap at a position gets them.
+/// Writes the characters of sent octets, as the tap at an index receives them.
 fn characters_of(
     telegram: &Record,
     position: usize,
@@ -380,7 +382,7 @@ fn characters_of(
     }
 }
 
-/// The character at a place of a telegram, as the tap at a position gets it.
+/// The character with index `place`, as the tap at index `position` receives it.
 fn character_at(telegram: &Record, position: usize, place: usize, octet: u8) -> RxChar
     ensures { result
         ≡ (if list_any (trace.hits_place position place) (record_of telegram.now).hits then Bad else Good

@@ -1,3 +1,5 @@
+//! Settles how telegrams reached the taps, as time passes.
+
 ghost use Rattle.std.specs.Prelude.{◌≡◌, ◌<◌, ◌∷◌, [], ℕ, IsTrue, true, get_or, length, map, slice_get, slice_set};
 ghost use Rattle.pb_model.specs.Medium.{ends_between, entry_at, heard_by, is_whole_at, reaches};
 ghost use Rattle.pb_model.specs.Trace.{Pending, Sent};
@@ -21,14 +23,14 @@ impl Trace {
     ghost use Rattle.pb_medium.specs.Traces.{entries_of, over_of, RecentBecomes};
     ghost use Rattle.pb_taps.specs.Taps.{tap_of};
 
-    /// Time has passed: telegrams that have reached the taps in the meantime are no longer pending.
+    /// Time has passed: telegrams whose ends have reached the taps meanwhile are no longer pending.
     pub fn settle(&mut self, delay: u32, taps: &[Tap], from: Moment, to: Moment)
         ensures { RecentBecomes (settled delay (map tap_of taps.now) from to) self.old self.new }
     {
         settle(&mut self.entries[self.over..], delay, taps, from, to);
     }
 
-    /// All entries are over, where nothing is in the air.
+    /// Marks all entries as over, if none of them is still on the bus.
     pub fn close(&mut self, delay: u32, now: Moment)
         ensures entries { entries_of self.new ≡ entries_of self.old }
         ensures over { over_of self.new ≡ over_after delay now (over_of self.old) (entries_of self.old) }
@@ -42,7 +44,7 @@ impl Trace {
     }
 }
 
-/// Telegrams that have reached the taps in the meantime are no longer pending.
+/// Telegrams whose ends have reached the taps meanwhile are no longer pending.
 fn settle(entries: &mut [Entry], delay: u32, taps: &[Tap], from: Moment, to: Moment)
     ensures length { length entries.new ≡ length entries.old }
     ensures settled { map entry_of entries.new
@@ -58,7 +60,7 @@ fn settle(entries: &mut [Entry], delay: u32, taps: &[Tap], from: Moment, to: Mom
     }
 }
 
-/// The same where one entry is all that there is.
+/// The same for a bus with only one entry.
 fn settle_only(entry: &mut Entry, delay: u32, taps: &[Tap], from: Moment, to: Moment)
     ensures { entry_of entry.new
         ≡ entry_at delay (map tap_of taps.now) (entry_of entry.old ∷ []) from to (entry_of entry.old) }
@@ -70,7 +72,7 @@ fn settle_only(entry: &mut Entry, delay: u32, taps: &[Tap], from: Moment, to: Mo
     }
 }
 
-/// What a telegram that is all that was on the bus was to each tap, once it has ended.
+/// How a telegram, the only one on the bus, reached each tap, once it has ended.
 fn heard_alone(telegram: &Record, delay: u32, taps: &[Tap]) -> Reception
     ensures { result
         ≡ heard_by delay (Sent (record_of telegram.now) ∷ []) (record_of telegram.now) 0 (map tap_of taps.now)
@@ -84,7 +86,7 @@ fn heard_alone(telegram: &Record, delay: u32, taps: &[Tap]) -> Reception
     heard
 }
 
-/// A telegram that is all that was on the bus, and was pending to the tap at a position, is so no longer.
+/// A telegram, the only one on the bus, is no longer pending at the tap at an index.
 #[inline(always)]
 fn settle_alone_at(
     heard: &mut Reception,
@@ -108,7 +110,7 @@ fn settle_alone_at(
     }
 }
 
-/// Whether a telegram that is all that was on the bus came whole to the tap at a position.
+/// Whether a telegram, the only one on the bus, was received whole by the tap at an index.
 #[inline(always)]
 #[tactic(auto, using(crate::proofs::Alone::sent_whole))]
 fn is_whole_alone(is_sound: bool, delay: u32, position: usize, tap: &Tap, telegram: &Record) -> bool
@@ -119,7 +121,7 @@ fn is_whole_alone(is_sound: bool, delay: u32, position: usize, tap: &Tap, telegr
     hears_all(delay, position, tap, telegram) && (is_sound || comes_whole(telegram, position))
 }
 
-/// Whether the tap at a position runs, has heard a telegram from its beginning, and is not its speaker.
+/// Whether the tap at an index runs, has heard a telegram from its begin, and is not its speaker.
 #[inline(always)]
 fn hears_all(delay: u32, position: usize, tap: &Tap, telegram: &Record) -> bool
     ensures { result ≡ hears_all delay position (tap_of tap.now) (record_of telegram.now) }
@@ -127,14 +129,14 @@ fn hears_all(delay: u32, position: usize, tap: &Tap, telegram: &Record) -> bool
     tap.running && tap.hears_from(telegram.reaches(delay).begin()) && position != telegram.tap
 }
 
-/// Whether a telegram comes whole to all taps that hear it from its beginning, with nothing else.
+/// Whether all taps that hear a telegram from its begin, with nothing else, receive it whole.
 fn is_sound(telegram: &Record) -> bool
     ensures { IsTrue result → (tap : ℕ) → comes_whole tap (record_of telegram.now) ≡ true }
 {
     is_plain(telegram) && sent_octets(telegram) == telegram.octets.len()
 }
 
-/// Whether a telegram comes whole to the tap at a position, if that hears it from its beginning, with nothing else.
+/// Whether the tap at an index receives a telegram whole, if it hears the telegram from its begin, with nothing else.
 #[inline(never)]
 fn comes_whole(telegram: &Record, position: usize) -> bool
     ensures { result ≡ comes_whole position (record_of telegram.now) }
@@ -144,7 +146,7 @@ fn comes_whole(telegram: &Record, position: usize) -> bool
         && is_undamaged_at(telegram, position)
 }
 
-/// A telegram that was something to the taps is no longer pending.
+/// Stores how a telegram reached the taps, if it did.
 fn settle_entry(entry: &mut Entry, heard: Option<Reception>)
     ensures { entry_of entry.new ≡ settled_as heard (entry_of entry.old) }
 {
@@ -153,7 +155,7 @@ fn settle_entry(entry: &mut Entry, heard: Option<Reception>)
     }
 }
 
-/// What a telegram of the entries was to each tap, if it has reached them in the meantime.
+/// How a telegram of the entries reached each tap, if its end has reached them meanwhile.
 fn outcome(
     entries: &[Entry],
     delay: u32,
@@ -173,7 +175,7 @@ fn outcome(
     }
 }
 
-/// Whether the end of a telegram reaches the taps after a moment, at another at the latest.
+/// Whether the end of a telegram reaches the taps after `from`, and at `to` at the latest.
 fn is_reached_between(telegram: &Record, delay: u32, from: Moment, to: Moment) -> bool
     ensures { result ≡ ends_between from to (reaches delay (record_of telegram.now)) }
 {
@@ -181,7 +183,7 @@ fn is_reached_between(telegram: &Record, delay: u32, from: Moment, to: Moment) -
     from.get() < end && end <= to.get()
 }
 
-/// What a telegram of the entries was to each tap, once it has ended.
+/// How a telegram of the entries reached each tap, once it has ended.
 fn heard_in_the_end(entries: &[Entry], delay: u32, telegram: &Record, taps: &[Tap]) -> Reception
     ensures { result ≡ heard_by delay (map entry_of entries.now) (record_of telegram.now) 0
         (map tap_of taps.now) (record_of telegram.now).heard }
@@ -193,7 +195,7 @@ fn heard_in_the_end(entries: &[Entry], delay: u32, telegram: &Record, taps: &[Ta
     heard
 }
 
-/// A telegram of the entries that was pending to the tap at a position, if there is one, is so no longer.
+/// A telegram of the entries is no longer pending at the tap at an index, if there is one.
 fn settle_at(
     heard: &mut Reception,
     entries: &[Entry],

@@ -1,3 +1,5 @@
+//! Stretches of time.
+
 use std::marker::Model;
 
 /// A stretch of time, in bit times: `begin` is in it, `end` is not.
@@ -36,14 +38,14 @@ impl Span {
         self.begin
     }
 
-    /// When it ends.
+    /// When it ends: the first moment after it.
     pub fn end(self) -> u64
         ensures { result ≡ self.end }
     {
         self.end
     }
 
-    /// Whether it has begun before the moment, and ends after it.
+    /// Whether it begins before `moment` and ends after it.
     pub(crate) fn lasts_through(self, moment: u64) -> bool
         ensures { result ≡ lasts_through moment self }
     {
@@ -62,7 +64,7 @@ impl Span {
         self.begin < other.end && other.begin < self.end
     }
 
-    /// What of it lies after a moment.
+    /// The part of it from `moment` on, if it ends later.
     pub(crate) fn part_after(self, moment: u64) -> Option<Span>
         ensures { result ≡ part_after moment self }
     {

@@ -1,3 +1,5 @@
+//! Puts what a tap sends into the trace.
+
 ghost use Rattle.std.specs.Prelude.{◌≡◌, ◌≤◌, ◌∷◌, [], ℕ, List, length};
 ghost use Rattle.pb_model.specs.Medium as model;
 ghost use Rattle.pb_model.specs.Step as step;
@@ -15,7 +17,7 @@ use pb_telegram::put_octets;
 use pb_timers::{Moment, bits};
 use std::alloc::Global;
 
-/// A tap that speaks at the clock, on a bus with so many taps.
+/// A tap that speaks at the clock, on a bus with this many taps.
 #[derive(Clone, Copy, Debug)]
 pub struct Speaker {
     pub tap: usize,
@@ -30,7 +32,8 @@ impl Trace {
     ghost use Rattle.pb_model.specs.World.{clock_limit, tap_limit};
     ghost use Rattle.pb_medium.specs.Traces.{HasRoom, RecentBecomes};
 
-    /// Puts what a tap says at the clock, if anything, into the trace, which has room for it.
+    /// Puts what a tap sends at the clock, if anything, into the trace. The caller ensures that the trace has room for
+    /// it.
     pub fn say(&mut self, alloc: Global, speaker: Speaker, sent: &SendBuffer)
         requires room { is_some sent.now ≡ true → HasRoom self.old }
         requires clock { speaker.clock ≤ clock_limit }
@@ -45,7 +48,7 @@ impl Trace {
     }
 }
 
-/// The new telegram of a tap, of so many octets, which are yet to be written.
+/// A new telegram of a tap, of this many octets, which are written later.
 #[inline(always)]
 fn sending(alloc: Global, speaker: Speaker, count: usize) -> Entry
     requires few { count ≤ 255 }
@@ -64,7 +67,7 @@ fn sending(alloc: Global, speaker: Speaker, count: usize) -> Entry
     })
 }
 
-/// The octets of a telegram are written, where it stays.
+/// Writes the octets of a telegram in the trace, in place.
 #[inline(always)]
 fn spell(entry: &mut Entry, octets: &[u8])
     requires { length octets.now ≤ 255 }
@@ -78,7 +81,7 @@ fn spell(entry: &mut Entry, octets: &[u8])
     }
 }
 
-/// Three octets take the place of others: as many as a token has, and so most telegrams.
+/// Writes three octets, the length of a token: most telegrams are tokens.
 #[inline(always)]
 fn put_three(room: &mut ArrayVec<u8, 255>, first: u8, second: u8, third: u8)
     ensures { room.new.items ≡ first ∷ second ∷ third ∷ [] }

@@ -1,4 +1,6 @@
-/// A set of taps of one bus, which has at most 127, in the bits of a number.
+//! Sets of taps as the bits of a number.
+
+/// A set of taps of one bus, at most 127, as the bits of a number.
 #[derive(Clone, Copy, Debug)]
 pub(crate) struct TapSet {
     bits: u128,
@@ -8,14 +10,14 @@ impl TapSet {
     ghost use Rattle.std.specs.Prelude.{◌≡◌, ◌≢◌, ◌<◌, ℕ, true, false};
     ghost use Rattle.pb_medium.specs.Receptions.{holds};
 
-    /// The set without taps.
+    /// The empty set.
     pub(crate) fn none() -> TapSet
         ensures { (tap : ℕ) → holds result tap ≡ false }
     {
         TapSet { bits: 0 }
     }
 
-    /// Whether no tap is in the set.
+    /// Whether the set is empty.
     pub(crate) fn is_empty(self) -> bool
         ensures { result ≡ true → (tap : ℕ) → holds self tap ≡ false }
     {
@@ -30,7 +32,7 @@ impl TapSet {
         (self.bits >> tap) & 1 == 1
     }
 
-    /// Puts a tap into the set.
+    /// Inserts a tap.
     pub(crate) fn insert(&mut self, tap: usize)
         requires { tap < 127 }
         ensures new { holds self.new tap ≡ true }

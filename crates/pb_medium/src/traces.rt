@@ -1,3 +1,5 @@
+//! The trace of a medium, and its memory.
+
 ghost use Rattle.std.specs.Prelude.{◌≡◌, ◌≤◌, ◌<◌, length, vec_capacity};
 ghost use Rattle.std.specs.List.{insert};
 
@@ -6,14 +8,15 @@ use crate::placing::place_among;
 use pb_taps::WorldFault;
 use std::alloc::Global;
 
-/// How many entries a trace may have.
+/// The most entries of a trace.
 const TRACE_LIMIT: usize = 100_000;
 
-/// For how many entries it makes room at first, and for three times as many as there are from then on: where there is
-/// none, what stands has to move, and a turn is asked first whether it would speak. What isn't filled isn't touched.
+/// How many entries are reserved at first; later, three times the present number are added. Without reserved memory the
+/// entries would be moved, and a turn would first be tested for whether it sends. Reserved memory that is not used is
+/// not touched.
 const FIRST_ROOM: usize = 16_384;
 
-/// All that was on a medium, in order: what had ended before all else began, and the recent entries.
+/// All entries of a medium, in order: those that had ended before all others began, and the recent ones.
 #[derive(Drop)]
 pub struct Trace {
     pub(crate) entries: Vec<Entry>,
@@ -49,35 +52,37 @@ impl Trace {
         &self.entries
     }
 
-    /// All entries, in order, for one who keeps no trace.
+    /// Consumes the trace and returns all entries, in order.
     pub fn into_entries(self) -> Vec<Entry>
         ensures { map entry_of result.items ≡ entries_of self }
     {
         self.entries
     }
 
-    /// The entries behind those that are over.
+    /// The recent entries: those after the ones that are over.
     pub fn recent(&self) -> &[Entry]
         ensures { map entry_of result.now ≡ recent_of self.entry.now }
     {
         &self.entries[self.over..]
     }
 
-    /// Whether it takes one entry more without asking for memory.
+    /// Whether it takes one more entry without allocating.
     pub fn has_room(&self) -> bool
         ensures { IsTrue result ↔ HasRoom self.now }
     {
         self.entries.len() < self.entries.capacity().min(TRACE_LIMIT)
     }
 
-    /// Whether it has as many entries as it may have.
+    /// Whether it has the most entries that a trace may have.
     pub fn is_full(&self) -> bool
         ensures { result ≡ nat_le trace_limit (length (entries_of self.entry.now)) }
     {
         self.entries.len() >= TRACE_LIMIT
     }
 
-    /// Makes room for one entry more. Faults, the first that applies: `TraceFull`; `NoMemory`.
+    /// Reserves memory for one more entry.
+    ///
+    /// Faults, the first that applies: `TraceFull`; `NoMemory`.
     pub fn make_room(&mut self) -> Result<(), WorldFault>
         ensures same { StaysAs self.old self.new }
         ensures ok { OnOk result (HasRoom self.new) }
@@ -95,7 +100,7 @@ impl Trace {
         Ok(())
     }
 
-    /// Puts an entry among the recent ones, and tells at which place of all entries it is then.
+    /// Inserts an entry among the recent ones, and returns its index among all entries.
     #[inline(always)]
     pub(crate) fn put(&mut self, entry: Entry) -> usize
         requires { HasRoom self.old }
@@ -110,8 +115,7 @@ impl Trace {
     }
 }
 
-/// An entry takes a place among others, with room for it. Nearly always it is the last place, and then the entry is
-/// written where it stays.
+/// Inserts an entry at an index, within the reserved memory. It is nearly always appended, and then written in place.
 #[inline(always)]
 fn insert(entries: &mut Vec<Entry>, place: usize, entry: Entry)
     requires place { place ≤ length entries.old.items }
@@ -125,7 +129,7 @@ fn insert(entries: &mut Vec<Entry>, place: usize, entry: Entry)
     }
 }
 
-/// The same before one that is there.
+/// Slow path of `insert`, kept out of line: the entry goes before another.
 #[inline(never)]
 fn insert_before(entries: &mut Vec<Entry>, place: usize, entry: Entry)
     requires place { place ≤ length entries.old.items }

@@ -1,4 +1,4 @@
--- What telegrams say, apart from their form.
+-- The contents of telegrams, apart from their form.
 use Rattle.std.specs.Prelude.{ℕ, ◌+◌, slice_index, ◌==◌, ◌%◌, ◌^◌, Bool, not, if◌then◌else◌, List, [], ◌∷◌, ◌++◌, length, bit_and}
 use Rattle.pb_telegram.specs.Grammar.{sd1, sd2, sd3, sc, ed, fcs_of, length_of}
 use Rattle.pb_telegram.specs.Faults.{is_ack, is_token, da_place, unit_of}
@@ -10,7 +10,7 @@ use Rattle.pb_messages.specs.declared.messages.Message.TheVariants.{Framed, Ackn
 use Rattle.pb_messages.specs.declared.messages.Reply.{Reply}
 use Rattle.pb_messages.specs.declared.messages.Reply.TheVariants.{Answer, Acknowledge}
 
--- what a telegram says
+-- the content of a telegram
 abbrev pub message_of : Telegram → Message
 message_of (Short t) = Framed (record { da = t.da; sa = t.sa; fc = t.fc; unit = [] })
 message_of (Var t) = Framed (record { da = t.da; sa = t.sa; fc = t.fc; unit = t.unit.items })
@@ -18,14 +18,14 @@ message_of (Fixed8 t) = Framed (record { da = t.da; sa = t.sa; fc = t.fc; unit =
 message_of (Token t) = TokenPass
 message_of Ack = Acknowledgement
 
--- what the octets of a telegram say
+-- the content of the octets of a telegram
 abbrev pub message_in : List ℕ → Message
 message_in xs =
     if is_ack xs then Acknowledgement
     else if is_token xs then TokenPass
     else Framed (record { da = slice_index xs (da_place xs); sa = slice_index xs (da_place xs + 1); fc = slice_index xs (da_place xs + 2); unit = unit_of xs })
 
--- the octets of a telegram with a control octet: its form goes by how many octets of data it has
+-- the octets of a telegram with a control octet; the number of octets of data decides its form
 abbrev pub frame_octets : Fields → List ℕ
 frame_octets f =
     if length f.unit == 0 then sd1 ∷ f.da ∷ f.sa ∷ f.fc ∷ fcs_of f.da f.sa f.fc [] ∷ ed ∷ []
@@ -37,7 +37,7 @@ abbrev pub reply_octets : Reply → List ℕ
 reply_octets (Answer f) = frame_octets f
 reply_octets Acknowledge = sc ∷ []
 
--- what a reply says
+-- the content of a reply
 abbrev pub heard_as : Reply → Message
 heard_as (Answer f) = Framed f
 heard_as Acknowledge = Acknowledgement
@@ -46,6 +46,6 @@ heard_as Acknowledge = Acknowledgement
 abbrev pub has_bit : ℕ → ℕ → Bool
 has_bit octet k = not (bit_and octet (2 ^ k) == 0)
 
--- the address in an address octet, whose bit 7 says that an address extension stands at the front of the unit
+-- the address in an address octet; bit 7 announces an address extension at the front of the unit
 abbrev pub address_in : ℕ → ℕ
 address_in octet = octet % 128

@@ -7,28 +7,28 @@ pub record Queued : Type 0 where
   pub high : List RequestFields
   pub low : List RequestFields
 
--- a request is put into a list, or one is taken out
+-- a request is appended to a list, or one is taken
 pub data Use : Type 0 where
   Put : RequestFields → Use
   TakeOut : Use
 
--- a list has 16 places
+-- a list holds at most 16 requests
 abbrev pub put : List RequestFields → RequestFields → List RequestFields
 put xs r = if nat_lt (length xs) 16 then xs ++ r ∷ [] else xs
 
--- what waits in a list after its uses
+-- the requests that wait after all uses
 abbrev pub waiting : List RequestFields → List Use → List RequestFields
 waiting xs [] = xs
 waiting xs (Put r ∷ uses) = waiting (put xs r) uses
 waiting xs (TakeOut ∷ uses) = waiting (drop 1 xs) uses
 
--- the requests that were put in and not refused, in order
+-- the requests that were appended and not refused, in order
 abbrev pub accepted : List RequestFields → List Use → List RequestFields
 accepted xs [] = []
 accepted xs (Put r ∷ uses) = (if nat_lt (length xs) 16 then r ∷ [] else []) ++ accepted (put xs r) uses
 accepted xs (TakeOut ∷ uses) = accepted (drop 1 xs) uses
 
--- the requests that were taken out, in order
+-- the requests that were taken, in order
 abbrev pub taken : List RequestFields → List Use → List RequestFields
 taken xs [] = []
 taken xs (Put r ∷ uses) = taken (put xs r) uses

@@ -1,4 +1,4 @@
--- Which requests there are, and the function codes of their control octets.
+-- Which requests are valid, and the function codes of their control octets.
 use Rattle.std.specs.Prelude.{ℕ, ◌+◌, ◌≤◌, ◌==◌, nat_lt, Bool, true, false, ◌&&◌, ◌||◌, not, if◌then◌else◌, List, [], ◌∷◌}
 use Rattle.pb_messages.specs.Fields.{Fields}
 use Rattle.pb_messages.specs.RequestFields.{RequestFields}
@@ -15,7 +15,7 @@ is_answered Sda = true
 is_answered Sdn = false
 is_answered Srd = true
 
--- a request of the service may go to an address: to a station's, or to 127, all stations, where the service isn't answered
+-- a request of the service may go to an address: a station's, or 127 (all stations) if the service is not answered
 abbrev pub may_go_to : Service → ℕ → Bool
 may_go_to service address = nat_lt address 127 || (address == 127 && not (is_answered service))
 
@@ -23,7 +23,7 @@ may_go_to service address = nat_lt address 127 || (address == 127 && not (is_ans
 abbrev pub request_faults : ℕ → Service → List (Bool × RequestFault)
 request_faults da service = (not (may_go_to service da), BadAddress) ∷ []
 
--- what the type of a request keeps: a service that is answered goes to a station
+-- the invariant of a request: a service that is answered goes to a station
 abbrev pub IsAddressed : ℕ → Service → Type 0
 IsAddressed da Sda = da ≤ 126
 IsAddressed da Sdn = da ≤ 127

@@ -1,3 +1,5 @@
+//! A telegram with a control octet, as four fields.
+
 ghost use Rattle.std.specs.Prelude.{◌≡◌, ◌≤◌, ◌<◌, ◌%◌, length, IsBitSet};
 ghost use Rattle.pb_telegram.specs.Grammar.{spelling};
 ghost use Rattle.pb_telegram.specs.Initiators.{IsInitiator};
@@ -8,7 +10,7 @@ use arrayvec::ArrayVec;
 use pb_telegram::{Fixed8Telegram, ShortTelegram, Telegram, VarTelegram, copy_octets, put_octets};
 use std::marker::Model;
 
-/// A telegram with a control octet, apart from its form.
+/// A telegram with a control octet, whatever its form.
 #[derive(Debug, PartialEq, Eq, Drop)]
 pub struct Frame {
     da: u8,
@@ -31,8 +33,8 @@ impl Model for Frame {
 }
 
 impl Frame {
-    /// The fields of a telegram. The caller's conditions: bits 0 to 6 of SA are the address of a station,
-    /// at most 126, and bit 7 of FC is clear.
+    /// A frame of these fields. The caller ensures that bits 0 to 6 of SA are the address of a station, at most 126,
+    /// and that bit 7 of FC is clear.
     pub fn new(da: u8, sa: u8, fc: u8, unit: ArrayVec<u8, 246>) -> Frame
         requires sa { sa % 128 < 127 }
         requires fc { fc < 128 }
@@ -41,14 +43,15 @@ impl Frame {
         Frame { da, sa, fc, unit }
     }
 
-    /// The octet DA: the destination address, and whether an extension of it comes first in the data.
+    /// The octet DA: bits 0 to 6 are the destination address; bit 7 says that an address extension comes first in the
+    /// data.
     pub fn da(&self) -> u8
         ensures { result ≡ self.now.da }
     {
         self.da
     }
 
-    /// The octet SA: the same of the source.
+    /// The octet SA: the same for the source.
     pub fn sa(&self) -> u8
         ensures { result ≡ self.now.sa }
     {
@@ -70,7 +73,7 @@ impl Frame {
         &self.unit
     }
 
-    /// The same fields.
+    /// An equal frame.
     pub fn copy(&self) -> Frame
         ensures { result ≡ self.now }
     {
@@ -82,7 +85,7 @@ impl Frame {
         }
     }
 
-    /// Becomes equal to another, in the room that it has.
+    /// Overwrites this frame by another, in place.
     pub fn copy_from(&mut self, other: &Frame)
         ensures { self.new ≡ other.now }
     {
@@ -93,7 +96,7 @@ impl Frame {
         put_octets(unit, &other.unit);
     }
 
-    /// The telegram: its form goes by how many octets of data it has.
+    /// The telegram. The number of octets of data decides its form.
     pub fn telegram(&self) -> Telegram
         ensures octets { spelling result ≡ frame_octets self.now }
         ensures message { message_of result ≡ Framed self.now }
@@ -103,7 +106,7 @@ impl Frame {
     }
 }
 
-/// The telegram of these fields: its form goes by how many octets of data it has.
+/// The telegram of these fields. The number of octets of data decides its form.
 fn form(da: u8, sa: u8, fc: u8, unit: &[u8]) -> Telegram
     requires sa { sa % 128 < 127 }
     requires fc { fc < 128 }

@@ -1,3 +1,5 @@
+//! Laws of messages and queues.
+
 ghost use Rattle.std.specs.Prelude.{◌≡◌, ◌≤◌, List, [], ◌++◌, length};
 ghost use Rattle.pb_telegram.specs.Grammar.{spelling};
 ghost use Rattle.pb_telegram.specs.declared.telegrams.Telegram.{Telegram};
@@ -7,8 +9,7 @@ ghost use Rattle.pb_messages.specs.Queued.{Use, accepted, taken, waiting};
 ghost use Rattle.pb_messages.specs.declared.messages.Message.TheVariants.{Framed};
 ghost use Rattle.pb_messages.specs.declared.messages.Reply.TheVariants.{Answer, Acknowledge};
 
-/// What the octets of a telegram say is what the telegram says; and what is sent as the octets of a
-/// request or reply is heard as it was sent.
+/// The octets of a telegram have the meaning of the telegram. A request or reply is heard as it was sent.
 pub fn octets_say_what_the_telegram_says()
     ensures telegram { (t : Telegram) → message_in (spelling t) ≡ message_of t }
     ensures frame { (f : Fields) → length f.unit ≤ 246 → message_in (frame_octets f) ≡ Framed f }
@@ -17,8 +18,8 @@ pub fn octets_say_what_the_telegram_says()
     ensures acknowledgement { message_in (reply_octets Acknowledge) ≡ heard_as Acknowledge }
 {}
 
-/// A list of a queue is first in first out: whatever is put in and taken out, what was accepted is what
-/// was taken, in order, followed by what waits.
+/// A list of a queue is first in, first out: the accepted requests are the taken ones, in order, followed by those that
+/// wait.
 pub fn a_queue_is_first_in_first_out()
     ensures { (uses : List Use) → accepted [] uses ≡ taken [] uses ++ waiting [] uses }
 {}

@@ -1,11 +1,10 @@
-//! What the telegrams of message cycles say, and the requests that wait for the token (EN 50170-2,
-//! message cycles).
+//! The contents of the telegrams of message cycles, and the requests that wait for the token (EN 50170-2, message
+//! cycles).
 //!
-//! A telegram with a control octet is a [`Frame`] of four fields, whatever its form. A [`Message`] is
-//! what any telegram says, and a [`Reply`] what a station answers. A [`Request`] asks for a
-//! [`Service`], which the function code of its control octet names ([`Asked`]). A [`Queue`] is a copy of the
-//! requests that wait at a station (pb_core, `Waiting`), a list for each priority.
-//! No call takes memory.
+//! A telegram with a control octet is a [`Frame`] of four fields, whatever its form. A [`Message`] is the content of
+//! any telegram, and a [`Reply`] that of a reply. A [`Request`] asks for a [`Service`], which is named by the function
+//! code of its control octet ([`Asked`]). A [`Queue`] is a copy of the requests that wait at a station (pb_core,
+//! `Waiting`), with one list for each priority. No call takes memory.
 #![tactic(auto)]
 
 mod frames;

@@ -1,3 +1,5 @@
+//! What a telegram says, apart from its form; and what a station replies.
+
 ghost use Rattle.std.specs.Prelude.{◌≡◌};
 ghost use Rattle.pb_telegram.specs.Grammar.{spelling};
 ghost use Rattle.pb_messages.specs.Messages.{message_of, reply_octets, heard_as};
@@ -7,7 +9,7 @@ use crate::frames::Frame;
 use arrayvec::ArrayVec;
 use pb_telegram::{Telegram, copy_octets};
 
-/// What a telegram says, apart from its form.
+/// The content of a telegram, apart from its form.
 #[derive(Debug, Drop)]
 pub enum Message {
     /// A request or a reply with a control octet.
@@ -19,7 +21,7 @@ pub enum Message {
 }
 
 impl Message {
-    /// What the telegram says.
+    /// Reads the content of a telegram.
     pub fn read(telegram: &Telegram) -> Message
         ensures { result ≡ message_of telegram.now }
     {
@@ -34,7 +36,7 @@ impl Message {
     }
 }
 
-/// What a station replies.
+/// A station's reply to a request.
 #[derive(Debug, PartialEq, Eq, Drop)]
 pub enum Reply {
     /// A telegram with a control octet.
@@ -44,7 +46,7 @@ pub enum Reply {
 }
 
 impl Reply {
-    /// The same reply.
+    /// An equal reply.
     pub fn copy(&self) -> Reply
         ensures { result ≡ self.now }
     {
@@ -54,7 +56,7 @@ impl Reply {
         }
     }
 
-    /// Becomes equal to another, in the room that it has.
+    /// Overwrites this reply by another, in place.
     pub fn copy_from(&mut self, other: &Reply)
         ensures { self.new ≡ other.now }
     {
@@ -64,7 +66,7 @@ impl Reply {
         }
     }
 
-    /// Becomes a telegram with a control octet.
+    /// Overwrites this reply by a telegram with a control octet, in place if this one has a control octet too.
     fn become_answer(&mut self, other: &Frame)
         ensures { self.new ≡ Answer other.now }
     {
@@ -74,7 +76,7 @@ impl Reply {
         }
     }
 
-    /// The telegram.
+    /// The reply as a telegram.
     pub fn telegram(&self) -> Telegram
         ensures octets { spelling result ≡ reply_octets self.now }
         ensures message { message_of result ≡ heard_as self.now }

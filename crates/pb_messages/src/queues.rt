@@ -1,3 +1,5 @@
+//! A copy of a station's waiting requests.
+
 ghost use Rattle.std.specs.Prelude.{◌≡◌, ◌≤◌, ◌<◌, [], ◌∷◌, ◌++◌, length, drop, OnOk, OnErr, IfErr, IfNone, MatchOption, MatchResult};
 ghost use Rattle.pb_messages.specs.Queued.{put};
 
@@ -6,7 +8,7 @@ use arrayvec::ArrayVec;
 use std::marker::Model;
 use thiserror::Error;
 
-/// The list of the request's priority is full. It is handed back.
+/// The list of the request's priority is full. The request is returned.
 #[derive(Debug, Drop, Error)]
 #[error("QueueFull")]
 pub struct QueueFull {
@@ -14,8 +16,7 @@ pub struct QueueFull {
     pub request: Request,
 }
 
-/// The requests that wait for the token: a list of each priority, first in first out, with 16
-/// entries at most.
+/// The requests that wait for the token: a list for each priority, first in, first out, with at most 16 entries.
 #[derive(Debug, PartialEq, Eq, Drop)]
 pub struct Queue {
     high: ArrayVec<Request, 16>,
@@ -33,7 +34,7 @@ impl Model for Queue {
 }
 
 impl Queue {
-    /// A queue in which nothing waits.
+    /// An empty queue.
     pub fn new() -> Queue
         ensures { result ≡ record { high = []; low = [] } }
     {
@@ -43,8 +44,8 @@ impl Queue {
         }
     }
 
-    /// A queue in which equal requests wait, the first longest. There are at most 16 of each priority, the caller's
-    /// condition.
+    /// A queue of copies of these requests, the first to be taken first. The caller ensures that there are at most 16
+    /// of each priority.
     pub fn of(high: &[Request], low: &[Request]) -> Queue
         requires high { length high.now ≤ 16 }
         requires low { length low.now ≤ 16 }
@@ -56,8 +57,9 @@ impl Queue {
         }
     }
 
-    /// Puts a request behind the others in the list of high priority. QueueFull, which hands the
-    /// request back: 16 wait there; the queue stays as it was.
+    /// Appends a request to the list of high priority.
+    ///
+    /// Fault: `QueueFull`, with the request, if 16 requests wait there. The queue is unchanged.
     pub fn push_high(&mut self, request: Request) -> Result<(), QueueFull>
         ensures outcome { MatchResult result
             (λ _. self.new ≡ record { high = put self.old.high request; low = self.old.low })
@@ -68,8 +70,9 @@ impl Queue {
         push(&mut self.high, request)
     }
 
-    /// Puts a request behind the others in the list of low priority. QueueFull, which hands the
-    /// request back: 16 wait there; the queue stays as it was.
+    /// Appends a request to the list of low priority.
+    ///
+    /// Fault: `QueueFull`, with the request, if 16 requests wait there. The queue is unchanged.
     pub fn push_low(&mut self, request: Request) -> Result<(), QueueFull>
         ensures outcome { MatchResult result
             (λ _. self.new ≡ record { high = self.old.high; low = put self.old.low request })
@@ -80,7 +83,7 @@ impl Queue {
         push(&mut self.low, request)
     }
 
-    /// Takes the request of high priority that has waited longest, if one waits.
+    /// Takes the high priority request that has waited longest; `None` if none waits.
     pub fn take_high(&mut self) -> Option<Request>
         ensures { MatchOption result ((self.old.high ≡ []) × (self.new ≡ self.old))
             (λ request. (self.old.high ≡ request ∷ self.new.high)
@@ -89,7 +92,7 @@ impl Queue {
         take(&mut self.high)
     }
 
-    /// Takes the request of low priority that has waited longest, if one waits.
+    /// Takes the low priority request that has waited longest; `None` if none waits.
     pub fn take_low(&mut self) -> Option<Request>
         ensures { MatchOption result ((self.old.low ≡ []) × (self.new ≡ self.old))
             (λ request. (self.old.low ≡ request ∷ self.new.low)
@@ -98,7 +101,7 @@ impl Queue {
         take(&mut self.low)
     }
 
-    /// How many requests of high priority wait, 0 to 16.
+    /// How many high priority requests wait, 0 to 16.
     pub fn len_high(&self) -> usize
         ensures value { result ≡ length self.now.high }
         ensures fits { result ≤ 16 }
@@ -106,7 +109,7 @@ impl Queue {
         self.high.len()
     }
 
-    /// How many requests of low priority wait, 0 to 16.
+    /// How many low priority requests wait, 0 to 16.
     pub fn len_low(&self) -> usize
         ensures value { result ≡ length self.now.low }
         ensures fits { result ≤ 16 }
@@ -115,7 +118,7 @@ impl Queue {
     }
 }
 
-/// Puts the request behind the others, or hands it back where there are 16.
+/// Appends the request, or returns it if the list is full.
 fn push(list: &mut ArrayVec<Request, 16>, request: Request) -> Result<(), QueueFull>
     ensures ok { OnOk result (list.new.items ≡ list.old.items ++ request ∷ []) }
     ensures room { OnOk result (length list.old.items < 16) }
@@ -131,7 +134,7 @@ fn push(list: &mut ArrayVec<Request, 16>, request: Request) -> Result<(), QueueF
     }
 }
 
-/// Takes the request that has waited longest.
+/// Takes the request that has waited longest; `None` if the list is empty.
 fn take(list: &mut ArrayVec<Request, 16>) -> Option<Request>
     ensures first { MatchOption result (list.old.items ≡ []) (λ request. list.old.items
         ≡ request ∷ list.new.items) }
@@ -140,7 +143,7 @@ fn take(list: &mut ArrayVec<Request, 16>) -> Option<Request>
     list.pop_at(0)
 }
 
-/// A list of these requests.
+/// A list of copies of these requests.
 fn list_of(requests: &[Request]) -> ArrayVec<Request, 16>
     requires { length requests.now ≤ 16 }
     ensures { result.items ≡ requests.now }

@@ -1,3 +1,5 @@
+//! A request for a service, which a station sends when it holds the token.
+
 ghost use Rattle.std.specs.Prelude.{◌≡◌, Some, None, IfOk, IfErr, OnOk};
 ghost use Rattle.pb_refusals.specs.FirstFault.{first_fault};
 ghost use Rattle.pb_messages.specs.Requests.{request_faults};
@@ -8,17 +10,17 @@ use pb_telegram::{copy_octets, put_octets};
 use std::marker::Model;
 use thiserror::Error;
 
-/// Why there is no such request.
+/// Why a request is refused.
 #[derive(Clone, Copy, Debug, PartialEq, Eq, Error)]
 pub enum RequestFault {
-    /// 1: the address is over 127, or it is 127, all stations, for a service that is answered.
+    /// 1: the address is over 127, or it is 127 (all stations) and the service is answered.
     #[error("BadAddress")]
     BadAddress,
 }
 
 /// A request to send data to a station, or to all stations (IEC 61158-4-3, data link service).
 ///
-/// It goes to the address 0 to 126 of a station; 127 is all stations, for SDN alone.
+/// Its address is that of a station, 0 to 126, or 127 (all stations), for SDN only.
 #[derive(Debug, PartialEq, Eq, Drop)]
 pub struct Request {
     da: u8,
@@ -52,7 +54,7 @@ impl Default for Request {
 
     ghost is_default = { λ r. r ≡ record { da = 0; service = Sda; high = false; unit = [] } };
 
-    /// A request that a place of a queue holds before it is used: SDA to 0 without data.
+    /// The value of an unused entry of a queue: SDA to 0 without data.
     fn default() -> Request {
         Request {
             da: 0,
@@ -68,8 +70,9 @@ impl Request {
     ghost use Rattle.pb_messages.specs.RequestFields.{RequestFields};
     ghost use Rattle.pb_messages.specs.Requests.{IsAddressed};
 
-    /// A request to the address `da`, 0 to 127, with high priority or low, and with at most 246
-    /// octets of data. 1 BadAddress: `da` is over 127, or 127 with a service other than SDN.
+    /// A request to the address `da`, 0 to 127, with high priority if `high`, and with at most 246 octets of data.
+    ///
+    /// Fault: `BadAddress` (1) if `da` is over 127, or 127 with a service other than SDN.
     pub fn new(
         da: u8,
         service: Service,
@@ -92,7 +95,7 @@ impl Request {
         })
     }
 
-    /// The address, 0 to 126 of a station, or 127 for all stations.
+    /// The address: 0 to 126 of a station, or 127 for all stations.
     pub fn da(&self) -> u8
         ensures value { result ≡ self.now.da }
         ensures addressed { IsAddressed self.now.da self.now.service }
@@ -140,7 +143,7 @@ impl Request {
         }
     }
 
-    /// Becomes equal to another, in the room that it has.
+    /// Overwrites this request by another, in place.
     pub fn copy_from(&mut self, other: &Request)
         ensures { self.new ≡ other.now }
     {
@@ -156,7 +159,7 @@ impl Request {
         put_octets(unit, &other.unit);
     }
 
-    /// The data, of a request that is used up.
+    /// Consumes the request and returns its data.
     pub fn into_unit(self) -> ArrayVec<u8, 246>
         ensures { result.items ≡ self.unit }
     {

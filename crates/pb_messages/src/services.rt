@@ -1,3 +1,5 @@
+//! The services, and the function codes that name them in a request.
+
 ghost use Rattle.std.specs.Prelude.{◌≡◌, ◌<◌, Some, None};
 ghost use Rattle.pb_messages.specs.Requests.{is_answered, may_go_to, code_of, asked_by};
 
@@ -13,19 +15,19 @@ pub enum Service {
     Srd,
 }
 
-/// What the control octet of a request asks for.
+/// What the function code of a request asks for.
 #[derive(Clone, Copy, Debug, PartialEq, Eq)]
 pub enum Asked {
-    /// A service, with high priority or not.
+    /// A service, and whether its priority is high.
     Send(Service, bool),
     /// Request FDL Status.
     Status,
-    /// Something that nobody answers.
+    /// Any other function code, which no station answers.
     Unknown,
 }
 
 impl Service {
-    /// Whether the service is answered, by an acknowledgement or by data.
+    /// Whether the service is answered: by an acknowledgement or by data.
     pub fn is_answered(self) -> bool
         ensures { result ≡ is_answered self }
     {
@@ -35,15 +37,15 @@ impl Service {
         }
     }
 
-    /// Whether a request of the service may go to an address: to a station's, 0 to 126, or to 127, all stations, where the
-    /// service isn't answered.
+    /// Whether a request of the service may go to an address: 0 to 126 for any service, 127 (all stations) only if the
+    /// service is not answered.
     pub fn may_go_to(self, address: u8) -> bool
         ensures { result ≡ may_go_to self address }
     {
         address < 127 || (address == 127 && !self.is_answered())
     }
 
-    /// The function code of the service, with high priority or not.
+    /// The function code of the service with high or low priority, 0 to 15.
     pub fn code(self, high: bool) -> u8
         ensures value { result ≡ code_of self high }
         ensures bits { result < 16 }
@@ -57,7 +59,7 @@ impl Service {
 }
 
 impl Asked {
-    /// What the function code of a request asks for.
+    /// What a request with this function code asks for.
     pub fn by(code: u8) -> Asked
         ensures { result ≡ asked_by code }
     {

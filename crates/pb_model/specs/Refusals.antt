@@ -1,4 +1,4 @@
--- Worked refusals: why each of some events is refused, and what becomes of taps that start and stop.
+-- Worked refusals: why each of some events is refused, and what happens to taps that start and stop.
 use Rattle.std.specs.Prelude.{ℕ, zero, suc, List, [], ◌∷◌, ◌++◌, map, Option, Some, None, Result, Ok, Err}
 use Rattle.pb_turn.specs.Marks.{Mark}
 use Rattle.pb_model.specs.Trace.{Heard, Entry, Sent, Noise}
@@ -21,11 +21,11 @@ abbrev pub refusals_from : Result World NewFault → List Event → List (Option
 refusals_from (Ok w) events = refusals w events
 refusals_from (Err fault) events = []
 
--- the same, of new stations at the taps of the example's bus
+-- the same for new stations at the taps of the example's bus
 abbrev pub refusals_of : List TapSpec → List Event → List (Option Fault)
 refusals_of specs events = refusals_from (new_world example_bus specs) events
 
--- why there is no new world with these taps on the example's bus, if there is none
+-- why a new world with these taps on the example's bus is refused, if it is
 abbrev pub new_refusal_from : Result World NewFault → Option NewFault
 new_refusal_from (Ok w) = None
 new_refusal_from (Err fault) = Some fault
@@ -33,7 +33,7 @@ new_refusal_from (Err fault) = Some fault
 abbrev pub new_refusal : List TapSpec → Option NewFault
 new_refusal specs = new_refusal_from (new_world example_bus specs)
 
--- what each telegram was to the taps; noise was nothing
+-- how each telegram reached the taps; noise has no reception
 abbrev pub heard_in : Entry → List Heard
 heard_in (Sent r) = r.heard
 heard_in (Noise span) = []
@@ -53,7 +53,7 @@ marks_from (Some w) = map (λ t. t.marks) w.taps
 abbrev pub marks_of : List TapSpec → List Event → List (List Mark)
 marks_of specs events = marks_from (world_of specs events)
 
--- a list of events some times over
+-- a list of events, repeated
 abbrev pub repeated : ℕ → List Event → List Event
 repeated zero events = []
 repeated (suc n) events = events ++ repeated n events

@@ -1,4 +1,4 @@
--- Worked scenarios: events, and what they lead to.
+-- Worked scenarios: events, and the worlds that they lead to.
 use Rattle.std.specs.Prelude.{ℕ, true, false, List, [], ◌∷◌, map, Option, Some, None, Result, Ok, Err}
 use Rattle.pb_messages.specs.RequestFields.{RequestFields}
 use Rattle.pb_messages.specs.declared.services.Service.TheVariants.{Srd}
@@ -36,7 +36,7 @@ phases_of (Some w) = map (λ t. t.station.phase) w.taps
 abbrev pub two_masters : List TapSpec
 two_masters = master 1 ∷ master 2 ∷ []
 
--- a master alone claims the token, and asks a station of its GAP in each of its rotations
+-- a lone master claims the token, and asks a station of its GAP in each of its rotations
 abbrev pub alone : List Event
 alone =
     Start 0 ∷ Pass 800 ∷ Turn 0 ∷ Pass 1 ∷ Pass 32 ∷ Pass 37 ∷ Turn 0 ∷ Pass 1 ∷ Pass 32 ∷ Pass 37 ∷
@@ -53,7 +53,7 @@ alone_trace =
     ∷ Sent (record { tap = 0; octets = 0xdc ∷ 0x01 ∷ 0x01 ∷ []; begin = 1342; end = 1375; hits = []; heard = Own ∷ [] })
     ∷ []
 
--- two masters start: the first claims the token, asks the second for its status and passes it the token
+-- two masters start: the first claims the token, asks the second for its status and passes the token to it
 abbrev pub ring_formed : List Event
 ring_formed =
     Start 0 ∷ Start 1 ∷ Pass 800 ∷ Turn 0 ∷ Pass 1 ∷ Turn 1 ∷ Pass 32 ∷ Turn 1 ∷ Pass 37 ∷ Turn 0 ∷
@@ -73,7 +73,7 @@ ring_formed_trace =
     ∷ Sent (record { tap = 1; octets = 0xdc ∷ 0x01 ∷ 0x02 ∷ []; begin = 1356; end = 1389; hits = []; heard = Whole ∷ Own ∷ [] })
     ∷ []
 
--- the first hears damage of what the second says with the token
+-- the first receives damaged what the second sends with the token
 abbrev pub taker_damaged : List Event
 taker_damaged =
     Start 0 ∷ Start 1 ∷ Pass 800 ∷ Turn 0 ∷ Pass 1 ∷ Turn 1 ∷ Pass 32 ∷ Turn 1 ∷ Pass 37 ∷ Turn 0 ∷
@@ -97,7 +97,7 @@ taker_damaged_trace =
 abbrev pub taker_damaged_phases : List Phase
 taker_damaged_phases = Use false 1426 ∷ Checking 1 ∷ []
 
--- what the second says with the token is lost at the first
+-- what the second sends with the token is lost at the first
 abbrev pub taker_unheard : List Event
 taker_unheard =
     Start 0 ∷ Start 1 ∷ Pass 800 ∷ Turn 0 ∷ Pass 1 ∷ Turn 1 ∷ Pass 32 ∷ Turn 1 ∷ Pass 37 ∷ Turn 0 ∷
@@ -120,7 +120,7 @@ taker_unheard_trace =
 abbrev pub taker_unheard_phases : List Phase
 taker_unheard_phases = Checking 2 ∷ Use true 1323 ∷ []
 
--- noise, and more of it before that has ended; a master claims the token a time-out after it
+-- noise, and more noise before it has ended; a master claims the token a time-out after it
 abbrev pub noise_heard : List Event
 noise_heard = Start 0 ∷ Pass 100 ∷ Noise 30 ∷ Pass 10 ∷ Turn 0 ∷ Noise 50 ∷ Pass 50 ∷ Turn 0 ∷ Pass 800 ∷ Turn 0 ∷ Pass 33 ∷ []
 
@@ -130,7 +130,7 @@ noise_heard_trace =
     ∷ Sent (record { tap = 0; octets = 0xdc ∷ 0x01 ∷ 0x01 ∷ []; begin = 960; end = 993; hits = []; heard = Own ∷ [] })
     ∷ []
 
--- the first stops in the middle of its question: what the second hears is damaged, and it claims the token
+-- the first stops in the middle of its request: the second receives damage, and claims the token
 abbrev pub speaker_stopped : List Event
 speaker_stopped =
     Start 0 ∷ Start 1 ∷ Pass 800 ∷ Turn 0 ∷ Pass 1 ∷ Turn 1 ∷ Pass 32 ∷ Turn 1 ∷ Pass 37 ∷ Turn 0 ∷ Pass 1 ∷
@@ -145,7 +145,7 @@ speaker_stopped_trace =
     ∷ Sent (record { tap = 1; octets = 0xdc ∷ 0x02 ∷ 0x02 ∷ []; begin = 1951; end = 1984; hits = []; heard = Damaged ∷ Own ∷ [] })
     ∷ []
 
--- a master, and a passive station that has two octets to reply
+-- a master, and a passive station that replies with two octets
 abbrev pub master_and_passive : List TapSpec
 master_and_passive = master 1 ∷ record { address = 7; master = false; reply = 0xaa ∷ 0xbb ∷ [] } ∷ []
 
@@ -153,7 +153,8 @@ master_and_passive = master 1 ∷ record { address = 7; master = false; reply = 
 abbrev pub srd_high : RequestFields
 srd_high = record { da = 7; service = Srd; high = true; unit = [] }
 
--- three requests for data of a passive station, whose second reply comes damaged: that request is sent again, and gets the kept reply
+-- three requests for data of a passive station; the second reply is received damaged: that request is sent again, and
+-- gets the kept reply
 abbrev pub data_requested : List Event
 data_requested =
     Start 0 ∷ Start 1 ∷ Queue 0 srd_high ∷ Queue 0 srd_high ∷ Queue 0 srd_high ∷ Pass 800 ∷ Turn 0 ∷ Pass 1 ∷

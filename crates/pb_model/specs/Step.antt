@@ -24,12 +24,12 @@ sending tap octets now taps = record {
   heard = heard_at_first tap 0 taps;
 }
 
--- entries with what a tap said at a moment, if anything
+-- entries with what a tap sent at a moment, if anything
 abbrev pub with_said : {X : Type 0} → ℕ → Option (List ℕ) → ℕ → List X → List Entry → List Entry
 with_said tap None now taps entries = entries
 with_said tap (Some octets) now taps entries = with_entry (Sent (sending tap octets now taps)) entries
 
--- the world after a tap's station and what it says are known
+-- the world after a turn, given the tap's new station and what it sends
 abbrev pub after_turn : World → ℕ → Tap → Station × Option (List ℕ) → Result (World × Reply) Fault
 after_turn w tap t turn =
     unless ((not t.running, NotRunning) ∷ (is_some turn.1 && nat_le trace_limit (length w.trace), TraceFull) ∷ []) (
@@ -43,7 +43,7 @@ step_turn w tap (Some t) = after_turn w tap t (turn_of w.params t.station t.mark
 
 -- ---- Pass
 
--- the taps with their new marks, the first of them at a position
+-- the taps with their new marks, the first of them at an index
 abbrev pub told : ℕ → List Entry → ℕ → ℕ → ℕ → List Tap → List Tap
 told delay trace from to tap [] = []
 told delay trace from to tap (t ∷ ts) = record t { marks = t.marks ++ new_marks delay tap t trace from to } ∷ told delay trace from to (tap + 1) ts
@@ -87,7 +87,7 @@ abbrev pub change_first : (Entry → Bool) → (Entry → Entry) → List Entry 
 change_first test change [] = []
 change_first test change (e ∷ es) = if test e then change e ∷ es else e ∷ change_first test change es
 
--- whether the place is in the telegram, which has all octets that were meant
+-- whether the telegram has a character with this index, among all octets that were to be sent
 abbrev pub has_place : Option Entry → Option ℕ → Bool
 has_place (Some (Sent r)) (Some place) = nat_lt place (length r.octets)
 has_place (Some entry) place = true
@@ -134,7 +134,7 @@ step_start w tap (Some t) =
 
 -- ---- Stop
 
--- a tap that stops drops its unread marks, and its station a reply that is not sent yet
+-- a tap that stops drops its unread marks, and its station drops a reply that is not sent yet
 abbrev pub halted : Tap → Tap
 halted t = record t { running = false; station = stopped t.station; marks = [] }
 
@@ -148,7 +148,7 @@ step_stop w tap (Some t) =
 
 -- ---- Queue
 
--- a request is taken by a master that runs, where its list has room
+-- a running master accepts a request, if its list is not full
 abbrev pub step_queue : World → ℕ → RequestFields → Option Tap → Result (World × Reply) Fault
 step_queue w tap r None = Err NoSuchTap
 step_queue w tap r (Some t) =
@@ -159,7 +159,7 @@ step_queue w tap r (Some t) =
 
 -- ---- Noise
 
--- noise for some time from now on: the noise that is in the air lasts so long, or there is a new one
+-- noise for some time from now on: noise on the bus is extended, else there is a new one
 abbrev pub with_noise : ℕ → ℕ → Bool → List Entry → List Entry
 with_noise now end true es = change_first (is_noise_at now) (noisy_until end) es
 with_noise now end false es = with_entry (trace.Noise (record { begin = now; end = end })) es

@@ -19,20 +19,20 @@ pub data Event : Type 0 where
   Turn : (tap : ℕ) → Event
   -- time passes
   Pass : (bits : ℕ) → Event
-  -- what a tap hears of a speaker's telegram is damaged, at a place or at every character
+  -- a tap receives a speaker's telegram damaged, at one character or at every character
   Damage : (tap speaker : ℕ) (place : Option ℕ) → Event
   -- a station starts
   Start : (tap : ℕ) → Event
-  -- a station stops: a telegram that it is sending ends with the character that is on its way
+  -- a station stops: a telegram that it is sending ends with the character being sent
   Stop : (tap : ℕ) → Event
-  -- a request waits at a station
+  -- a request is appended to those that wait at a station
   Queue : (tap : ℕ) (request : RequestFields) → Event
   -- noise reaches every tap
   Noise : (bits : ℕ) → Event
   -- a telegram that began now is lost at a tap
   Unheard : (tap speaker : ℕ) → Event
 
--- the clock after an event, and what a turn said
+-- the clock after an event, and what a turn sent
 pub record Reply : Type 0 where
   pub now : ℕ
   pub spoke : Option (List ℕ)
@@ -50,7 +50,7 @@ pub data Fault : Type 0 where
   InboxFull : (tap : ℕ) → Fault
   TraceFull : Fault
 
--- why there is no new world
+-- why a new world is refused
 pub data NewFault : Type 0 where
   NoTaps : NewFault
   TooManyTaps : NewFault
@@ -67,14 +67,14 @@ clock_limit = 1000000000000
 abbrev pub mark_limit : ℕ
 mark_limit = 64
 
--- how many requests of a priority wait at a station
+-- the most requests of a priority that wait at a station
 abbrev pub queue_limit : ℕ
 queue_limit = 16
 
 abbrev pub trace_limit : ℕ
 trace_limit = 100000
 
--- ---- a call that is refused by the first fault whose test holds, and else gives an outcome
+-- ---- a call that is refused by the first fault whose test holds, and otherwise has a result
 
 abbrev pub unless_fault : {F X : Type 0} → Option F → X → Result X F
 unless_fault (Some fault) x = Err fault
@@ -98,7 +98,7 @@ stopped_tap p spec = record {
 abbrev pub has_bad_address : Params → TapSpec → Bool
 has_bad_address p spec = nat_lt (if spec.master then p.hsa else 126) spec.address
 
--- the first of some taps that has a bad address, the first of them at a position
+-- the first of some taps that has a bad address, the first of them at an index
 abbrev pub first_bad_address : Params → ℕ → List TapSpec → Option ℕ
 first_bad_address p tap [] = None
 first_bad_address p tap (spec ∷ specs) = if has_bad_address p spec then Some tap else first_bad_address p (tap + 1) specs
@@ -113,9 +113,9 @@ new_faults p specs =
 abbrev pub new_world : Params → List TapSpec → Result World NewFault
 new_world p specs = unless (new_faults p specs) (record { params = p; now = 0; trace = []; taps = map (stopped_tap p) specs })
 
--- ---- what is in the air
+-- ---- what is on the bus
 
--- an end that lies after the clock
+-- an end after the clock
 abbrev pub later_end : ℕ → ℕ → Option ℕ
 later_end now m = if nat_lt now m then Some m else None
 
@@ -129,11 +129,11 @@ abbrev pub next_end_of : ℕ → ℕ → List Entry → Option ℕ
 next_end_of delay now [] = None
 next_end_of delay now (e ∷ es) = earlier (entry_next_end delay now e) (next_end_of delay now es)
 
--- the next end in the air
+-- the next end on the bus
 abbrev pub next_end : World → Option ℕ
 next_end w = next_end_of w.params.ttd w.now w.trace
 
--- a telegram of the speaker that has not reached the others yet
+-- a telegram of the speaker that is still on the bus: its end has not reached the others
 abbrev pub is_in_air_by : ℕ → ℕ → ℕ → Entry → Bool
 is_in_air_by delay now speaker (trace.Noise span) = false
 is_in_air_by delay now speaker (Sent r) = r.tap == speaker && nat_lt now (reaches delay r).end

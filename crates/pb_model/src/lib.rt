@@ -1,8 +1,9 @@
-//! The definitions that several layers speak of, and the laws that say what they mean.
+//! The medium, the step of the world and its replay, as definitions over plain data, and the laws that say what they
+//! mean.
 //!
-//! `specs/` defines, over plain data, what a tap senses of the bus (`sensed`, `marks_between`), the step
-//! of the world (`step`) and its replay (`replay`). A station's turn is pb_turn's.
-//! This crate has no code that runs: its functions do nothing, and their contracts are laws.
+//! `specs/` defines what a tap senses of the bus (`sensed`, `marks_between`), the step of the world (`step`) and its
+//! replay (`replay`). The turn of a station is in pb_turn. This crate has no code that runs: its functions have empty
+//! bodies, and their contracts are laws.
 #![tactic(auto)]
 
 mod examples;

@@ -1,3 +1,5 @@
+//! Laws of the medium: bursts, and what a tap hears of them.
+
 ghost use Rattle.std.specs.Prelude.{◌≡◌, ◌+◌, ◌≢◌, ◌≤◌, ◌<◌, ℕ, true, false, List, [], ◌∷◌, ◌++◌, map};
 ghost use Rattle.pb_telegram.specs.declared.chars.RxChar.{RxChar};
 ghost use Rattle.pb_telegram.specs.declared.chars.RxChar.TheVariants.{Bad};
@@ -8,20 +10,20 @@ ghost use Rattle.pb_model.specs.Step.{change_first};
 ghost use Rattle.pb_model.specs.World.{next_end_of};
 ghost use Rattle.pb_model.specs.Laws.{is_open, AllFrom, AllOver, FillsBurst, FillsAlone};
 
-/// What a tap sends adds nothing to what it senses.
+/// A tap does not sense what it sends.
 pub fn a_tap_does_not_hear_itself()
     ensures { (delay : ℕ) (tap since : ℕ) (r : Record) (trace : List Entry) → r.tap ≡ tap
         → sensed delay tap since (with_entry (Sent r) trace) ≡ sensed delay tap since trace }
 {}
 
-/// Of two stretches that only touch, a burst ends and another begins.
+/// If two stretches only touch, one burst ends and another begins.
 pub fn stretches_that_touch_stay_apart()
     ensures { (a b : Span) → a.begin < a.end → b.begin < b.end → a.end ≡ b.begin
         → (burst_ends (a ∷ b ∷ []) a.end ≡ true) × (burst_begins (a ∷ b ∷ []) b.begin ≡ true) }
 {}
 
-/// Two stretches that overlap are one burst, from the first's begin to the second's end: none begins
-/// where the second does, and none ends where the first does.
+/// Two stretches that overlap are one burst, from the begin of the first to the end of the second. No burst begins
+/// where the second one begins, or ends where the first one ends.
 pub fn stretches_that_overlap_are_one_burst()
     ensures ends { (a b : Span) → a.begin < b.begin → b.begin < a.end → a.end < b.end
         → (burst_begins (a ∷ b ∷ []) a.begin ≡ true) × (burst_ends (a ∷ b ∷ []) b.end ≡ true) }
@@ -29,8 +31,8 @@ pub fn stretches_that_overlap_are_one_burst()
         → (burst_begins (a ∷ b ∷ []) b.begin ≡ false) × (burst_ends (a ∷ b ∷ []) a.end ≡ false) }
 {}
 
-/// A burst brings the characters of a telegram exactly where one filled it alone, which the tap heard
-/// from its beginning, sending nothing meanwhile; else it brings one damaged character.
+/// A burst brings the characters of a telegram exactly if that telegram filled the burst alone, and the tap heard it
+/// from its begin and sent nothing meanwhile. Otherwise it brings one damaged character.
 pub fn whole_telegrams_fill_their_bursts_alone()
     ensures brought { (delay : ℕ) (tap : ℕ) (t : Tap) (trace : List Entry) (m : ℕ)
         → burst_characters delay tap t trace m ≢ Bad ∷ []
@@ -44,8 +46,8 @@ pub fn whole_telegrams_fill_their_bursts_alone()
         → FillsAlone delay tap t trace r → fills_burst delay tap t trace r ≡ true }
 {}
 
-/// Two telegrams that begin in one instant don't hear each other, where they last for longer than the
-/// cable delay: neither fills a burst at the tap that sends the other.
+/// Two telegrams that begin at one moment do not hear each other, if they last longer than the cable delay: neither
+/// fills a burst at the tap that sends the other.
 pub fn telegrams_of_one_instant_are_not_heard()
     ensures { (delay : ℕ) (tap : ℕ) (t : Tap) (trace before after : List Entry) (q r : Record)
         → trace ≡ before ++ Sent q ∷ after → q.tap ≡ tap → q.begin ≡ r.begin
@@ -53,9 +55,9 @@ pub fn telegrams_of_one_instant_are_not_heard()
         → fills_burst delay tap t trace r ≡ false }
 {}
 
-/// Only a pass opens or closes a burst at a tap: nothing is open at its start, what begins now opens
-/// none yet, a telegram whose speaker stops now closes none yet, noise that lasts longer leaves its own
-/// open, and what begins now and is lost at a tap was not open there.
+/// Only a pass of time opens or closes a burst at a tap. At its start none is open. What begins now has opened none
+/// yet, and a telegram whose speaker stops now has closed none yet. Noise that is extended leaves its burst open, and
+/// what begins now and is lost at a tap was not open there.
 pub fn only_a_pass_opens_a_burst()
     ensures started { (delay : ℕ) (tap now : ℕ) (trace : List Entry)
         → is_open (sensed delay tap now trace) now ≡ false }
@@ -74,8 +76,8 @@ pub fn only_a_pass_opens_a_burst()
         ≡ is_open (sensed delay tap since trace) now }
 {}
 
-/// What has ended at all taps before everything recent began, and before the clock, matters no more: a tap's
-/// marks, the next end, and what recent telegrams are at the taps come from the recent entries alone.
+/// Entries that ended at all taps before every recent entry began, and before the clock, have no more effect: a tap's
+/// marks, the next end, and the reception of recent telegrams follow from the recent entries alone.
 pub fn what_has_ended_matters_no_more()
     ensures ends { (delay : ℕ) (m now : ℕ) (old recent : List Entry) → AllOver delay m old → m ≤ now
         → next_end_of delay now (old ++ recent) ≡ next_end_of delay now recent }

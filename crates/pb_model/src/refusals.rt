@@ -1,4 +1,4 @@
-//! Why events are refused, and what a tap hears that starts or stops: examples at both sides of each bound.
+//! Why events are refused, and what a tap hears that starts or stops: examples on both sides of each limit.
 
 ghost use Rattle.std.specs.Prelude.{◌≡◌, ◌<◌, ◌≤◌, ℕ, true, false, List, [], ◌∷◌, ◌++◌, length, replicate, Some, None, Err, is_some, slice_get};
 ghost use Rattle.pb_telegram.specs.declared.chars.RxChar.TheVariants.{Bad};
@@ -12,7 +12,7 @@ ghost use Rattle.pb_model.specs.Step.{step, is_noisy};
 ghost use Rattle.pb_model.specs.Scenarios.{master, two_masters, master_and_passive, srd_high};
 ghost use Rattle.pb_model.specs.Refusals.{refusal, refusals_of, new_refusal, heard_of, marks_of, repeated};
 
-/// A tap that is not there, that runs already, or that does not run.
+/// An event is refused if its tap does not exist, already runs, or does not run.
 pub fn an_event_needs_a_tap_that_may_do_it()
     ensures no_such_tap { refusals_of two_masters
         (Turn 2 ∷ Start 2 ∷ Stop 2 ∷ Queue 2 srd_high ∷ Damage 2 0 None ∷ Damage 0 2 None ∷ Unheard 2 0 ∷
@@ -31,8 +31,8 @@ pub fn an_event_needs_a_tap_that_may_do_it()
         ≡ None ∷ None ∷ None ∷ None ∷ Some Running ∷ None ∷ None ∷ [] }
 {}
 
-/// Time passes by a bit time at least, up to the next end in the air, up to the last clock, and as long as each
-/// tap has room for its marks; the first of these that fails is told.
+/// A pass of time is at least one bit time. It ends at the latest at the next end on the bus or at the last clock, and
+/// each tap must have room for its marks. The first of these limits that is violated is reported.
 pub fn time_passes_within_its_bounds()
     ensures no_time { refusals_of two_masters (Pass 0 ∷ Noise 0 ∷ []) ≡ Some ZeroTime ∷ Some ZeroTime ∷ [] }
     ensures last_clock { refusals_of two_masters (Pass 1000000000001 ∷ Pass 1000000000000 ∷ Pass 1 ∷ [])
@@ -44,8 +44,8 @@ pub fn time_passes_within_its_bounds()
         ≡ replicate 66 None ++ Some (InboxFull 0) ∷ None ∷ None ∷ [] }
 {}
 
-/// Only what is in the air is damaged, at a place that it has, and only what has just begun is lost, and
-/// neither at its speaker.
+/// A telegram can be damaged only while it is on the bus and at a character that it has; it can be lost only when it
+/// has just begun. Neither can happen at its speaker.
 pub fn only_what_is_in_the_air_is_damaged()
     ensures damaged { refusals_of two_masters
         (Start 0 ∷ Start 1 ∷ Pass 800 ∷ Damage 1 0 None ∷ Turn 0 ∷ Damage 0 0 None ∷ Damage 1 0 (Some 3) ∷
@@ -63,8 +63,8 @@ pub fn only_what_is_in_the_air_is_damaged()
         ≡ [] ∷ (Begin 800 833 ∷ End 833 833 (Bad ∷ Bad ∷ Bad ∷ []) ∷ []) ∷ [] }
 {}
 
-/// A trace of 100,000 entries takes no more: a turn that speaks and noise that is new are refused, and nothing
-/// is before.
+/// A trace of 100,000 entries is full: a turn that speaks and new noise are refused. Before that, neither is refused
+/// for this reason.
 pub fn a_full_trace_takes_no_more()
     ensures noise { (w : World) (bits : ℕ) → 0 < bits → is_noisy w ≡ false → 100000 ≤ length w.trace
         → step w (Noise bits) ≡ Err TraceFull }
@@ -82,8 +82,8 @@ pub fn a_full_trace_takes_no_more()
         → refusal (step w (Turn tap)) ≡ None }
 {}
 
-/// A world has 1 to 127 taps, of which a master has an address up to the highest of the bus, and a passive station one
-/// up to 126.
+/// A world has 1 to 127 taps. The address of a master is at most the highest station address of the bus; that of a
+/// passive station is at most 126.
 pub fn a_world_has_taps_with_addresses()
     ensures none { new_refusal [] ≡ Some NoTaps }
     ensures most { new_refusal (replicate 127 (master 1)) ≡ None }
@@ -95,8 +95,9 @@ pub fn a_world_has_taps_with_addresses()
         ≡ Some (BadAddress 0) }
 {}
 
-/// A tap hears a telegram whole that begins as it starts or later, and not one that is in the air by then, nor
-/// one at whose end it no longer runs. A tap that stops has no unread marks. Of what begins at once noise stands first.
+/// A tap hears a telegram whole if the telegram begins at the tap's start or later, and the tap still runs at its end.
+/// It does not hear whole a telegram that is already on the bus at its start. A tap that stops has no unread marks. Of
+/// entries that begin at one moment, noise comes first.
 pub fn a_tap_hears_from_its_start_to_its_stop()
     ensures in_its_instant { heard_of two_masters (Start 0 ∷ Pass 800 ∷ Start 1 ∷ Turn 0 ∷ Pass 33 ∷ [])
         ≡ (Own ∷ Whole ∷ []) ∷ [] }

@@ -1,4 +1,4 @@
--- What a station says.
+-- What a station sends.
 use Rattle.std.specs.Prelude.{◌≡◌, ℕ, List, Option, is_some, if◌then◌else◌}
 use Rattle.pb_messages.specs.Queued.{Queued}
 use Rattle.pb_messages.specs.RequestFields.{RequestFields}
@@ -11,7 +11,7 @@ use Rattle.pb_core.specs.declared.cores.Kept.{Kept}
 abbrev pub spoken_with : Kept → Queued → phases.Phase → Option (List ℕ) → turn.Station × Option (List ℕ)
 spoken_with k queue phase sent = (station_with k queue phase, sent)
 
--- what a station sends, and what becomes of it, whatever requests wait
+-- what a station sends, and how it changes, whatever requests wait
 abbrev pub Says : (turn.Station → turn.Station × Option (List ℕ)) → Kept → phases.Phase → Kept → phases.Phase → Option (List ℕ) → Type 0
 Says act before phase after next sent = (queue : Queued) → spoken_with after queue next sent ≡ act (station_with before queue phase)
 

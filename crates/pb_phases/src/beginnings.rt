@@ -1,4 +1,4 @@
-//! A station that hears activity begin.
+//! What a station does when activity begins.
 
 ghost use Rattle.std.specs.Prelude.{◌≡◌, ℕ, None};
 ghost use Rattle.pb_turn.specs.Hearing.{phase_begun, begun};
@@ -10,7 +10,7 @@ use pb_core::{Kept, Reply};
 use pb_timers::Moment;
 use pb_tokenfsm::Phase;
 
-/// The station after activity has begun at a moment. One that answers requests drops a reply that is not sent yet.
+/// Activity has begun at `at`. A station that answers requests drops a reply that is not sent yet.
 pub fn begun(phase: &mut Phase, kept: &mut Kept, at: Moment)
     ensures { Becomes (λ s. begun s at) kept.old (phase_of phase.old) kept.new (phase_of phase.new) }
 {
@@ -25,8 +25,8 @@ pub fn begun(phase: &mut Phase, kept: &mut Kept, at: Moment)
     }
 }
 
-/// Activity has begun at a moment: a station that checks takes it for a sign that its token was taken, where it is not
-/// older than that, which began at `own`.
+/// Activity has begun at `at`. A checking station takes it as the sign that its token was taken, unless it is older
+/// than that token, which began at `own`.
 fn see_taken(phase: &mut Phase, own: Moment, at: Moment)
     ensures { (tries : ℕ) → phase_of phase.old ≡ turn.Checking tries
         → phase_of phase.new ≡ phase_begun (phase_of phase.old) own at }
@@ -41,7 +41,7 @@ fn see_taken(phase: &mut Phase, own: Moment, at: Moment)
     };
 }
 
-/// No reply waits any more. Seldom one does, and its room is cleared only then.
+/// Drops the waiting reply. Usually there is none, and then no memory is written.
 fn drop_reply(reply: &mut Option<Reply>)
     ensures { reply.new ≡ None }
 {
@@ -50,9 +50,8 @@ fn drop_reply(reply: &mut Option<Reply>)
     }
 }
 
-/// The phase after activity has begun at a moment, with the beginning of the own last telegram: a holder
-/// gives way, the slot of one that has asked is over, and one that checks takes it for a sign that its token
-/// was taken.
+/// The phase after activity has begun at `at`; the own last telegram began at `own`. A holder gives up the token, the
+/// slot of an open request closes, and a checking station takes the activity as the sign that its token was taken.
 fn phase_begun(phase: Phase, own: Moment, at: Moment) -> Phase
     ensures { phase_of result ≡ phase_begun (phase_of phase) own at }
 {

@@ -1,4 +1,4 @@
-//! What a station makes of what it hears.
+//! What a station does when activity ends, by phase and telegram.
 
 ghost use Rattle.std.specs.Prelude.{◌≡◌, ℕ, Option, ◌≤◌, ◌<◌, true, false, ◌+◌, max, if◌then◌else◌, Some, None};
 ghost use Rattle.std.specs.Option.{option_map};
@@ -28,10 +28,10 @@ use pb_telegram::{Fc, Head, Telegram, TokenTelegram};
 use pb_timers::{BusParams, Moment};
 use pb_tokenfsm::{AwaitData, AwaitStatus, Holding, Idle, Listening, Phase};
 
-/// How many tokens may skip a station in the ring before it listens anew.
+/// How many tokens may skip a station in the ring before it listens again.
 const SKIPS: u8 = 2;
 
-/// The station after activity has ended at a moment.
+/// Activity has ended at `at` and brought a telegram, or none.
 pub fn ended(
     phase: &mut Phase,
     kept: &mut Kept,
@@ -48,7 +48,7 @@ pub fn ended(
     *phase = phase_ended(before, kept, params, at, arrival);
 }
 
-/// The station after activity has ended at a moment and brought a token, as most activity does.
+/// Activity has ended at `at` and brought a token, as most activity does.
 pub fn ended_with_token(
     phase: &mut Phase,
     kept: &mut Kept,
@@ -70,7 +70,7 @@ pub fn ended_with_token(
     }
 }
 
-/// An idle station hears a token.
+/// A station in Idle hears a token.
 #[inline(always)]
 fn take_token(
     phase: &mut Phase,
@@ -91,7 +91,7 @@ fn take_token(
     };
 }
 
-/// The station after activity has ended at a moment and brought no telegram, as noise does.
+/// Activity has ended at `at` and brought no telegram, as noise does.
 pub fn ended_with_noise(phase: &mut Phase, kept: &mut Kept, params: &BusParams, at: Moment)
     requires { at ≤ last_turn }
     ensures { Becomes (λ s. ended params.now s at NoTelegram)
@@ -103,8 +103,8 @@ pub fn ended_with_noise(phase: &mut Phase, kept: &mut Kept, params: &BusParams, 
     }
 }
 
-/// Activity has ended at a moment. For a station that only answers requests that is all, where it brought a telegram for
-/// others, or none.
+/// Activity has ended at `at`. A station that only answers requests does no more than this if the activity brought a
+/// telegram for others, or none.
 #[tactic(auto, using(crate::proofs::Others::nothing_made))]
 pub fn fall_quiet(kept: &mut Kept, at: Moment)
     requires { at ≤ last_turn }
@@ -118,15 +118,14 @@ pub fn fall_quiet(kept: &mut Kept, at: Moment)
     kept.past = kept.past.heard(at);
 }
 
-/// Whether a station in a phase answers requests, and makes nothing of what is for others but tokens.
+/// Whether a station in this phase only answers requests, and ignores telegrams for others except tokens.
 pub fn only_answers(phase: &Phase) -> bool
     ensures { result ≡ only_answers (phase_of phase.now) }
 {
     matches!(phase, Phase::PassiveIdle(_) | Phase::Idle(_))
 }
 
-/// No telegram came where one may have been awaited. It is a call of its own since the room of a telegram is cleared for
-/// it.
+/// No telegram was heard by a station that may wait for one. Kept out of line: its frame has room for a telegram.
 #[inline(never)]
 fn miss_reply(phase: &mut Phase, kept: &mut Kept, params: &BusParams, at: Moment)
     requires { at ≤ last_turn }
@@ -137,7 +136,7 @@ fn miss_reply(phase: &mut Phase, kept: &mut Kept, params: &BusParams, at: Moment
     *phase = phase_ended(before, kept, params, at, &None);
 }
 
-/// An idle station hears a token to another one: its phase stays where it is, unless it was skipped twice.
+/// A station in Idle hears a token to another station. Its phase changes only if it was skipped twice.
 fn pass_by(phase: &mut Phase, kept: &mut Kept, token: &TokenTelegram)
     ensures { (refused : Option ℕ) → phase_of phase.old ≡ turn.Idle refused
         → Becomes (λ s. foreign_token (with_token s token.now.da token.now.sa))
@@ -149,7 +148,7 @@ fn pass_by(phase: &mut Phase, kept: &mut Kept, token: &TokenTelegram)
     }
 }
 
-/// An idle station that was skipped twice listens anew.
+/// A station in Idle that was skipped twice listens again.
 #[inline(never)]
 fn listen_anew(phase: &mut Phase, kept: &mut Kept)
     ensures { (refused : Option ℕ) → phase_of phase.old ≡ turn.Idle refused → Becomes (λ s. foreign_token s)
@@ -162,7 +161,7 @@ fn listen_anew(phase: &mut Phase, kept: &mut Kept)
     };
 }
 
-/// The station after a token, in any phase. It is a call of its own since the room of a telegram is cleared for it.
+/// A token is heard in any phase. Kept out of line: its frame has room for a telegram.
 #[inline(never)]
 fn token_elsewhere(
     phase: &mut Phase,
@@ -179,7 +178,7 @@ fn token_elsewhere(
     *phase = phase_ended(before, kept, params, at, &Some(Telegram::Token(token)));
 }
 
-/// The station after an arrival.
+/// The phase after activity has ended.
 fn phase_ended(
     phase: Phase,
     kept: &mut Kept,
@@ -207,7 +206,7 @@ fn phase_ended(
 
 // ---- Idle, and passive stations
 
-/// Idle after an arrival.
+/// Activity has ended in Idle.
 fn idle_hears(
     idle: Idle,
     kept: &mut Kept,
@@ -229,7 +228,7 @@ fn idle_hears(
     }
 }
 
-/// Idle hears a token; the previous station is that before the token corrects the list.
+/// A token is heard in Idle. The previous station is read from the list before the token corrects it.
 #[inline(always)]
 fn token_in_idle(
     idle: Idle,
@@ -252,7 +251,7 @@ fn token_in_idle(
     own_token(idle, kept, params, at, token, ps)
 }
 
-/// A token to the station itself is taken, or refused.
+/// A token to this station is accepted or refused.
 #[inline(always)]
 fn own_token(
     idle: Idle,
@@ -274,7 +273,8 @@ fn own_token(
     phase
 }
 
-/// After a token to another station; one that was skipped twice listens anew, with nothing to reply.
+/// The phase after a token to another station. If two tokens have skipped it, the station listens again and drops its
+/// reply.
 fn foreign_token(idle: Idle, kept: &mut Kept) -> Phase
     ensures { Becomes (λ s. foreign_token s)
         kept.old (phase_of (Phase.Idle idle)) kept.new (phase_of result) }
@@ -287,7 +287,7 @@ fn foreign_token(idle: Idle, kept: &mut Kept) -> Phase
     Phase::Listening(idle.on_skipped())
 }
 
-/// Idle hears a telegram with a control octet, and answers a request to it.
+/// A telegram with a control octet is heard in Idle. A request to this station is answered.
 fn idle_asked(kept: &mut Kept, params: &BusParams, at: Moment, telegram: &Telegram)
     requires clock { at ≤ last_turn }
     requires framed { is_framed telegram.now ≡ true }
@@ -298,7 +298,7 @@ fn idle_asked(kept: &mut Kept, params: &BusParams, at: Moment, telegram: &Telegr
     answer(kept, params, at, telegram, StationType::InRing);
 }
 
-/// What a passive station keeps after an arrival: it answers requests, and hears nothing else.
+/// Activity has ended at a passive station, which only answers requests.
 fn passive_hears(kept: &mut Kept, params: &BusParams, at: Moment, arrival: &Option<Telegram>)
     requires { at ≤ last_turn }
     ensures { Becomes (λ s. passive_hears params.now s at (brings arrival.now))
@@ -310,7 +310,7 @@ fn passive_hears(kept: &mut Kept, params: &BusParams, at: Moment, arrival: &Opti
     }
 }
 
-/// A passive station hears a telegram with a control octet, and answers a request to it.
+/// A telegram with a control octet is heard by a passive station. A request to it is answered.
 fn passive_asked(kept: &mut Kept, params: &BusParams, at: Moment, telegram: &Telegram)
     requires clock { at ≤ last_turn }
     requires framed { is_framed telegram.now ≡ true }
@@ -322,7 +322,7 @@ fn passive_asked(kept: &mut Kept, params: &BusParams, at: Moment, telegram: &Tel
 
 // ---- Listening
 
-/// Listening after an arrival.
+/// Activity has ended in Listening.
 fn listening_hears(
     listening: Listening,
     kept: &mut Kept,
@@ -344,7 +344,7 @@ fn listening_hears(
     }
 }
 
-/// Listening hears a token.
+/// A token is heard in Listening.
 fn listening_token(listening: Listening, kept: &mut Kept, token: &TokenTelegram) -> Phase
     ensures { Becomes
         (λ s. record (with_token s token.now.da token.now.sa)
@@ -355,7 +355,7 @@ fn listening_token(listening: Listening, kept: &mut Kept, token: &TokenTelegram)
     doubled_by(listening, token.sa, kept.address.get())
 }
 
-/// Listening after a token: at the second one with its own address as the source it gives way.
+/// The phase after a token heard in Listening: at the second one from its own address the station goes offline.
 fn doubled_by(listening: Listening, sa: u8, ts: u8) -> Phase
     ensures { phase_of result ≡ doubled_by (is_doubled listening) sa ts }
 {
@@ -368,7 +368,7 @@ fn doubled_by(listening: Listening, sa: u8, ts: u8) -> Phase
     Phase::Listening(listening.on_namesake())
 }
 
-/// Listening hears a telegram with a control octet.
+/// A telegram with a control octet is heard in Listening.
 fn listening_asked(
     listening: Listening,
     kept: &mut Kept,
@@ -386,7 +386,7 @@ fn listening_asked(
     Phase::Listening(listening)
 }
 
-/// One that listens is ready for the ring once its list is complete.
+/// The reply of a listening station to a request for its status: "ready" if its list is complete, else "not ready".
 fn listening_answer(kept: &Kept, params: &BusParams, at: Moment, head: Head) -> Option<Reply>
     requires { at ≤ last_turn }
     ensures { option_map reply_of result
@@ -404,7 +404,7 @@ fn listening_answer(kept: &Kept, params: &BusParams, at: Moment, head: Head) -> 
 
 // ---- holders, and Checking
 
-/// One that holds the token, or checks what became of it, takes note of a token that it hears.
+/// A station that holds the token or checks whether it was taken enters a heard token into its list.
 fn holder_hears(phase: Phase, kept: &mut Kept, arrival: &Option<Telegram>) -> Phase
     ensures { Becomes (λ s. holder_hears s (brings arrival.now))
         kept.old (phase_of phase) kept.new (phase_of result) }
@@ -415,7 +415,7 @@ fn holder_hears(phase: Phase, kept: &mut Kept, arrival: &Option<Telegram>) -> Ph
     phase
 }
 
-/// A holder hears a token: its own is lost, whatever it was about.
+/// A holder hears a token: it has lost its own, whatever it was doing.
 fn token_lost<S: Copy>(holder: Holding<S>, kept: &mut Kept, token: &TokenTelegram) -> Phase
     ensures { Becomes (λ s. lost (with_token s token.now.da token.now.sa))
         kept.old turn.Offline kept.new (phase_of result) }
@@ -424,7 +424,7 @@ fn token_lost<S: Copy>(holder: Holding<S>, kept: &mut Kept, token: &TokenTelegra
     Phase::Idle(holder.on_foreign())
 }
 
-/// When a station speaks again after an end that brought no reply: the idle time after it, and after its own
+/// When a station speaks again after activity without a reply: an idle time after that activity and after its own
 /// telegram.
 fn ready_after(kept: &Kept, params: &BusParams, at: Moment) -> Moment
     requires { at ≤ last_turn }
@@ -443,7 +443,7 @@ fn later(a: Moment, b: Moment) -> Moment
 
 // ---- AwaitStatus
 
-/// A station that has asked for a status, after an arrival.
+/// Activity has ended while the station waits for a status.
 fn awaiting_status_hears(
     holder: Holding<AwaitStatus>,
     kept: &mut Kept,
@@ -463,7 +463,7 @@ fn awaiting_status_hears(
     }
 }
 
-/// A station that has asked for a status hears a telegram that is no token.
+/// A telegram other than a token is heard while the station waits for a status.
 fn status_told(
     holder: Holding<AwaitStatus>,
     kept: &mut Kept,
@@ -486,7 +486,7 @@ fn status_told(
     }
 }
 
-/// After a reply to the question for the status.
+/// The phase after a reply to the request for a status.
 fn status_replied(
     holder: Holding<AwaitStatus>,
     kept: &mut Kept,
@@ -505,14 +505,14 @@ fn status_replied(
     Phase::Use(holder.on_outcome(after(at, u64::from(params.tid1()))))
 }
 
-/// Whether the station that was asked is ready for the ring: a reply of this type with code 0.
+/// Whether the reply says that the station is ready for the ring: station type 2 with code 0.
 fn tells_ready(fc: Fc) -> bool
     ensures { result ≡ tells_ready fc.0 }
 {
     fc.station_type() == 2 && fc.code() == 0
 }
 
-/// After an end that brings no reply to the question for the status.
+/// The phase after activity that is no reply to the request for a status.
 fn not_replied(
     holder: Holding<AwaitStatus>,
     kept: &mut Kept,
@@ -528,7 +528,7 @@ fn not_replied(
 
 // ---- AwaitData
 
-/// A station that waits for a reply, after an arrival.
+/// Activity has ended while the station waits for a reply.
 fn awaiting_data_hears(
     holder: Holding<AwaitData>,
     kept: &mut Kept,
@@ -548,7 +548,7 @@ fn awaiting_data_hears(
     }
 }
 
-/// A station that waits for a reply hears a telegram that is no token.
+/// A telegram other than a token is heard while the station waits for a reply.
 fn data_heard(
     holder: Holding<AwaitData>,
     kept: &mut Kept,
@@ -568,7 +568,7 @@ fn data_heard(
     data_told(holder, kept, params, at, came)
 }
 
-/// A station that waits for a reply hears a message that is no token and no request.
+/// A telegram other than a token or a request is heard while the station waits for a reply.
 fn data_told(
     holder: Holding<AwaitData>,
     kept: &mut Kept,
@@ -588,7 +588,7 @@ fn data_told(
     Phase::Use(holder.on_outcome(after(at, u64::from(params.tid1()))))
 }
 
-/// What came in place of a reply is none: the request is sent again, if a retry is left.
+/// No reply was heard: the request is sent again if a retry is left.
 fn no_reply(holder: Holding<AwaitData>, kept: &mut Kept, params: &BusParams, at: Moment) -> Phase
     requires { at ≤ last_turn }
     ensures { Becomes (λ s. no_reply params.now s (was_asked holder) (has_data_slot holder) at)

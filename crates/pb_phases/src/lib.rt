@@ -1,5 +1,5 @@
-//! What a station does in each of its phases: at a begin and at an end on the bus, when its timer ends, and when its
-//! moment to speak has come.
+//! What a station does in each of its phases: when activity begins or ends on the bus, when its timer ends, and when
+//! its speaking moment comes.
 #![tactic(auto)]
 
 mod beginnings;

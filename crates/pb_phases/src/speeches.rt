@@ -1,4 +1,4 @@
-//! What a station says.
+//! What a station sends when its speaking moment comes, by phase.
 
 ghost use Rattle.std.specs.Prelude.{◌≡◌, ℕ, ◌+◌, ◌≤◌, ◌<◌, ◌&&◌, not, max, length, if◌then◌else◌, true, is_some, Some, None, IsSome};
 ghost use Rattle.std.specs.Option.{option_map};
@@ -29,10 +29,10 @@ use pb_telegram::{ShortTelegram, Telegram, TokenTelegram};
 use pb_timers::{BusParams, Moment};
 use pb_tokenfsm::{AwaitData, Claim, Holding, Listening, Pass, Phase, Use};
 
-/// The control octet of Request FDL Status: a request, whose frame count bit does not count.
+/// The control octet of Request FDL Status: a request whose frame count bit is not valid.
 const STATUS_REQUEST: u8 = 0x49;
 
-/// The station at the clock speaks, if its moment has come.
+/// The station speaks at `now`, if its moment has come.
 pub fn speak(
     phase: &mut Phase,
     kept: &mut Kept,
@@ -56,7 +56,7 @@ pub fn speak(
     }
 }
 
-/// Whether the station at the clock says something. It changes nothing.
+/// Whether the station would send anything at `now`. It changes nothing.
 pub fn would_say(phase: &Phase, kept: &Kept, now: Moment) -> bool
     ensures { (p : Params) (queue : Queued)
         → let s = station_with kept.now queue (phase_of phase.now) in result
@@ -68,7 +68,7 @@ pub fn would_say(phase: &Phase, kept: &Kept, now: Moment) -> bool
     }
 }
 
-/// The moment at which the station speaks.
+/// When the station speaks; `None` if it has nothing to send.
 pub fn speaks_at(phase: &Phase, kept: &Kept) -> Option<Moment>
     ensures { (queue : Queued) → result ≡ speaks_at (station_with kept.now queue (phase_of phase.now)) }
 {
@@ -82,7 +82,7 @@ pub fn speaks_at(phase: &Phase, kept: &Kept) -> Option<Moment>
     }
 }
 
-/// What a phase says at the clock.
+/// What the station sends at `now` in this phase.
 fn says(
     phase: Phase,
     kept: &mut Kept,
@@ -107,7 +107,7 @@ fn says(
     }
 }
 
-/// Whether the station says something where it speaks: a request is sent again only where a retry is left.
+/// Whether a station whose speaking moment has come sends anything. Only a request without a retry left is not sent.
 fn has_words(phase: &Phase, kept: &Kept) -> bool
     ensures { (p : Params) (queue : Queued) (now : ℕ)
         → let s = station_with kept.now queue (phase_of phase.now) in IsSome (speaks_at s) → result
@@ -129,7 +129,7 @@ fn reply_moment(reply: &Option<Reply>) -> Option<Moment>
     }
 }
 
-/// One that listens sends its reply, if it has one.
+/// A listening station sends its reply, if it has one.
 fn says_ready(listening: Listening, kept: &mut Kept, now: Moment, out: &mut SendBuffer) -> Phase
     requires { now ≤ last_turn }
     ensures { Says (λ s. says_ready s s.reply now)
@@ -161,7 +161,7 @@ fn says_reply(phase: Phase, kept: &mut Kept, now: Moment, out: &mut SendBuffer) 
     }
 }
 
-/// A claim is a token to the own address. The second one is a receipt.
+/// Sends a claim: a token to the own address. The second one is a receipt.
 fn says_claim(
     holder: Holding<Claim>,
     kept: &mut Kept,
@@ -186,7 +186,7 @@ fn says_claim(
     phase
 }
 
-/// The use of the token: a request, of high priority first, a look into the GAP, or the token.
+/// A station that uses the token sends a request (high priority first), asks a station of the GAP, or passes the token.
 fn says_in_use(
     holder: Holding<Use>,
     kept: &mut Kept,
@@ -208,7 +208,7 @@ fn says_in_use(
     }
 }
 
-/// The open request is sent again.
+/// Sends the open request again.
 fn says_again(
     holder: Holding<AwaitData>,
     kept: &mut Kept,
@@ -229,7 +229,7 @@ fn says_again(
     }
 }
 
-/// The token goes to the next station. One that goes to the own address is a receipt.
+/// Sends the token to the next station. A token to the own address is a receipt.
 fn says_token(
     holder: Holding<Pass>,
     kept: &mut Kept,
@@ -250,7 +250,7 @@ fn says_token(
     holder.on_sent(ns, ts, after(end, u64::from(params.tid1())))
 }
 
-/// Nothing is sent, and the phase is as it was.
+/// Sends nothing, and leaves the phase.
 fn silent(phase: Phase, out: &mut SendBuffer) -> Phase
     ensures phase { result ≡ phase }
     ensures sent { out.new ≡ None }
@@ -259,7 +259,7 @@ fn silent(phase: Phase, out: &mut SendBuffer) -> Phase
     phase
 }
 
-/// One that listens and has said whether it is ready: with the reply that it is, it joins the ring.
+/// The phase after a reply of a listening station. If the reply said "ready", the station joins the ring.
 fn ready_if(listening: Listening, kept: &mut Kept, joins: bool) -> Phase
     ensures { Becomes (λ s. if joins then joining s else s)
         kept.old (phase_of (Phase.Listening listening)) kept.new (phase_of result) }
@@ -280,7 +280,7 @@ fn token(da: u8, sa: u8) -> Telegram
     Telegram::Token(TokenTelegram { da, sa })
 }
 
-/// Requests of high priority wait: the first is sent, if it may be.
+/// Requests of high priority wait: sends the first one, if it may be sent.
 fn says_high(
     holder: Holding<Use>,
     kept: &mut Kept,
@@ -301,7 +301,7 @@ fn says_high(
     }
 }
 
-/// No request of high priority may be sent: one of low priority, or what follows if none may be sent.
+/// No request of high priority may be sent: sends one of low priority, or what follows if none may be sent.
 #[inline(always)]
 fn says_low(
     holder: Holding<Use>,
@@ -324,7 +324,7 @@ fn says_low(
     }
 }
 
-/// A station joins the ring.
+/// Joins the ring.
 fn join(kept: &mut Kept)
     ensures { kept.new ≡ record
         kept.old {
@@ -339,7 +339,7 @@ fn join(kept: &mut Kept)
     kept.rotation = Rotation::new(kept.rotation.ttr());
 }
 
-/// The request of high priority that may be sent.
+/// Takes the request of high priority that may be sent; `None` if there is none.
 fn take_high(kept: &mut Kept, waiting: &mut Waiting, now: Moment) -> Option<Request>
     requires { IsSome kept.old.rotation.last }
     ensures request { (phase : turn.Phase) → result
@@ -357,7 +357,7 @@ fn take_high(kept: &mut Kept, waiting: &mut Waiting, now: Moment) -> Option<Requ
     request
 }
 
-/// A request is sent.
+/// Sends a request.
 fn says_request(
     holder: Holding<Use>,
     kept: &mut Kept,
@@ -378,7 +378,7 @@ fn says_request(
     asked(holder, answered, ready)
 }
 
-/// Requests of low priority wait: the first is sent, if it may be.
+/// Requests of low priority wait: sends the first one, if it may be sent.
 fn says_first_low(
     holder: Holding<Use>,
     kept: &mut Kept,
@@ -399,7 +399,7 @@ fn says_first_low(
     }
 }
 
-/// No request may be sent: a look into the GAP, or the token.
+/// No request may be sent: asks a station of the GAP, or passes the token.
 #[inline(always)]
 fn says_no_request(
     holder: Holding<Use>,
@@ -420,7 +420,7 @@ fn says_no_request(
     }
 }
 
-/// A holder after a request: it waits for the reply, or speaks again.
+/// The phase after a request: the station waits for the reply, or speaks again.
 fn asked(holder: Holding<Use>, answered: bool, ready: Moment) -> Phase
     ensures { phase_of result
         ≡ (if answered then turn.AwaitData (has_asked holder) None true else turn.Use (has_asked holder)
@@ -433,7 +433,7 @@ fn asked(holder: Holding<Use>, answered: bool, ready: Moment) -> Phase
     }
 }
 
-/// The request of low priority that may be sent.
+/// Takes the request of low priority that may be sent; `None` if there is none.
 fn take_low(kept: &Kept, waiting: &mut Waiting, now: Moment) -> Option<Request>
     requires { IsSome kept.now.rotation.last }
     ensures request { (phase : turn.Phase) → result
@@ -447,7 +447,7 @@ fn take_low(kept: &Kept, waiting: &mut Waiting, now: Moment) -> Option<Request>
     waiting.take_low()
 }
 
-/// Whether the station looks for others in its GAP: time is left, it asked none since the receipt, and a
+/// Whether the station asks a station of its GAP: holding time is left, it has asked none since the receipt, and a
 /// round is due.
 fn looks_at_gap(kept: &Kept, params: &BusParams, asked: bool, now: Moment) -> bool
     requires { IsSome kept.now.rotation.last }
@@ -458,7 +458,7 @@ fn looks_at_gap(kept: &Kept, params: &BusParams, asked: bool, now: Moment) -> bo
     kept.rotation.may_low(now) && !asked && kept.gap.due(now.get(), params.ttr(), params.gap())
 }
 
-/// The look into the GAP: where no address is left, the token goes on.
+/// Asks a station of the GAP. If no address is left, it passes the token.
 fn says_look(
     holder: Holding<Use>,
     kept: &mut Kept,
@@ -478,7 +478,7 @@ fn says_look(
     }
 }
 
-/// The next address of the GAP that is to be asked, if one is left; the round goes on.
+/// The next address of the GAP to ask, if one is left; advances the round.
 fn next_look(kept: &mut Kept, params: &BusParams, now: Moment) -> Option<u8>
     ensures address { (queue : Queued) (phase : turn.Phase) → let s = station_with
         kept.old queue phase in result
@@ -491,7 +491,7 @@ fn next_look(kept: &mut Kept, params: &BusParams, now: Moment) -> Option<u8>
     kept.gap.next_to_ask(ts, ns, params.hsa() as u8, now.get())
 }
 
-/// A station of the GAP is asked for its status.
+/// Asks a station of the GAP for its status.
 fn asks_status(
     holder: Holding<Use>,
     kept: &mut Kept,

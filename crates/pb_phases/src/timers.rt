@@ -1,4 +1,4 @@
-//! The timer of a station, and what follows when it ends.
+//! The timer of a station, and what the station does when it ends.
 
 ghost use Rattle.std.specs.Prelude.{◌≡◌, ◌+◌, ◌≤◌, false, None};
 ghost use Rattle.pb_timers.specs.Timers.{tto};
@@ -18,7 +18,7 @@ use pb_rotation::Rotation;
 use pb_timers::{BusParams, Moment};
 use pb_tokenfsm::{AwaitData, Checking, Holding, Phase, TRIES};
 
-/// The station after its timer, where that ends before the limit.
+/// Lets the station's timer end, if it ends before `limit`.
 #[inline(always)]
 pub fn after_timer(phase: &mut Phase, kept: &mut Kept, params: &BusParams, limit: Moment)
     ensures { Becomes (λ s. after_timer params.now limit s)
@@ -30,7 +30,7 @@ pub fn after_timer(phase: &mut Phase, kept: &mut Kept, params: &BusParams, limit
     }
 }
 
-/// When the station's timer ends, which waits while the station is busy.
+/// When the station's timer ends; `None` while the station is busy or has no timer.
 #[inline(always)]
 pub fn timer(phase: &Phase, kept: &Kept, params: &BusParams) -> Option<Moment>
     ensures { (queue : Queued) → result
@@ -48,7 +48,7 @@ pub fn timer(phase: &Phase, kept: &Kept, params: &BusParams) -> Option<Moment>
     }
 }
 
-/// No answer came, and no retry is left: the request is given up, and the token used again.
+/// No reply was heard and no retry is left: closes the request, and uses the token again.
 pub(crate) fn given_up(holder: Holding<AwaitData>, kept: &mut Kept, ready: Moment) -> Phase
     ensures { Becomes (λ s. record s { cycles = cycle_closed s.cycles None })
         kept.old (turn.Use (was_asked holder) ready) kept.new (phase_of result) }
@@ -57,7 +57,7 @@ pub(crate) fn given_up(holder: Holding<AwaitData>, kept: &mut Kept, ready: Momen
     Phase::Use(holder.on_outcome(ready))
 }
 
-/// The timer of the phase has ended at a moment. It is a call of its own since the room of a phase is cleared for it.
+/// The timer of the phase has ended at `moment`. Kept out of line: its frame has room for a phase.
 #[inline(never)]
 fn end_timer(phase: &mut Phase, kept: &mut Kept, moment: Moment)
     ensures { Becomes (λ s. phase_timed_out s (phase_of phase.old) moment)
@@ -67,7 +67,7 @@ fn end_timer(phase: &mut Phase, kept: &mut Kept, moment: Moment)
     *phase = timed_out(before, kept, moment);
 }
 
-/// The station after the timer of its phase has ended at a moment.
+/// The phase after its timer has ended at `moment`.
 fn timed_out(phase: Phase, kept: &mut Kept, moment: Moment) -> Phase
     ensures { Becomes (λ s. phase_timed_out s (phase_of phase) moment)
         kept.old (phase_of phase) kept.new (phase_of result) }
@@ -88,21 +88,21 @@ fn timed_out(phase: Phase, kept: &mut Kept, moment: Moment) -> Phase
     }
 }
 
-/// When silence has lasted a time-out.
+/// When the silence has lasted for the station's time-out.
 fn silence_timer(kept: &Kept, params: &BusParams) -> Moment
     ensures { result ≡ kept.now.past.quiet + tto params.now kept.now.address }
 {
     after(kept.past.quiet.get(), time_out(kept, params))
 }
 
-/// A slot after the own telegram.
+/// When the slot after the station's own telegram ends.
 fn slot_timer(kept: &Kept, params: &BusParams) -> Moment
     ensures { result ≡ kept.now.past.end + params.now.tsl }
 {
     after(kept.past.end.get(), u64::from(params.tsl()))
 }
 
-/// A station that claims the token is alone in its ring, and knows nothing of the others.
+/// A station that claims the token is alone in its ring, and knows no other station.
 fn stand_alone(kept: &mut Kept)
     ensures { kept.new ≡ record
         kept.old {
@@ -119,7 +119,7 @@ fn stand_alone(kept: &mut Kept)
     kept.rotation = Rotation::new(kept.rotation.ttr());
 }
 
-/// The slot of a request ended: the request is sent again, if a retry is left.
+/// The slot of a request has ended: the request is sent again, if a retry is left.
 fn not_answered(holder: Holding<AwaitData>, kept: &mut Kept, moment: Moment) -> Phase
     ensures { Becomes (λ s. not_answered s (was_asked holder) false moment)
         kept.old (phase_of (Phase.AwaitData holder)) kept.new (phase_of result) }
@@ -130,7 +130,7 @@ fn not_answered(holder: Holding<AwaitData>, kept: &mut Kept, moment: Moment) -> 
     Phase::AwaitData(holder.on_silence(moment))
 }
 
-/// Nobody took the token: it is passed again, after the last try to the station behind.
+/// No station took the token: it is passed again. After the last try the next station is removed from the list.
 fn not_taken(checking: Checking, kept: &mut Kept, moment: Moment) -> Phase
     ensures { Becomes (λ s. not_taken s (tries_of (Phase.Checking checking)) moment)
         kept.old (phase_of (Phase.Checking checking)) kept.new (phase_of result) }
@@ -142,7 +142,7 @@ fn not_taken(checking: Checking, kept: &mut Kept, moment: Moment) -> Phase
     Phase::Pass(checking.on_silence(moment))
 }
 
-/// How long the station waits in silence before it claims the token.
+/// The station's time-out: how long the bus is silent before it claims the token, in bit times.
 #[tactic(auto, using(crate::proofs::TimeOuts::time_out_bound))]
 fn time_out(kept: &Kept, params: &BusParams) -> u64
     ensures value { result ≡ tto params.now kept.now.address }

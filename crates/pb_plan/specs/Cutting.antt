@@ -1,4 +1,4 @@
--- Steps of the code that are cut at a moment.
+-- Steps of the code, cut at a moment.
 use Rattle.std.specs.Prelude.{ℕ, List}
 use Rattle.pb_plan.specs.declared.steps.Step.{Step}
 use Rattle.pb_plan.specs.Steps.{steps_of}

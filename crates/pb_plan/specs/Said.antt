@@ -1,4 +1,4 @@
--- What the steps of a moment say before the turns or after them.
+-- The events of a moment's steps before the turns or after them.
 use Rattle.std.specs.Prelude.{List, Option}
 use Rattle.std.specs.List.{filter_map}
 use Rattle.pb_model.specs.World.{Event}

@@ -1,4 +1,4 @@
--- Steps as runs say them.
+-- Steps as the plain data of runs.
 use Rattle.std.specs.Prelude.{List, map}
 use Rattle.pb_taps.specs.Events.{event_of}
 use Rattle.pb_runs.specs.Scenarios as runs

@@ -1,4 +1,4 @@
--- What a walk is by its fields, and what it keeps.
+-- The plain data of a walk, and its invariant.
 use Rattle.std.specs.Prelude.{◌≤◌, length}
 use Rattle.pb_timers.specs.Timers.{last_moment}
 use Rattle.pb_plan.specs.Steps.{steps_of}

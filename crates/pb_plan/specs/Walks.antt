@@ -5,7 +5,7 @@ use Rattle.pb_model.specs.World.{Event, Pass}
 use Rattle.pb_runs.specs.Runs.{Plan, places, wanted}
 use Rattle.pb_runs.specs.Scenarios.{Deed, Happens, Withhold, Planned, event_before, event_after, early_of, late_of, deed_holds, held_until, next_step, plan_of}
 
--- a walk through some steps up to an end, at a moment, over so many taps
+-- a walk through some steps up to an end, at a moment, over this many taps
 pub record WalkView : Type 0 where
   pub steps : List Planned
   pub until : ℕ
@@ -14,12 +14,12 @@ pub record WalkView : Type 0 where
 
 -- ---- lists of steps
 
--- steps stand in order of time, none before a moment
+-- steps are in order of time, none before a moment
 abbrev pub AreFrom : ℕ → List Planned → Type 0
 AreFrom m [] = Unit {0}
 AreFrom m (s ∷ steps) = (m ≤ s.at) × AreFrom s.at steps
 
--- steps stand before a moment
+-- steps are before a moment
 abbrev pub AreBefore : ℕ → List Planned → Type 0
 AreBefore m [] = Unit {0}
 AreBefore m (s ∷ steps) = (s.at < m) × AreBefore m steps
@@ -36,7 +36,7 @@ abbrev pub held_by : List Planned → ℕ → ℕ
 held_by [] tap = 0
 held_by (s ∷ steps) tap = max (deed_holds tap s.at s.deed) (held_by steps tap)
 
--- until when each tap is withheld, where one of them, if it is there, is withheld until a moment at least
+-- until when each tap is withheld, after one of them, if it exists, is withheld until a moment or longer
 abbrev pub hold_tap : List ℕ → ℕ → ℕ → List ℕ
 hold_tap held tap until = if nat_lt tap (length held) then slice_set held tap (max (slice_index held tap) until) else held
 
@@ -49,7 +49,7 @@ abbrev pub hold_all : List ℕ → List Planned → List ℕ
 hold_all held [] = held
 hold_all held (s ∷ steps) = hold_all (hold_one held s.at s.deed) steps
 
--- what some steps say before the turns and after them
+-- the events of some steps before the turns and after them
 abbrev pub events_before : List Planned → List Event
 events_before steps = filter_map (λ s. event_before s.deed) steps
 
@@ -58,7 +58,8 @@ events_after steps = filter_map (λ s. event_after s.deed) steps
 
 -- ---- what is left
 
--- What matters of some steps from a moment on: later steps, and until when each tap is withheld by those before.
+-- What matters of some steps from a moment on: the later steps, and until when each tap is withheld by the earlier
+-- ones.
 pub record IsAhead (steps : List Planned) (from : ℕ) (later : List Planned) (held : List ℕ) : Type 0 where
   pub order : AreFrom from later
   pub early : (m : ℕ) → from ≤ m → filter_map (early_of m) steps ≡ filter_map (early_of m) later
@@ -66,13 +67,13 @@ pub record IsAhead (steps : List Planned) (from : ℕ) (later : List Planned) (h
   pub next : (m : ℕ) → from ≤ m + 1 → next_step steps m ≡ next_step later m
   pub withheld : (m tap : ℕ) → from ≤ m + 1 → tap < length held → held_until steps m tap ≡ max (slice_index held tap) (held_until later m tap)
 
--- what matters of some steps at a moment: those of that moment, and what is ahead
+-- what matters of some steps at a moment: those of that moment, and what matters from then on
 pub record IsLeft (steps : List Planned) (at : ℕ) (today rest : List Planned) (held : List ℕ) : Type 0 where
   pub early : filter_map (early_of at) steps ≡ events_before today
   pub late : filter_map (late_of at) steps ≡ events_after today
   pub ahead : IsAhead steps (at + 1) rest held
 
--- steps are cut into those before a moment, those of the moment and the later ones; the taps are withheld by the first two
+-- steps are cut into those before a moment, those at the moment and the later ones; the first two withhold the taps
 pub record Advances (later : List Planned) (at : ℕ) (today rest : List Planned) (held next : List ℕ) : Type 0 where
   pub past : List Planned
   pub cut : later ≡ past ++ (today ++ rest)
@@ -95,7 +96,7 @@ plan_in w = plan_of w.steps w.until
 abbrev pub turns_in : WalkView → List (Option ℕ) → List ℕ
 turns_in w dues = places 0 (wanted (plan_in w) w.clock 0 dues)
 
--- time passes for so long, or not at all
+-- this much time passes, or none
 abbrev pub passes : Option ℕ → List Event
 passes None = []
 passes (Some bits) = Pass bits ∷ []

@@ -1,3 +1,5 @@
+//! Advances a walk through steps, and keeps until when each tap is withheld.
+
 ghost use Rattle.std.specs.Prelude.{◌≡◌, ◌<◌, ◌≤◌, ◌^◌, nat_lt};
 ghost use Rattle.std.specs.List.{prefix_len};
 ghost use Rattle.pb_timers.specs.Timers.{last_moment};
@@ -7,8 +9,8 @@ ghost use Rattle.pb_plan.specs.Walks.{AreBefore, AreFrom, hold_tap, hold_one, ho
 
 use crate::steps::{Deed, Step};
 
-/// The steps of a moment, and those after it, of steps in order. Notes until when the taps are withheld by
-/// the steps up to that moment.
+/// The steps at a moment and those after it, of steps in order of time. Updates until when each tap is withheld by the
+/// steps up to that moment.
 pub(crate) fn advance<'a>(later: &'a [Step], at: u64, held: &mut [u64]) -> (&'a [Step], &'a [Step])
     requires order { AreFrom 0 (steps_of later.now) }
     requires moment { at ≤ last_moment }
@@ -21,14 +23,14 @@ pub(crate) fn advance<'a>(later: &'a [Step], at: u64, held: &mut [u64]) -> (&'a 
     (today, rest)
 }
 
-/// How many of the first steps stand before a moment.
+/// How many of the first steps are before a moment.
 fn count_before(steps: &[Step], at: u64) -> usize
     ensures { result ≡ prefix_len (λ s. nat_lt s.at at) steps.now }
 {
     steps.iter().take_while(|step| step.at < at).count()
 }
 
-/// Notes until when some steps withhold the taps.
+/// Updates until when some steps withhold the taps.
 fn hold(held: &mut [u64], steps: &[Step])
     requires { AreBefore (2 ^ 63) (steps_of steps.now) }
     ensures { held.new ≡ hold_all held.old (steps_of steps.now) }
@@ -38,7 +40,7 @@ fn hold(held: &mut [u64], steps: &[Step])
     }
 }
 
-/// Notes until when a step withholds a tap.
+/// Updates until when a step withholds a tap.
 fn hold_one(held: &mut [u64], step: &Step)
     requires { step.now.at < 2 ^ 63 }
     ensures { held.new ≡ hold_one held.old step.now.at (deed_of step.now.deed) }
@@ -49,7 +51,7 @@ fn hold_one(held: &mut [u64], step: &Step)
     }
 }
 
-/// A tap, where there is one, is withheld until a moment at least.
+/// Withholds a tap until a moment or longer. An index without a tap is ignored.
 fn hold_tap(held: &mut [u64], tap: usize, until: u64)
     ensures { held.new ≡ hold_tap held.old tap until }
 {

@@ -1,3 +1,5 @@
+//! Which taps take a turn now, and when the next instant is.
+
 ghost use Rattle.std.specs.Prelude.{◌≡◌, ◌<◌, ◌≤◌, IfSome, length};
 ghost use Rattle.pb_turn.specs.Stations.{earlier};
 ghost use Rattle.pb_plan.specs.Steps.{steps_of};
@@ -7,7 +9,7 @@ ghost use Rattle.pb_plan.specs.Coming.{time_to, wants_in, comes_in, next_turn_in
 use crate::steps::Step;
 use pb_timers::Moment;
 
-/// Whether a tap takes its turn now, that is withheld until a moment.
+/// Whether a tap, withheld until `until`, takes its turn at `now`.
 pub(crate) fn takes_turn(until: u64, now: u64, due: Option<Moment>) -> bool
     ensures { result ≡ wants_in until now due }
 {
@@ -17,15 +19,15 @@ pub(crate) fn takes_turn(until: u64, now: u64, due: Option<Moment>) -> bool
     }
 }
 
-/// For how long time passes to a moment, if that is later than now.
+/// The time from `now` to `at`, in bit times; `None` if `at` is not later.
 pub(crate) fn time_to(now: u64, at: u64) -> Option<u64>
     ensures { result ≡ time_to now at }
 {
     if now < at { Some(at - now) } else { None }
 }
 
-/// The first moment after now, and up to the end, among that of the first of the later steps, that of the
-/// next change and that of the next turn.
+/// The next instant: the earliest of the first later step, the next change and the next turn. `None` if it is not after
+/// `now` or past `until`.
 pub(crate) fn next_instant(
     now: u64,
     until: u64,
@@ -54,7 +56,7 @@ fn first_moment(steps: &[Step]) -> Option<u64>
     }
 }
 
-/// A moment in bit times.
+/// A moment, in bit times.
 fn bits_of(moment: Option<Moment>) -> Option<u64>
     ensures { result ≡ moment }
 {
@@ -64,7 +66,7 @@ fn bits_of(moment: Option<Moment>) -> Option<u64>
     }
 }
 
-/// The first moment at which one of the taps may take a turn next: when it is withheld no more, or is due.
+/// The first moment at which some tap may take a turn next: when its withholding ends, or when it is due.
 pub(crate) fn next_turn(held: &[u64], now: u64, dues: &[Option<Moment>]) -> Option<u64>
     requires { length dues.now ≡ length held.now }
     ensures { result ≡ next_turn_in held.now now 0 dues.now }
@@ -76,7 +78,7 @@ pub(crate) fn next_turn(held: &[u64], now: u64, dues: &[Option<Moment>]) -> Opti
     first
 }
 
-/// When a tap may take a turn next, that is withheld until a moment.
+/// When a tap, withheld until `until`, may take a turn next.
 pub(crate) fn comes(until: u64, now: u64, due: Option<Moment>) -> Option<u64>
     ensures { result ≡ comes_in now until due }
 {
@@ -89,7 +91,7 @@ pub(crate) fn comes(until: u64, now: u64, due: Option<Moment>) -> Option<u64>
     }
 }
 
-/// The earlier of two moments, of which either may be missing.
+/// The earlier of two moments; if one is `None`, the other.
 pub(crate) fn earlier(a: Option<u64>, b: Option<u64>) -> Option<u64>
     ensures { result ≡ earlier a b }
 {
@@ -100,7 +102,7 @@ pub(crate) fn earlier(a: Option<u64>, b: Option<u64>) -> Option<u64>
     }
 }
 
-/// A moment, if it lies after now and not past the end.
+/// The moment, if it is after `now` and not past `until`.
 fn onward(now: u64, until: u64, moment: Option<u64>) -> Option<u64>
     ensures moment { result ≡ onward_to until now moment }
     ensures bounds { IfSome result (λ at. (now < at) × (at ≤ until)) }

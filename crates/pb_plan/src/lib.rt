@@ -1,5 +1,5 @@
-//! The plan of a scenario: what its steps have happen at a moment, which taps take their turns then, and
-//! which instant is next. A walk through it costs as much as there are steps.
+//! The plan of a scenario: the events that its steps trigger at a moment, which taps take turns then, and the next
+//! instant. A walk through it takes time in proportion to the number of steps.
 #![tactic(auto)]
 
 mod advancing;

@@ -1,20 +1,22 @@
+//! The steps of a scenario.
+
 use pb_taps::Event;
 
 /// What a step does.
 #[derive(Debug, PartialEq, Eq, Drop)]
 pub enum Deed {
-    /// An event happens.
+    /// Triggers an event.
     Happens(Event),
-    /// A tap takes no turn for some time.
+    /// Withholds a tap: it takes no turn for some time.
     Withhold {
         /// The tap.
         tap: usize,
-        /// For how long, in bit times from the moment of the step; 0 withholds nothing.
+        /// For how long, in bit times from the moment of the step. 0 withholds nothing.
         bits: u32,
     },
 }
 
-/// When in its instant an event of a step happens.
+/// When, within its instant, the event of a step happens.
 #[derive(Clone, Copy, Debug, PartialEq, Eq)]
 pub enum When {
     /// Before the turns.
@@ -26,7 +28,7 @@ pub enum When {
 /// A step of a scenario.
 #[derive(Debug, PartialEq, Eq, Drop)]
 pub struct Step {
-    /// Its moment, in bit times since the clock began.
+    /// Its moment, in bit times since the clock started.
     pub at: u64,
     /// What it does.
     pub deed: Deed,
@@ -40,8 +42,7 @@ impl Deed {
     ghost use Rattle.pb_plan.specs.Steps.{deed_of};
     ghost use Rattle.pb_plan.specs.Said.{said_in};
 
-    /// The event that happens before the turns of its instant: every event but that a telegram is lost at a
-    /// tap.
+    /// The event that happens before the turns of its instant: any event except the loss of a telegram at a tap.
     pub fn before_turns(&self) -> Option<&Event>
         ensures { option_map (λ e. event_of e.now) result ≡ event_before (deed_of self.now) }
     {
@@ -52,8 +53,7 @@ impl Deed {
         }
     }
 
-    /// The event that happens after the turns of its instant: that a telegram, which has begun then, is lost
-    /// at a tap.
+    /// The event that happens after the turns of its instant: the loss, at a tap, of a telegram that has just begun.
     pub fn after_turns(&self) -> Option<&Event>
         ensures { option_map (λ e. event_of e.now) result ≡ event_after (deed_of self.now) }
     {
@@ -63,7 +63,7 @@ impl Deed {
         }
     }
 
-    /// The event that happens before the turns of its instant, or the one that happens after them.
+    /// The event that happens before or after the turns of its instant, by `when`.
     pub fn said(&self, when: When) -> Option<&Event>
         ensures { option_map (λ e. event_of e.now) result ≡ said_in when (deed_of self.now) }
     {

@@ -1,3 +1,5 @@
+//! A walk through the steps of a scenario.
+
 use crate::advancing::advance;
 use crate::coming::{comes, earlier, next_instant, next_turn, takes_turn, time_to};
 use crate::steps::Step;
@@ -5,12 +7,12 @@ use pb_timers::Moment;
 use std::alloc::{AllocError, Global};
 use std::marker::Model;
 
-/// A walk through the steps of a scenario, from instant to instant. All its calls together take as long as
-/// there are steps, and each instant as long as there are taps besides.
+/// A walk through the steps of a scenario, from instant to instant. All its calls together take time in proportion to
+/// the steps, and each instant in proportion to the taps.
 #[derive(Debug, Drop)]
 pub struct Walk<'a> {
     steps: &'a [Step],
-    // Those of this moment, and those after it.
+    // The steps at this moment, and those after it.
     today: &'a [Step],
     later: &'a [Step],
     until: u64,
@@ -41,8 +43,10 @@ impl<'a> Walk<'a> {
     ghost use Rattle.pb_plan.specs.Walks.{AreFrom, events_after, events_before};
     ghost use Rattle.pb_plan.specs.Walks.{new_walk, plan_in, passes, turns_in};
 
-    /// A walk at 0 over so many taps, through steps that stand in order of time, up to a moment in bit times, at most
-    /// 2^62, both the caller's conditions. Its fault: memory was refused.
+    /// A walk at 0 over `taps` taps, up to the moment `until`, in bit times. The caller ensures that the steps are in
+    /// order of time, and that `until` is at most 2^62.
+    ///
+    /// Fault: memory was refused.
     pub fn new(
         alloc: Global,
         steps: &'a [Step],
@@ -65,21 +69,21 @@ impl<'a> Walk<'a> {
         })
     }
 
-    /// Where the walk is, in bit times.
+    /// The present moment, in bit times.
     pub fn now(&self) -> u64
         ensures { result ≡ self.now.clock }
     {
         self.clock
     }
 
-    /// Over how many taps the walk goes.
+    /// The number of taps.
     pub fn taps(&self) -> usize
         ensures { result ≡ self.now.taps }
     {
         self.held.len()
     }
 
-    /// Up to which moment the walk goes, in bit times.
+    /// The last moment of the walk, in bit times.
     pub fn until(&self) -> u64
         ensures end { result ≡ self.now.until }
         ensures bound { result ≤ last_moment }
@@ -87,8 +91,8 @@ impl<'a> Walk<'a> {
         self.until
     }
 
-    /// The steps of this moment, in the order of the scenario: their events before the turns, and after them,
-    /// are those of the plan.
+    /// The steps at this moment, in the order of the scenario. Their events before and after the turns are those of the
+    /// plan.
     pub fn today(&self) -> &'a [Step]
         ensures early { events_before (steps_of result.now) ≡ (plan_in self.now).early self.now.clock }
         ensures late { events_after (steps_of result.now) ≡ (plan_in self.now).late self.now.clock }
@@ -96,8 +100,8 @@ impl<'a> Walk<'a> {
         self.today
     }
 
-    /// Whether a tap takes its turn now that is due at a moment, if it is: not later than now, and not while
-    /// it is withheld. The tap is one of the walk's, the caller's condition.
+    /// Whether a tap, due at `due`, takes its turn now: it is due and not withheld. The caller ensures that the tap is
+    /// one of the walk's.
     pub fn wants(&self, tap: usize, due: Option<Moment>) -> bool
         requires { tap < self.now.taps }
         ensures { result ≡ wants (plan_in self.now) self.now.clock tap due }
@@ -105,8 +109,10 @@ impl<'a> Walk<'a> {
         takes_turn(self.held[tap], self.clock, due)
     }
 
-    /// Lists the taps that take their turns now, in their order, where each is due at a moment or not at all. There are
-    /// as many dues as taps, the caller's condition. The list's room is used anew. Its fault: memory was refused.
+    /// Lists the taps that take their turns now, in ascending order, given when each is due. The memory of `taps` is
+    /// reused. The caller ensures that there are as many dues as taps.
+    ///
+    /// Fault: memory was refused.
     pub fn note_turns(
         &self,
         dues: &[Option<Moment>],
@@ -124,9 +130,9 @@ impl<'a> Walk<'a> {
         Ok(())
     }
 
-    /// The next instant, in bit times, if there is one: the first moment after now and up to the end at
-    /// which a step stands, something changes on the bus, a tap is due that isn't withheld, or a withholding
-    /// ends. There are as many dues as taps, the caller's condition.
+    /// The next instant, in bit times, if there is one: the first moment after now, and not past the end, at which
+    /// there is a step, something changes on the bus, a tap is due that is not withheld, or a withholding ends. The
+    /// caller ensures that there are as many dues as taps.
     pub fn next(&self, dues: &[Option<Moment>], change: Option<Moment>) -> Option<u64>
         requires { length dues.now ≡ self.now.taps }
         ensures next { result ≡ next (plan_in self.now) self.now.clock dues.now change }
@@ -136,9 +142,9 @@ impl<'a> Walk<'a> {
         self.next_by(turn, change)
     }
 
-    /// The earlier of a moment and that at which a tap may take a turn next, in bit times, where it is due at a moment
-    /// or not at all: when it is withheld no more, or is due after now. The tap is one of the walk's, the caller's
-    /// condition.
+    /// The earlier of `first` and the moment, in bit times, at which a tap due at `due` may take a turn next: when its
+    /// withholding ends, or when it is due after now. This folds one tap's next due time into a minimum. The caller
+    /// ensures that the tap is one of the walk's.
     pub fn sooner(&self, first: Option<u64>, tap: usize, due: Option<Moment>) -> Option<u64>
         requires { tap < self.now.taps }
         ensures { result ≡ earlier first (comes (plan_in self.now) self.now.clock tap due) }
@@ -146,8 +152,8 @@ impl<'a> Walk<'a> {
         earlier(first, comes(self.held[tap], self.clock, due))
     }
 
-    /// The next instant, as [`next`](Walk::next) has it, where the first moment is known at which a tap may take a
-    /// turn next.
+    /// The next instant, as [`next`](Walk::next) returns it, given the first moment at which a tap may take a turn
+    /// next.
     pub fn next_by(&self, turn: Option<u64>, change: Option<Moment>) -> Option<u64>
         ensures next { result ≡ onward (plan_in self.now) self.now.clock
             (earlier ((plan_in self.now).later self.now.clock) (earlier change turn)) }
@@ -156,8 +162,8 @@ impl<'a> Walk<'a> {
         next_instant(self.clock, self.until, self.later, change, turn)
     }
 
-    /// For how long time passes from now, in bit times: to the next instant, which is later than now, the caller's
-    /// condition, or where there is none to the end, if that is later.
+    /// How much time passes from now, in bit times: to the next instant, or if there is none to the end, if that is
+    /// later. The caller ensures that the next instant is later than now.
     pub fn pass_to(&self, next: Option<u64>) -> Option<u64>
         requires { IfSome next (λ at. self.now.clock < at) }
         ensures { passes result ≡ passing bus (plan_in self.now) self.now.clock next }
@@ -165,7 +171,7 @@ impl<'a> Walk<'a> {
         time_to(self.clock, next.unwrap_or(self.until))
     }
 
-    /// Goes on to a moment, in bit times, later than now and not past the end, both the caller's conditions.
+    /// Advances to a moment, in bit times. The caller ensures that it is later than now and not past the end.
     pub fn go_to(&mut self, at: u64)
         requires later { self.old.clock < at }
         requires end { at ≤ self.old.until }

@@ -9,8 +9,9 @@ ghost use Rattle.pb_port.specs.Ports.{PortView, Sends, clock_faults, mark_faults
 use crate::faults::PortFault;
 use arrayvec::ArrayVec;
 use pb_cycles::{Outcome, Request};
+use pb_refusals::NoMemory;
 use pb_ring::Las;
-use pb_station::{Inbox, MARK_LIMIT, NoMemory, SendBuffer, Station};
+use pb_station::{Inbox, MARK_LIMIT, SendBuffer, Station};
 use pb_telegram::RxChar;
 use pb_timers::{BusParams, Moment};
 use pb_tokenfsm::Phase;

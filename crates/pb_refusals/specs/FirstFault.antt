@@ -11,7 +11,7 @@ abbrev pub NoneHolds : {F : Type 0} → List (Bool × F) → Type 0
 NoneHolds [] = Unit {0}
 NoneHolds (test ∷ tests) = (test.0 ≡ false) × NoneHolds tests
 
--- the test of the fault holds, and none before it
+-- the test of the fault holds, and no test before it
 pub record IsFirst {F : Type 0} (tests : List (Bool × F)) (fault : F) : Type 0 where
   pub before : List (Bool × F)
   pub after : List (Bool × F)

@@ -1,12 +1,15 @@
-//! Ordered refusals: which of several faults a call answers.
+//! What all faults stand on: which of several faults a call answers, and that memory was refused ([`NoMemory`]).
 //!
-//! Where several things may be wrong with an input, a definition lists its faults in their order,
-//! each beside the test of its condition on the whole input. The answer is the first fault whose
-//! test holds. This crate has the words for that, and the laws that say what they mean.
+//! A definition lists the faults of an input in order, each with a test of its condition on the whole input. The
+//! reported fault is the first whose test holds. This crate defines these words, and proves what they mean.
 #![tactic(auto)]
+
+mod memory;
 
 ghost use Rattle.std.specs.Prelude.{◌≡◌, Bool, List, Some, None, ◌↔◌};
 ghost use Rattle.pb_refusals.specs.FirstFault.{first_fault, IsFirst, NoneHolds};
+
+pub use memory::NoMemory;
 
 /// A fault is the first of the list exactly where its test holds and no test before it does.
 pub fn first_fault_is_first<F>()

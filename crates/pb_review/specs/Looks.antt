@@ -1,4 +1,4 @@
--- An outlook as runs say it.
+-- An outlook as the plain data of runs.
 use Rattle.pb_runs.specs.Laws as runs
 use Rattle.pb_review.specs.declared.reports.Look.{Look}
 

@@ -1,4 +1,4 @@
--- How a history goes on after an instant.
+-- The position in a history after an instant.
 use Rattle.std.specs.Prelude.{◌≡◌, ℕ, ◌<◌, ◌≤◌, List, length, slice_get, Some, IfSome}
 use Rattle.pb_review.specs.declared.reports.Look as declared
 use Rattle.pb_review.specs.Looks.{look_of}
@@ -8,7 +8,7 @@ use Rattle.pb_plan.specs.Walks.{WalkView}
 use Rattle.pb_review.specs.declared.instants.Next.{Next}
 use Rattle.pb_review.specs.Reading.{Goes}
 
--- an outlook is the one at a place among the outlooks, was taken after so many events, and shows so many taps
+-- an outlook has this index, was taken after this many events, and has this many taps
 abbrev pub IsLookAt : List Look → ℕ → ℕ → ℕ → declared.Look → Type 0
 IsLookAt looks k place taps look = (slice_get looks k ≡ Some (look_of look)) × (look.place ≡ place) × (length look.dues.now ≡ taps)
 

@@ -1,3 +1,5 @@
+//! Reads one instant of a history.
+
 ghost use Rattle.std.specs.Prelude.{◌≡◌, ◌≤◌, ◌^◌, true, length, slice_get, Some, IfOk, IfSome};
 ghost use Rattle.std.specs.Option.{option_map};
 ghost use Rattle.pb_model.specs.World.{Pass};
@@ -14,17 +16,19 @@ use pb_plan::{Walk, When};
 use pb_taps::Event;
 use std::alloc::AllocError;
 
-/// How a history goes on after an instant.
+/// The position in a history after an instant.
 #[derive(Clone, Copy, Debug)]
 pub(crate) struct Next {
-    /// At which moment, if it goes on.
+    /// The moment of the next instant, if there is one.
     pub(crate) moment: Option<u64>,
-    /// How many events of the history are read.
+    /// How many events of the history were read.
     pub(crate) place: usize,
 }
 
-/// Reads an instant of the history, at the moment of the walk and from a place on, by the outlooks from one
-/// of them on. None where the history isn't the plan's there. The fault: memory was refused.
+/// Reads an instant of the history, at the moment of the walk, from the event at `place` and the outlook at `position`
+/// on. `None` if the history does not follow the plan there.
+///
+/// Fault: memory was refused.
 pub(crate) fn read_instant<R: Report>(
     report: &R,
     walk: &Walk<'_>,
@@ -59,7 +63,7 @@ pub(crate) fn read_instant<R: Report>(
     Ok(Some(Next { moment, place }))
 }
 
-/// The outlook at a place among the outlooks, where it was taken after so many events and shows all taps.
+/// The outlook at `position`, if it was taken after `place` events and has all taps.
 fn look_at<'a, R: Report>(
     report: &'a R,
     walk: &Walk<'_>,
@@ -74,7 +78,8 @@ fn look_at<'a, R: Report>(
     }
 }
 
-/// How far the history goes on with a pass of time, if there is one.
+/// The position after a pass of `bits` bit times; `None` if that is not the next event. Without a pass, the position is
+/// unchanged.
 fn read_pass<R: Report>(report: &R, place: usize, bits: Option<u64>) -> Option<usize>
     requires { place ≤ length (R.events report.now) }
     ensures { IfSome result (Reads (R.events report.now) place (passes bits)) }
@@ -91,7 +96,7 @@ fn read_pass<R: Report>(report: &R, place: usize, bits: Option<u64>) -> Option<u
     }
 }
 
-/// Whether an event was found, and is a pass of so many bit times.
+/// Whether an event was found and is a pass of this many bit times.
 fn is_pass(found: Option<&Event>, bits: u64) -> bool
     ensures { result ≡ true → option_map (λ e. event_of e.now) found.entry ≡ Some (Pass bits) }
 {

@@ -1,4 +1,4 @@
-//! Whether the history of a bus, with the outlooks that were taken on it, is the run of a scenario: a walk
+//! Decides whether the history of a bus, with the outlooks that were taken on it, is the run of a scenario, by a walk
 //! over both that applies no event.
 #![tactic(auto)]
 

@@ -1,3 +1,5 @@
+//! Reads the events of steps in a history.
+
 ghost use Rattle.std.specs.Prelude.{◌≡◌, ◌≤◌, ◌∷◌, [], true, length, Some, IfSome};
 ghost use Rattle.std.specs.Option.{option_map, option_to_list};
 ghost use Rattle.pb_taps.specs.Events.{event_of};
@@ -9,7 +11,7 @@ use crate::reports::Report;
 use pb_plan::{Deed, Step, When};
 use pb_taps::Event;
 
-/// How far the history goes on with what some steps say before the turns or after them, if it does.
+/// The position after the events that some steps trigger before or after the turns; `None` if others come next.
 pub(crate) fn read_steps<R: Report>(
     report: &R,
     place: usize,
@@ -26,7 +28,7 @@ pub(crate) fn read_steps<R: Report>(
     Some(at)
 }
 
-/// How far it goes on with what a deed says then, if anything.
+/// The position after the event of a step, if it triggers one then.
 fn read_deed<R: Report>(report: &R, place: usize, deed: &Deed, when: When) -> Option<usize>
     requires { place ≤ length (R.events report.now) }
     ensures { IfSome result
@@ -38,7 +40,7 @@ fn read_deed<R: Report>(report: &R, place: usize, deed: &Deed, when: When) -> Op
     }
 }
 
-/// How far it goes on with an event.
+/// The position after an event; `None` if another comes next.
 pub(crate) fn read_event<R: Report>(report: &R, place: usize, event: &Event) -> Option<usize>
     requires { place ≤ length (R.events report.now) }
     ensures { IfSome result (Reads (R.events report.now) place (event_of event.now ∷ [])) }
@@ -50,7 +52,7 @@ pub(crate) fn read_event<R: Report>(report: &R, place: usize, event: &Event) -> 
     }
 }
 
-/// Whether an event was found, and is this one.
+/// Whether an event was found and is this one.
 fn is_event(found: Option<&Event>, event: &Event) -> bool
     ensures { result ≡ true → option_map (λ e. event_of e.now) found.entry ≡ Some (event_of event.now) }
 {

@@ -1,3 +1,5 @@
+//! What is reviewed: a history with its outlooks.
+
 ghost use Rattle.std.specs.Prelude.{◌≡◌, List, length, slice_get};
 ghost use Rattle.std.specs.Option.{option_map};
 ghost use Rattle.pb_model.specs.World as model;
@@ -7,19 +9,18 @@ ghost use Rattle.pb_runs.specs.Laws as runs;
 use pb_taps::Event;
 use pb_timers::Moment;
 
-/// What an outlook shows: after how many events it was taken, when each tap is due, and when something else
-/// changes.
+/// An outlook: after how many events it was taken, when each tap is due, and when something else changes.
 #[derive(Clone, Copy, Debug)]
 pub struct Look<'a> {
-    /// How many events of the history came before it.
+    /// How many events of the history were before it.
     pub place: usize,
-    /// When each tap is due, if it is.
+    /// When each tap is due; `None` if it is not.
     pub dues: &'a [Option<Moment>],
     /// The next moment at which something else changes, if there is one.
     pub change: Option<Moment>,
 }
 
-/// A history with its outlooks.
+/// A history and its outlooks.
 pub trait Report {
     /// The events of the history.
     ghost events: { Self → List model.Event };
@@ -33,11 +34,11 @@ pub trait Report {
     fn len(&self) -> usize
         ensures { result ≡ length (events self.now) };
 
-    /// The event at a place, counted from 0.
+    /// The event with this index, from 0.
     fn event(&self, place: usize) -> Option<&Event>
         ensures { option_map (λ e. event_of e.now) result ≡ slice_get (events self.now) place };
 
-    /// The outlook at a place among the outlooks, counted from 0.
+    /// The outlook with this index, from 0.
     fn look(&self, position: usize) -> Option<Look<'_>>
         ensures { option_map look_of result ≡ slice_get (looks self.now) position };
 }

@@ -1,3 +1,5 @@
+//! Reviews a whole history.
+
 ghost use Rattle.std.specs.Prelude.{◌≡◌, ◌+◌, true, IfOk};
 ghost use Rattle.pb_review.specs.Reading.{IsRunIn};
 
@@ -6,9 +8,11 @@ use crate::reports::Report;
 use pb_plan::Walk;
 use std::alloc::{AllocError, Global};
 
-/// True only where the history of a report is cut into the instants of a scenario, as its outlooks show them, and
-/// the walk through the scenario's steps is at 0: then it leaves the trace of the scenario's run on one
-/// thread. It takes as long as history, outlooks and steps are together. The fault: memory was refused.
+/// Whether the history of a report is cut into the instants of a scenario, as its outlooks show them. If it is, the
+/// history leaves the trace of the scenario's run on one thread. This takes time in proportion to history, outlooks and
+/// steps. The caller ensures that the walk through the scenario's steps is at 0.
+///
+/// Fault: memory was refused.
 pub fn is_run<R: Report>(alloc: Global, report: &R, mut walk: Walk<'_>) -> Result<bool, AllocError>
     requires { walk.clock ≡ 0 }
     ensures { IfOk result (λ is. is ≡ true → IsRunIn walk.entry (R.looks report.now) (R.events report.now)) }

@@ -1,3 +1,5 @@
+//! Reads the turns of an instant in a history, in any order.
+
 ghost use Rattle.std.specs.Prelude.{◌≡◌, ◌≤◌, ◌++◌, ℕ, List, length, map, Some, OnOk, IfSome};
 ghost use Rattle.std.specs.Option.{option_map};
 ghost use Rattle.pb_model.specs.World.{Turn};
@@ -13,7 +15,7 @@ use pb_taps::Event;
 use pb_timers::Moment;
 use std::alloc::AllocError;
 
-/// How far the history goes on with one turn of each tap that wants one, in any order, if it does.
+/// The position after one turn of each tap that wants one, in any order; `None` if other turns come next.
 pub(crate) fn read_turns<R: Report>(report: &R, place: usize, want: &mut Vec<bool>) -> Option<usize>
     requires { place ≤ length (R.events report.now) }
     ensures { IfSome result (ReadsWanted (R.events report.now) place want.old.items) }
@@ -25,7 +27,7 @@ pub(crate) fn read_turns<R: Report>(report: &R, place: usize, want: &mut Vec<boo
     if is_none_left(want) { Some(at) } else { None }
 }
 
-/// How far it goes on with one turn of a tap that wants one, where a turn comes next.
+/// The position after one turn of a tap that wants one. If no turn comes next, the position is unchanged.
 fn read_turn<R: Report>(report: &R, place: usize, want: &mut Vec<bool>) -> Option<usize>
     requires { place ≤ length (R.events report.now) }
     ensures { IfSome result (ReadsTurns (R.events report.now) place want.old.items want.new.items) }
@@ -41,7 +43,7 @@ fn read_turn<R: Report>(report: &R, place: usize, want: &mut Vec<bool>) -> Optio
     }
 }
 
-/// The tap whose turn an event is, if it is one.
+/// The tap that takes its turn in this event, if it is a turn.
 fn turn_in(found: Option<&Event>) -> Option<usize>
     ensures { IfSome result (λ tap. option_map (λ e. event_of e.now) found.entry ≡ Some (Turn tap)) }
 {
@@ -51,7 +53,7 @@ fn turn_in(found: Option<&Event>) -> Option<usize>
     }
 }
 
-/// Whether a tap wants a turn; then it wants none any more.
+/// Whether a tap wants a turn. If so, it no longer does.
 fn take(want: &mut Vec<bool>, tap: usize) -> bool
     ensures { Takes want.old.items tap want.new.items result }
 {
@@ -74,8 +76,9 @@ fn is_none_left(want: &[bool]) -> bool
     true
 }
 
-/// Which taps want a turn, each of which is due at a moment or not at all. The list's room is used anew. The fault:
-/// memory was refused.
+/// Notes which taps want a turn, given when each is due. The memory of `want` is reused.
+///
+/// Fault: memory was refused.
 pub(crate) fn note_wanted(
     walk: &Walk<'_>,
     dues: &[Option<Moment>],

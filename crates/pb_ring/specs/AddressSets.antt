@@ -1,5 +1,5 @@
--- Sets of station addresses, and the order of addresses round the logical ring.
--- A set is the list of its addresses, each below the next: equal sets are equal lists.
+-- Sets of station addresses, and the order of addresses around the logical ring. A set is the list of its addresses in
+-- ascending order: equal sets are equal lists.
 use Rattle.std.specs.Prelude.{ℕ, ◌+◌, ◌≤◌, ◌==◌, unwrap_or, nat_lt, nat_le, Bool, true, false, not, ◌&&◌, ◌||◌, if◌then◌else◌, List, [], ◌∷◌, ◌++◌, filter, Option, Some, None}
 use Rattle.std.specs.List.{range_with_len}
 use Rattle.std.specs.Option.{option_or}
@@ -21,7 +21,7 @@ with_address a (x ∷ xs) = if nat_lt a x then a ∷ x ∷ xs else if a == x the
 abbrev pub without_address : ℕ → List ℕ → List ℕ
 without_address a xs = filter (λ x. not (x == a)) xs
 
--- An address lies strictly between two others, going up from the first and on from the lowest. Between an address and itself lies every other one.
+-- An address is strictly between two others in cyclic order. Between an address and itself are all others.
 abbrev pub is_between : ℕ → ℕ → ℕ → Bool
 is_between from to a = if nat_lt from to then nat_lt from a && nat_lt a to else nat_lt from a || nat_lt a to
 
@@ -30,7 +30,8 @@ abbrev pub is_own : Option ℕ → ℕ → Bool
 is_own None a = false
 is_own (Some ts) a = ts == a
 
--- whether a token takes an address out of the list: those strictly between its source and its destination go, save the own one of a station in the ring
+-- a token removes an address from the list: those strictly between source and destination, except the own one of a
+-- station in the ring
 abbrev pub removes : Option ℕ → ℕ → ℕ → ℕ → Bool
 removes own sa da a = is_between sa da a && not (is_own own a)
 
@@ -49,27 +50,27 @@ abbrev pub last_of : List ℕ → Option ℕ
 last_of [] = None
 last_of (x ∷ xs) = option_or (last_of xs) (Some x)
 
--- a set in cyclic order: first what lies above an address, and then, from the lowest on, the others
+-- a set in cyclic order: first those above an address, then, from the lowest on, the others
 abbrev pub from_behind : ℕ → List ℕ → List ℕ
 from_behind a xs = filter (λ x. nat_lt a x) xs ++ filter (λ x. nat_le x a) xs
 
--- the same order, but an address itself comes first, and not last
+-- the same order, with the address itself first instead of last
 abbrev pub from_at : ℕ → List ℕ → List ℕ
 from_at a xs = filter (λ x. nat_le a x) xs ++ filter (λ x. nat_lt x a) xs
 
--- the next of a set: the lowest above the address, else the lowest of all; a lone one is its own next
+-- the next of a set: the lowest above the address, else the lowest of all; a lone address is its own next one
 abbrev pub next_address : ℕ → List ℕ → ℕ
 next_address a xs = unwrap_or (first_of (from_behind a xs)) a
 
--- the previous of a set: the highest below the address, else the highest of all; a lone one is its own previous
+-- the previous of a set: the highest below the address, else the highest of all; a lone address is its own previous one
 abbrev pub previous_address : ℕ → List ℕ → ℕ
 previous_address a xs = unwrap_or (last_of (from_at a xs)) a
 
--- the addresses of a set are in order, none below a bound
+-- the addresses are in ascending order, none below a bound
 abbrev pub AscendsFrom : ℕ → List ℕ → Type 0
 AscendsFrom low [] = Unit {0}
 AscendsFrom low (x ∷ xs) = (low ≤ x) × AscendsFrom (x + 1) xs
 
--- the list is a set: each address is below the next
+-- the list is a set: its addresses are in ascending order
 abbrev pub IsAscending : List ℕ → Type 0
 IsAscending xs = AscendsFrom 0 xs

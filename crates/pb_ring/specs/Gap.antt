@@ -5,21 +5,21 @@ use Rattle.pb_ring.specs.declared.gaps.Round.{Round}
 use Rattle.pb_ring.specs.declared.gaps.Round.TheVariants.{Open, Closed}
 use Rattle.pb_ring.specs.AddressSets.{is_between, from_behind, first_of}
 
--- the GAP: the addresses up to the highest station address that lie strictly between a station and its next one
+-- the GAP: the addresses up to the highest station address that are strictly between a station and its next one
 abbrev pub gap_range : ℕ → ℕ → ℕ → List ℕ
 gap_range ts ns hsa = filter (λ a. is_between ts ns a) (range_with_len 0 (hsa + 1))
 
--- A round is due while it is open, and some rotation times after it was closed.
+-- A round is due while it is open, and some target rotation times after it was closed.
 abbrev pub is_due : Round → ℕ → ℕ → ℕ → Bool
 is_due (Open asked) now ttr gap = true
 is_due (Closed at) now ttr gap = nat_le (at + gap * ttr) now
 
--- the last address that the round has asked; a closed round begins anew
+-- the last address that the round has asked; a closed round starts again
 abbrev pub last_asked : Round → Option ℕ
 last_asked (Open asked) = asked
 last_asked (Closed at) = None
 
--- what is left of a round: the addresses of the GAP behind the last one asked, counted from the own one
+-- what is left of a round: the addresses of the GAP after the last one asked, in cyclic order from the own one
 abbrev pub left_to_ask : ℕ → ℕ → ℕ → Option ℕ → List ℕ
 left_to_ask ts ns hsa asked = filter (λ a. is_between (unwrap_or asked ts) ts a) (gap_range ts ns hsa)
 

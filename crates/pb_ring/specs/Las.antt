@@ -11,7 +11,7 @@ pub record LasTable : Type 0 where
   pub last : Option HeardToken
   pub stage : Stage
 
--- ---- how a table begins
+-- ---- the first table
 
 abbrev pub listening : LasTable
 listening = record { last = None; stage = Learning [] None }
@@ -19,7 +19,7 @@ listening = record { last = None; stage = Learning [] None }
 abbrev pub claimed : ℕ → LasTable
 claimed ts = record { last = None; stage = Complete (ts ∷ []) (Some (record { address = ts; skipped = 0 })) }
 
--- ---- what is read of it
+-- ---- what is read from it
 
 abbrev pub is_complete : Stage → Bool
 is_complete (Learning rotation closed) = false
@@ -50,7 +50,7 @@ abbrev pub is_retry : Option HeardToken → ℕ → ℕ → Bool
 is_retry None sa da = false
 is_retry (Some token) sa da = not (sa == da) && (token.source == sa && token.destination == da)
 
--- a rotation equals the one closed before
+-- a rotation equals the one closed before it
 abbrev pub is_repeated : List ℕ → Option (List ℕ) → Bool
 is_repeated rotation None = false
 is_repeated rotation (Some before) = is_same before rotation
@@ -59,7 +59,8 @@ is_repeated rotation (Some before) = is_same before rotation
 abbrev pub closed_rotation : List ℕ → Option (List ℕ) → Stage
 closed_rotation rotation closed = if is_repeated rotation closed then Complete rotation None else Learning [] (Some rotation)
 
--- A list that is not complete: the source joins the rotation, which a token that is not passed upwards closes.
+-- A list that is not complete: the source joins the rotation, which is closed by a token that is not passed to a higher
+-- address.
 abbrev pub learnt : List ℕ → Option (List ℕ) → ℕ → ℕ → Stage
 learnt rotation closed sa da =
     if nat_lt sa da then Learning (with_address sa rotation) closed else closed_rotation (with_address sa rotation) closed

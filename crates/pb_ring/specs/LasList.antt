@@ -1,4 +1,4 @@
--- The list of active stations, by the whole list of what a station has heard and done.
+-- The list of active stations, by the whole list of what the station has heard and done.
 use Rattle.std.specs.Prelude.{◌≡◌, ℕ, ◌==◌, nat_lt, Bool, true, false, ◌||◌, if◌then◌else◌, List, [], ◌∷◌, ◌++◌, filter, count_by, Option, Some, None, unwrap_or, min}
 use Rattle.std.specs.List.{after_last}
 use Rattle.std.specs.Option.{option_or}
@@ -26,7 +26,7 @@ token_of (Enters a) = None
 token_of (Leaves a) = None
 token_of (Joins ts) = None
 
--- the last token of a list; where it has none, the one before it
+-- the last token of a list; if it has none, the token before the list
 abbrev pub last_token : Option HeardToken → List Item → Option HeardToken
 last_token before [] = before
 last_token before (i ∷ is) = last_token (option_or (token_of i) before) is
@@ -50,12 +50,12 @@ without_retries last (i ∷ is) =
 abbrev pub set_of : List ℕ → List ℕ
 set_of sources = filter (λ a. is_member sources a) addresses
 
--- a closed piece: its rotation, and what comes behind it
+-- a closed piece: its rotation, and what follows it
 pub record Piece : Type 0 where
   pub rotation : List ℕ
   pub rest : List Item
 
--- the closed pieces of a list, which is cut behind each token that is not passed upwards; some sources stand before it
+-- the closed pieces of a list, each up to a token that is not passed to a higher address; some sources come before it
 abbrev pub closed_pieces : List ℕ → List Item → List Piece
 closed_pieces sources [] = []
 closed_pieces sources (Token sa da ∷ is) =
@@ -73,7 +73,7 @@ open_piece sources (Enters a ∷ is) = open_piece sources is
 open_piece sources (Leaves a ∷ is) = open_piece sources is
 open_piece sources (Joins ts ∷ is) = open_piece sources is
 
--- the first piece whose rotation equals that of the piece before
+-- the first piece whose rotation equals that of the piece before it
 abbrev pub first_repeated : Option (List ℕ) → List Piece → Option Piece
 first_repeated before [] = None
 first_repeated before (p ∷ ps) = if is_repeated p.rotation before then Some p else first_repeated (Some p.rotation) ps
@@ -95,19 +95,19 @@ abbrev pub own_after : Option ℕ → List Item → Option ℕ
 own_after own [] = own
 own_after own (i ∷ is) = own_after (own_next own i) is
 
--- what concerns an address: it is entered (true) or removed (false)
+-- what an item does to an address: it enters (true) or removes (false) it, or neither
 abbrev pub verdict : Option ℕ → Item → ℕ → Option Bool
 verdict own (Token sa da) a = if a == sa || a == da then Some true else if removes own sa da a then Some false else None
 verdict own (Enters b) a = if a == b then Some true else None
 verdict own (Leaves b) a = if a == b then Some false else None
 verdict own (Joins ts) a = if a == ts then Some true else None
 
--- the last thing that concerns an address
+-- the last item that enters or removes an address
 abbrev pub last_verdict : Option ℕ → List Item → ℕ → Option Bool
 last_verdict own [] a = None
 last_verdict own (i ∷ is) a = option_or (last_verdict (own_next own i) is a) (verdict own i a)
 
--- the members: those that the last thing which concerns them enters, and those of the first that nothing concerns
+-- the members: the addresses last entered, and those of the first members that no item enters or removes
 abbrev pub members_after : Option ℕ → List ℕ → List Item → List ℕ
 members_after own first is = filter (λ a. unwrap_or (last_verdict own is a) (is_member first a)) addresses
 
@@ -126,7 +126,7 @@ skips ts (Enters a) = false
 skips ts (Leaves a) = false
 skips ts (Joins b) = false
 
--- the tokens behind the last item about a station that skipped it, of which 255 are counted at most
+-- the tokens after the last item about a station that skipped it, at most 255
 abbrev pub skipped_by : ℕ → List Item → ℕ
 skipped_by ts is = min 255 (count_by (skips ts) (after_last (is_about ts) is))
 
@@ -144,7 +144,7 @@ abbrev pub stage_learnt : List Item → Option Piece → Stage
 stage_learnt is None = Learning (set_of (open_piece [] is)) (last_rotation None (closed_pieces [] is))
 stage_learnt is (Some piece) = complete_with None piece.rotation piece.rest
 
--- how far the list is after items without retries, since listening began or since the claim of a station
+-- the stage after items without retries, since listening began or since the claim of a station
 abbrev pub stage_of_list : Option ℕ → List Item → Stage
 stage_of_list None is = stage_learnt is (first_repeated None (closed_pieces [] is))
 stage_of_list (Some ts) is = complete_with (Some ts) (ts ∷ []) is
@@ -152,6 +152,6 @@ stage_of_list (Some ts) is = complete_with (Some ts) (ts ∷ []) is
 abbrev pub las_of_list : Option ℕ → List Item → LasTable
 las_of_list claim is = record { last = last_token None is; stage = stage_of_list claim (without_retries None is) }
 
--- A table stands for a list of what was heard and done, since listening began or since the claim of a station.
+-- A table represents a list of what was heard and done, since listening began or since the claim of a station.
 abbrev pub StandsFor : LasTable → Option ℕ → List Item → Type 0
 StandsFor table claim is = table ≡ las_of_list claim is

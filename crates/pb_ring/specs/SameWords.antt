@@ -1,4 +1,4 @@
--- A number below 2 ^ 127 is given back by the set that its bits list.
+-- A number below 2 ^ 127 is recovered from the set that its bits list.
 use Rattle.std.specs.Prelude.{◌≡◌, ℕ, ◌+◌, ◌*◌, ◌/◌, ◌%◌, ◌^◌, ◌<◌, ◌==◌, filter, refl}
 use Rattle.std.proofs.Common.{suc, zero, add-one, ap, ◌∙◌, subst, arith, inl, inr}
 use Rattle.std.specs.Int.{bit_at}
@@ -19,7 +19,7 @@ one_more r q m e = rw e (omega arith)
 no_more : (r q m : ℕ) → m ≡ r * 2 → r * (q * 2) ≡ m * q
 no_more r q m e = rw e (omega arith)
 
--- ---- the bits of a number from one place on, as a number
+-- ---- the bits of a number from an index on, as a number
 
 bits_of-run : (n a k : ℕ) → bits_of (filter (λ x. bit_at n x == 1) (range_with_len a k)) ≡ (n / 2 ^ a % 2 ^ k) * 2 ^ a
 bits_of-run n a zero = nothing_times (n / 2 ^ a % 1) (2 ^ a) (omega arith)

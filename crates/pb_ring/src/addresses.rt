@@ -29,7 +29,7 @@ impl Model for Addresses {
 }
 
 impl Addresses {
-    /// The set without addresses.
+    /// The empty set.
     pub(crate) fn none() -> Addresses
         ensures { result ≡ [] }
     {
@@ -46,8 +46,8 @@ impl Addresses {
         set
     }
 
-    /// The addresses strictly between two others, cyclic, up to a highest one. Between an address and
-    /// itself lies every other one.
+    /// The addresses strictly between two others, in cyclic order, up to a highest one. Between an address and itself
+    /// are all others.
     pub(crate) fn between(from: u8, to: u8, highest: u8) -> Addresses
         requires { highest < 127 }
         ensures { result ≡ filter (λ x. is_between from to x && nat_le x highest) addresses }
@@ -65,7 +65,7 @@ impl Addresses {
         is_set(self.bits, address)
     }
 
-    /// Puts an address into the set.
+    /// Inserts an address.
     pub(crate) fn insert(&mut self, address: u8)
         requires { address < 127 }
         ensures { self.new ≡ with_address address self.old }
@@ -73,7 +73,7 @@ impl Addresses {
         self.bits |= 1 << address;
     }
 
-    /// Takes an address out of the set.
+    /// Removes an address.
     pub(crate) fn remove(&mut self, address: u8)
         requires { address < 127 }
         ensures { self.new ≡ without_address address self.old }
@@ -81,7 +81,7 @@ impl Addresses {
         self.bits &= !(1 << address);
     }
 
-    /// What is in this set and in the other.
+    /// The intersection with another set.
     pub(crate) fn common(self, other: Addresses) -> Addresses
         ensures { result ≡ filter (λ x. is_member other x) self }
     {
@@ -90,7 +90,7 @@ impl Addresses {
         }
     }
 
-    /// What is left of the set after a token from `sa` to `da`.
+    /// The set without the addresses that a token from `sa` to `da` removes.
     pub(crate) fn without_removed(self, own: Option<u8>, sa: u8, da: u8) -> Addresses
         ensures { result ≡ filter (λ x. not (removes own sa da x)) self }
     {
@@ -107,7 +107,7 @@ impl Addresses {
         self.bits == other.bits
     }
 
-    /// The first address of the set behind an address, 0 to 126, in cyclic order; the address itself is the last.
+    /// The first address of the set after an address, 0 to 126, in cyclic order. The address itself comes last.
     pub fn first_behind(self, address: u8) -> Option<u8>
         requires { address < 127 }
         ensures value { result ≡ first_of (from_behind address self) }
@@ -119,7 +119,7 @@ impl Addresses {
         }
     }
 
-    /// The last address of the set before an address, 0 to 126, in cyclic order; the address itself is the first.
+    /// The last address of the set before an address, 0 to 126, in cyclic order. The address itself comes first.
     pub fn last_before(self, address: u8) -> Option<u8>
         requires { address < 127 }
         ensures { result ≡ last_of (from_at address self) }

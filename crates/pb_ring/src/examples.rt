@@ -1,4 +1,4 @@
-//! Worked lists and rounds, computed by the definitions themselves.
+//! Worked lists and rounds, computed by the definitions.
 
 ghost use Rattle.std.specs.Prelude.{◌≡◌, false, true, List, [], ◌∷◌, Option, Some, None};
 ghost use Rattle.pb_ring.specs.declared.gaps.Round.TheVariants.{Open, Closed};
@@ -9,8 +9,8 @@ ghost use Rattle.pb_ring.specs.Gap.{gap_range, is_due};
 ghost use Rattle.pb_ring.specs.Laws.{answers, round_at_end};
 ghost use Rattle.pb_ring.specs.Worked.{all_heard, two_rotations, over_a_station};
 
-/// A listener learns the stations 2, 5 and 9 from two rotations; as station 7 it joins them, and is then
-/// skipped twice by the token from 5 to 9.
+/// A listener learns the stations 2, 5 and 9 from two rotations. As station 7 it joins them, and the token from 5 to 9
+/// then skips it twice.
 pub fn a_listener_learns_three_stations()
     ensures learnt { (all_heard listening two_rotations).stage ≡ Complete (2 ∷ 5 ∷ 9 ∷ []) None }
     ensures joined { (readied (all_heard listening two_rotations) 7).stage
@@ -19,8 +19,8 @@ pub fn a_listener_learns_three_stations()
         ≡ Complete (2 ∷ 5 ∷ 7 ∷ 9 ∷ []) (Some (record { address = 7; skipped = 2 })) }
 {}
 
-/// After its claim station 4 is alone; 9 and 7 enter. A token of 9 to itself skips it and removes 7, and the
-/// token to it sets its count back.
+/// After its claim station 4 is alone; 9 and 7 enter. A token from 9 to itself skips station 4 and removes 7, and a
+/// token to station 4 resets its count.
 pub fn a_claim_begins_a_list()
     ensures next { next_address 4 (members_of (entered (entered (claimed 4) 9) 7).stage) ≡ 7 }
     ensures previous { previous_address 4 (members_of (entered (entered (claimed 4) 9) 7).stage) ≡ 9 }
@@ -30,8 +30,8 @@ pub fn a_claim_begins_a_list()
         ≡ Complete (4 ∷ 9 ∷ []) (Some (record { address = 4; skipped = 0 })) }
 {}
 
-/// The GAP of station 9 before station 2 wraps round; that of 2 before 3 is empty; a lone station asks all
-/// others and closes its round.
+/// The GAP of station 9 before station 2 wraps around; the GAP of station 2 before station 3 is empty. A lone station
+/// asks all others and closes its round.
 pub fn gaps_and_rounds_wrap_round()
     ensures wraps { from_behind 9 (gap_range 9 2 12) ≡ 10 ∷ 11 ∷ 12 ∷ 0 ∷ 1 ∷ [] }
     ensures empty { gap_range 2 3 12 ≡ [] }

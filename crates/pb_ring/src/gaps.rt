@@ -1,4 +1,4 @@
-//! The GAP of a station, and the rounds in which it looks for new stations there.
+//! The GAP of a station, and the rounds in which the station looks for new ones there.
 
 ghost use Rattle.std.specs.Prelude.{◌≡◌, ◌<◌, ◌≤◌, ◌^◌};
 ghost use Rattle.pb_ring.specs.AddressSets.{first_of, from_behind};
@@ -11,13 +11,13 @@ use std::marker::Model;
 /// A round through the GAP.
 #[derive(Clone, Copy, Debug, PartialEq, Eq)]
 pub enum Round {
-    /// With the last address that it asked.
+    /// The round is open. It has the last address that it asked.
     Open(Option<u8>),
-    /// With the moment at which it was closed.
+    /// The round is closed. It has the moment at which it was closed, in bit times.
     Closed(u64),
 }
 
-/// The GAP list of a station: how far the round has come in which it asks the addresses of its GAP.
+/// The GAP list of a station: how far its round through the addresses of its GAP has come.
 #[derive(Clone, Copy, Debug, PartialEq, Eq)]
 pub struct Gap {
     round: Round,
@@ -34,7 +34,7 @@ impl Model for Gap {
 }
 
 impl Gap {
-    /// A round that is open and has asked nobody. (GAP update.)
+    /// An open round that has asked no address. (GAP update.)
     pub fn fresh() -> Gap
         ensures { result ≡ Open None }
     {
@@ -43,9 +43,9 @@ impl Gap {
         }
     }
 
-    /// The GAP of the station `ts` with the next station `ns`, both 0 to 126: the addresses strictly
-    /// between them, cyclic, up to the highest station address `hsa`, 0 to 126. The GAP of a lone station,
-    /// its own next one, is every other address up to `hsa`.
+    /// The GAP of the station `ts` with the next station `ns`, both 0 to 126: the addresses strictly between them, in
+    /// cyclic order, up to the highest station address `hsa`, 0 to 126. The GAP of a lone station, which is its own
+    /// next one, is every other address up to `hsa`.
     pub fn range(ts: u8, ns: u8, hsa: u8) -> Addresses
         requires { hsa < 127 }
         ensures { result ≡ gap_range ts ns hsa }
@@ -53,8 +53,8 @@ impl Gap {
         Addresses::between(ts, ns, hsa)
     }
 
-    /// Whether a round is due at the moment `now`, in bit times: it is open, or it was closed `gap` target
-    /// rotation times `ttr` ago or longer. (GAP update: the GAP factor.)
+    /// Whether a round is due at `now`, in bit times: it is open, or it was closed at least `gap` target rotation times
+    /// `ttr` ago. (GAP update: the GAP factor.)
     pub fn due(&self, now: u64, ttr: u32, gap: u32) -> bool
         ensures { result ≡ is_due self.now now ttr gap }
     {
@@ -64,10 +64,10 @@ impl Gap {
         }
     }
 
-    /// The next address to ask, where the station `ts` has the next station `ns`: the first one of the GAP
-    /// behind the last one that the round asked, in cyclic order from `ts` on. It counts as asked, whatever
-    /// comes back. A closed round begins anew, due or not. Where no address is left the answer is None, and
-    /// the round is closed at the moment `now`, in bit times. All addresses are 0 to 126.
+    /// The next address to ask, for the station `ts` with the next station `ns`: the first one of the GAP after the
+    /// last one that the round asked, in cyclic order from `ts` on. It counts as asked, whatever the reply. A closed
+    /// round starts again, due or not. If no address is left, the result is `None` and the round is closed at `now`, in
+    /// bit times. All addresses are 0 to 126.
     pub fn next_to_ask(&mut self, ts: u8, ns: u8, hsa: u8, now: u64) -> Option<u8>
         requires own { ts < 127 }
         requires highest { hsa < 127 }
@@ -79,21 +79,20 @@ impl Gap {
         next
     }
 
-    /// The address has answered its request, or has not answered in time: the request is closed. The round
-    /// stays as it is.
+    /// The request to an address was answered or timed out. The round is unchanged.
     pub fn answered(&mut self, _address: u8)
         ensures { self.new ≡ self.old }
     {}
 }
 
-/// Whether `gap` target rotation times have passed since a moment.
+/// Whether `gap` target rotation times have passed since `at`.
 fn is_past(at: u64, now: u64, ttr: u32, gap: u32) -> bool
     ensures { result ≡ is_due (Closed at) now ttr gap }
 {
     at <= now && u64::from(gap) * u64::from(ttr) <= now - at
 }
 
-/// The first address that is left of a round.
+/// The first address that the round has not asked.
 fn first_left(round: Round, ts: u8, ns: u8, hsa: u8) -> Option<u8>
     requires own { ts < 127 }
     requires highest { hsa < 127 }
@@ -106,7 +105,7 @@ fn first_left(round: Round, ts: u8, ns: u8, hsa: u8) -> Option<u8>
     left_of_round(ts, ns, hsa, asked).first_behind(ts)
 }
 
-/// What is left of a round that has asked up to an address.
+/// The addresses of the GAP that are left after a round has asked up to an address.
 fn left_of_round(ts: u8, ns: u8, hsa: u8, asked: Option<u8>) -> Addresses
     requires { hsa < 127 }
     ensures { result ≡ left_to_ask ts ns hsa asked }

@@ -1,4 +1,4 @@
-//! What a token telegram, or another change, does to a list of active stations.
+//! How a heard token, or another change, updates a list of active stations.
 
 ghost use Rattle.std.specs.Prelude.{◌≡◌, ◌<◌, Bool};
 ghost use Rattle.pb_ring.specs.Las.{is_retry, is_repeated, closed_rotation, learnt, own_of, corrected, skips_after, place_after, stage_heard, stage_entered, stage_removed, stage_readied, members_of};
@@ -7,7 +7,7 @@ use crate::addresses::Addresses;
 use crate::stages::{HeardToken, Place, Stage};
 use crate::words::lies_between;
 
-/// Whether a token is a retry: one to another station that equals the last one heard.
+/// Whether a token is a retry: it goes to another station, and equals the last token heard.
 pub fn is_heard_again(last: Option<HeardToken>, sa: u8, da: u8) -> bool
     ensures { result ≡ is_retry last sa da }
 {
@@ -17,7 +17,7 @@ pub fn is_heard_again(last: Option<HeardToken>, sa: u8, da: u8) -> bool
     }
 }
 
-/// A token that is no retry is heard.
+/// Updates the list by a token that is no retry.
 pub fn hear_token(stage: &mut Stage, sa: u8, da: u8)
     requires source { sa < 127 }
     requires destination { da < 127 }
@@ -35,7 +35,7 @@ pub fn hear_token(stage: &mut Stage, sa: u8, da: u8)
     }
 }
 
-/// A station enters a complete list.
+/// Adds a station to a complete list.
 pub fn entered_stage(stage: Stage, address: u8) -> Stage
     requires { address < 127 }
     ensures { result ≡ stage_entered stage address }
@@ -50,7 +50,7 @@ pub fn entered_stage(stage: Stage, address: u8) -> Stage
     }
 }
 
-/// A station leaves a complete list.
+/// Removes a station from a complete list.
 pub fn removed_stage(stage: Stage, address: u8) -> Stage
     requires { address < 127 }
     ensures { result ≡ stage_removed stage address }
@@ -65,7 +65,7 @@ pub fn removed_stage(stage: Stage, address: u8) -> Stage
     }
 }
 
-/// The own station joins the ring of a complete list.
+/// Lets the own station join the ring of a complete list.
 pub fn readied_stage(stage: Stage, ts: u8) -> Stage
     requires { ts < 127 }
     ensures { result ≡ stage_readied stage ts }
@@ -94,7 +94,7 @@ pub fn active_stations(stage: Stage) -> Addresses
     }
 }
 
-/// The source joins the rotation, which is closed where the token is not passed upwards.
+/// Adds the source to the rotation, which is closed if the token is not passed to a higher address.
 fn learn(rotation: Addresses, closed: Option<Addresses>, sa: u8, da: u8) -> Stage
     requires { sa < 127 }
     ensures { result ≡ learnt rotation closed sa da }
@@ -117,7 +117,7 @@ fn own_address(place: Option<Place>) -> Option<u8>
     }
 }
 
-/// A token corrects the members of a complete list.
+/// Corrects the members of a complete list by a token.
 fn correct(members: &mut Addresses, own: Option<u8>, sa: u8, da: u8)
     requires source { sa < 127 }
     requires destination { da < 127 }
@@ -128,7 +128,7 @@ fn correct(members: &mut Addresses, own: Option<u8>, sa: u8, da: u8)
     members.insert(sa);
 }
 
-/// A token skips the own station in the ring, or doesn't.
+/// Updates the own station's count of tokens that skipped it.
 fn count_skips(place: &mut Option<Place>, sa: u8, da: u8)
     ensures { place.new ≡ place_after place.old sa da }
 {
@@ -137,7 +137,7 @@ fn count_skips(place: &mut Option<Place>, sa: u8, da: u8)
     }
 }
 
-/// A rotation that equals the one closed before it completes the list.
+/// Closes a rotation. If it equals the one closed before it, the list is complete.
 fn close_rotation(rotation: Addresses, closed: Option<Addresses>) -> Stage
     ensures { result ≡ closed_rotation rotation closed }
 {

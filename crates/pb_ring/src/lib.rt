@@ -1,8 +1,8 @@
 //! The list of active stations and the GAP list of a station.
 //!
-//! A station keeps the list of active stations (LAS) from the token telegrams that it hears: `Las`. From
-//! it come the next and the previous station of the ring. In the GAP, the addresses up to its next
-//! station, it looks for new stations, one address at a time: `Gap`. Addresses are 0 to 126.
+//! A station keeps the list of active stations (LAS) from the token telegrams that it hears: `Las`. The next and the
+//! previous station of the ring are read from it. In the GAP, the addresses up to its next station, it looks for new
+//! stations, one address at a time: `Gap`. Addresses are 0 to 126.
 #![tactic(auto)]
 
 mod addresses;

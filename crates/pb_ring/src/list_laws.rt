@@ -1,4 +1,4 @@
-//! What the list of active stations is: laws of its tables.
+//! What a list of active stations is: laws of its tables.
 
 ghost use Rattle.std.specs.Prelude.{◌≡◌, ◌+◌, ◌<◌, ◌==◌, ◌||◌, ℕ, Bool, true, false, List, [], ◌∷◌, ◌++◌, Option, Some, None, min};
 ghost use Rattle.pb_ring.specs.declared.stages.Place.{Place};
@@ -8,14 +8,14 @@ ghost use Rattle.pb_ring.specs.Las.{LasTable, listening, claimed, heard, entered
 ghost use Rattle.pb_ring.specs.LasList.{Item, Token, Enters, Leaves, Joins, StandsFor};
 ghost use Rattle.pb_ring.specs.Laws.{CountsTo};
 
-/// A new list stands for nothing heard.
+/// A new list represents that nothing was heard.
 pub fn a_new_list_stands_for_nothing_heard()
     ensures listening { StandsFor listening None [] }
     ensures claimed { (ts : ℕ) → ts < 127 → StandsFor (claimed ts) (Some ts) [] }
 {}
 
-/// A list stands for all that was heard and done, since listening began or since the claim: whatever it
-/// stands for before a call, it stands for that with the call behind it.
+/// A list represents all that was heard and done since listening began or since the claim: each call appends itself to
+/// what the list represents.
 pub fn a_list_stands_for_what_was_heard_and_done()
     ensures heard { (t : LasTable) (claim : Option ℕ) (is : List Item) (sa da : ℕ) → sa < 127 → da < 127
         → StandsFor t claim is
@@ -31,7 +31,7 @@ pub fn a_list_stands_for_what_was_heard_and_done()
         → StandsFor (readied t ts) claim (is ++ Joins ts ∷ []) }
 {}
 
-/// The members of a list that stands for something are a set of addresses, each below the next.
+/// The members of a list are a set of addresses in ascending order.
 pub fn the_members_are_a_set()
     ensures ascending { (t : LasTable) (claim : Option ℕ) (is : List Item) → StandsFor t claim is
         → IsAscending (members_of t.stage) }
@@ -39,8 +39,8 @@ pub fn the_members_are_a_set()
         → is_member (members_of t.stage) a ≡ true → a < 127 }
 {}
 
-/// The next and the previous station of a member are members, and each is the other's inverse. No member
-/// lies strictly between a station and its next one.
+/// The next and the previous station of a member are members, and the two functions are inverse to each other. No
+/// member is strictly between a station and its next one.
 pub fn neighbours_are_each_others_inverse()
     ensures next { (members : List ℕ) (ts : ℕ) → IsAscending members → is_member members ts ≡ true
         → is_member members (next_address ts members) ≡ true }
@@ -54,14 +54,14 @@ pub fn neighbours_are_each_others_inverse()
         → is_between ts (next_address ts members) a ≡ false }
 {}
 
-/// A lone station is its own next and previous one.
+/// A lone station is its own next and previous station.
 pub fn a_lone_station_is_its_own_neighbour()
     ensures next { (ts : ℕ) → next_address ts (ts ∷ []) ≡ ts }
     ensures previous { (ts : ℕ) → previous_address ts (ts ∷ []) ≡ ts }
 {}
 
-/// A token between others that skips a station in the ring raises its count by one, up to 255; one from
-/// it or to it sets the count to 0; any other leaves it. A retry changes nothing in the list.
+/// A token between others that skips a station in the ring increments its count, up to 255; a token from or to the
+/// station resets it to 0; any other token leaves it. A retry does not change the list.
 pub fn skips_are_counted()
     ensures skipped { (t : LasTable) (members : List ℕ) (place : Place) (sa da : ℕ)
         → t.stage ≡ Complete members (Some place)

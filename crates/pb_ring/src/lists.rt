@@ -11,7 +11,7 @@ use crate::learning::{
 use crate::stages::{HeardToken, Place, Stage};
 use std::marker::Model;
 
-/// The list of active stations (LAS) of a station, as it learns it from the token telegrams that it hears.
+/// The list of active stations (LAS) of a station, learned from the token telegrams that it hears.
 #[derive(Clone, Copy, Debug, PartialEq, Eq)]
 pub struct Las {
     last: Option<HeardToken>,
@@ -29,8 +29,8 @@ impl Model for Las {
 }
 
 impl Las {
-    /// The list of a station that begins to listen: nothing is heard, and the list is not complete.
-    /// (LAS formation, in Listen_Token.)
+    /// The list of a station that starts to listen: nothing was heard, and the list is not complete. (LAS formation, in
+    /// Listen_Token.)
     pub fn listening() -> Las
         ensures { result ≡ listening }
     {
@@ -40,8 +40,8 @@ impl Las {
         }
     }
 
-    /// The list of a station with the address `ts`, 0 to 126, that has claimed the token: it is complete,
-    /// the station alone is in it, and it is in the ring. No token is remembered as heard.
+    /// The list of a station with the address `ts`, 0 to 126, that has claimed the token. The list is complete, with
+    /// the station as its only member, in the ring. No token counts as heard.
     pub fn claimed(ts: u8) -> Las
         requires { ts < 127 }
         ensures { result ≡ claimed ts }
@@ -56,17 +56,17 @@ impl Las {
         }
     }
 
-    /// Whether another list is equal to it.
+    /// Whether two lists are equal.
     pub fn is_same(&self, other: &Las) -> bool
         ensures { IsTrue result ↔ (self.now ≡ other.now) }
     {
         self.last == other.last && self.stage.is_same(&other.stage)
     }
 
-    /// A token telegram from `sa` to `da`, 0 to 126, is heard. A retry adds nothing. Before the list is
-    /// complete, `sa` joins the rotation, and two equal rotations complete the list; from then on, those
-    /// strictly between `sa` and `da` leave the list (save the own station in the ring), and `sa` and `da`
-    /// enter it. (LAS formation and its corrections by heard tokens.)
+    /// Updates the list by a token telegram from `sa` to `da`, 0 to 126. A retry changes nothing. Before the list is
+    /// complete, `sa` joins the rotation, and two equal rotations complete the list. After that, the addresses strictly
+    /// between `sa` and `da` leave the list (except the own station in the ring), and `sa` and `da` enter it. (LAS
+    /// formation and its corrections by heard tokens.)
     pub fn hear(&mut self, sa: u8, da: u8)
         requires source { sa < 127 }
         requires destination { da < 127 }
@@ -91,7 +91,7 @@ impl Las {
         }
     }
 
-    /// A station with this address, 0 to 126, enters the list, which is complete. (GAP update: a new
+    /// Adds the station with this address, 0 to 126. The caller ensures that the list is complete. (GAP update: a new
     /// station has answered that it is ready.)
     pub fn enter(&mut self, address: u8)
         requires station { address < 127 }
@@ -101,7 +101,7 @@ impl Las {
         self.stage = entered_stage(self.stage, address);
     }
 
-    /// The station with this address, 0 to 126, leaves the list, which is complete. (Token passing: a
+    /// Removes the station with this address, 0 to 126. The caller ensures that the list is complete. (Token passing: a
     /// next station that does not take the token.)
     pub fn remove(&mut self, address: u8)
         requires station { address < 127 }
@@ -111,7 +111,7 @@ impl Las {
         self.stage = removed_stage(self.stage, address);
     }
 
-    /// Whether the station with this address, 0 to 126, is in the list. Before the list is complete none is.
+    /// Whether the station with this address, 0 to 126, is in the list. Before the list is complete, none is.
     pub fn contains(&self, address: u8) -> bool
         requires { address < 127 }
         ensures { result ≡ is_member (members_of self.now.stage) address }
@@ -119,8 +119,8 @@ impl Las {
         active_stations(self.stage).contains(address)
     }
 
-    /// The next station (NS) of the station `ts`, 0 to 126: the next address of the list above it, else the
-    /// lowest. A station is its own next one where no other is in the list.
+    /// The next station (NS) of the station `ts`, 0 to 126: the next higher address of the list, else the lowest. A
+    /// station is its own next one if no other is in the list.
     pub fn ns(&self, ts: u8) -> u8
         requires { ts < 127 }
         ensures value { result ≡ next_address ts (members_of self.now.stage) }
@@ -129,8 +129,8 @@ impl Las {
         active_stations(self.stage).first_behind(ts).unwrap_or(ts)
     }
 
-    /// The previous station (PS) of the station `ts`, 0 to 126: the next address of the list below it, else
-    /// the highest. A station is its own previous one where no other is in the list.
+    /// The previous station (PS) of the station `ts`, 0 to 126: the next lower address of the list, else the highest. A
+    /// station is its own previous one if no other is in the list.
     pub fn ps(&self, ts: u8) -> u8
         requires { ts < 127 }
         ensures { result ≡ previous_address ts (members_of self.now.stage) }
@@ -138,8 +138,8 @@ impl Las {
         active_stations(self.stage).last_before(ts).unwrap_or(ts)
     }
 
-    /// The station itself, with the address `ts`, 0 to 126, joins the ring and enters the list, which is
-    /// complete. No token has skipped it yet. The last heard token stays remembered.
+    /// The station itself, with the address `ts`, 0 to 126, joins the ring and enters the list. The caller ensures that
+    /// the list is complete. No token has skipped it yet. The last heard token stays remembered.
     pub fn ready(&mut self, ts: u8)
         requires station { ts < 127 }
         requires complete { is_complete self.old.stage ≡ true }
@@ -148,9 +148,9 @@ impl Las {
         self.stage = readied_stage(self.stage, ts);
     }
 
-    /// How many token telegrams have skipped the station since it joined the ring, or since the last token
-    /// from or to it: those between others, with the station strictly between them. It stays at 255, and is
-    /// 0 where the station has not joined.
+    /// How many token telegrams have skipped the station since it joined the ring, or since the last token from or to
+    /// it: those between others, with the station strictly between them. The count saturates at 255. It is 0 if the
+    /// station has not joined.
     pub fn skipped(&self) -> u8
         ensures { result ≡ skips_of (place_of self.now.stage) }
     {

@@ -1,4 +1,4 @@
-//! What a list of active stations is made of.
+//! The parts of a list of active stations.
 
 ghost use Rattle.std.specs.Prelude.{◌≡◌, IsTrue, ◌↔◌};
 
@@ -11,26 +11,26 @@ pub struct HeardToken {
     pub destination: u8,
 }
 
-/// The own station in the ring: its address, and how many tokens have skipped it.
+/// The own station in the ring: its address, and how many tokens have skipped it, at most 255.
 #[derive(Clone, Copy, Debug, PartialEq, Eq)]
 pub struct Place {
     pub address: u8,
     pub skipped: u8,
 }
 
-/// How far the list has come.
+/// How far the list is learned.
 #[derive(Clone, Copy, Debug, PartialEq, Eq)]
 pub enum Stage {
-    /// The sources of the rotation in progress, and the rotation closed before it.
+    /// Not complete: the sources of the rotation in progress, and the rotation closed before it.
     Learning(Addresses, Option<Addresses>),
-    /// The active stations, and the own place once the station has joined the ring.
+    /// Complete: the active stations, and the own place once the station has joined the ring.
     Complete(Addresses, Option<Place>),
 }
 
 impl Stage {
     ghost use Rattle.std.specs.Prelude.{◌≡◌, IsTrue, ◌↔◌};
 
-    /// Whether another is equal to it.
+    /// Whether two stages are equal.
     pub(crate) fn is_same(&self, other: &Stage) -> bool
         ensures { IsTrue result ↔ (self.now ≡ other.now) }
     {

@@ -1,11 +1,11 @@
-//! Sets of addresses in the bits of a number.
+//! Sets of addresses as the bits of a number.
 
 ghost use Rattle.std.specs.Prelude.{◌≡◌, ℕ, ◌-◌, ◌<◌, ◌≤◌, ◌==◌, ◌&&◌, ◌^◌, min, not, nat_le, nat_lt, filter, IfSome};
 ghost use Rattle.std.specs.Int.{bit_at};
 ghost use Rattle.pb_ring.specs.AddressSets.{addresses, is_between, is_own, removes, first_of, last_of};
 ghost use Rattle.pb_ring.specs.Words.{listed, IsSetOf};
 
-/// Whether an address lies strictly between two others, going up from the first and on from the lowest.
+/// Whether an address is strictly between two others, in cyclic order.
 pub fn lies_between(from: u8, to: u8, address: u8) -> bool
     ensures { result ≡ is_between from to address }
 {
@@ -49,8 +49,8 @@ pub fn highest_set(bits: u128, low: u8, high: u8) -> Option<u8>
     Some(highest_bit(left))
 }
 
-/// The bits of all addresses that a token takes out of a list, up to a highest one: those strictly between source and
-/// destination, but for the own station in the ring.
+/// The bits of all addresses, up to a highest one, that a token removes from a list: those strictly between source and
+/// destination, except the own station in the ring.
 pub fn set_removed(own: Option<u8>, sa: u8, da: u8, highest: u8) -> u128
     requires { highest < 127 }
     ensures value { listed result ≡ filter (λ x. removes own sa da x && nat_le x highest) addresses }
@@ -59,7 +59,7 @@ pub fn set_removed(own: Option<u8>, sa: u8, da: u8, highest: u8) -> u128
     set_between(sa, da) & all_but(own) & below(highest + 1)
 }
 
-/// The bits of the addresses strictly between two others, going up from the first and on from the lowest.
+/// The bits of the addresses strictly between two others, in cyclic order.
 fn set_between(from: u8, to: u8) -> u128
     ensures { IsSetOf (is_between from to) result }
 {
@@ -72,7 +72,7 @@ fn set_between(from: u8, to: u8) -> u128
     }
 }
 
-/// The bits of all addresses but the own one, if there is one.
+/// The bits of all addresses except the own one, if there is one.
 fn all_but(own: Option<u8>) -> u128
     ensures { IsSetOf (λ x. not (is_own own x)) result }
 {
@@ -90,14 +90,14 @@ fn within(bits: u128, low: u8, high: u8) -> u128
     bits & below(high) & !below(low)
 }
 
-/// The bits of all addresses below one.
+/// The bits of all addresses below an address.
 fn below(address: u8) -> u128
     ensures { result ≡ 2 ^ min address 127 - 1 }
 {
     (1u128 << address.min(127)) - 1
 }
 
-/// The place of the lowest bit that is set.
+/// The index of the lowest set bit.
 fn lowest_bit(bits: u128) -> u8
     requires { 0 < bits }
     ensures set { bit_at bits result ≡ 1 }
@@ -106,7 +106,7 @@ fn lowest_bit(bits: u128) -> u8
     bits.trailing_zeros() as u8
 }
 
-/// The place of the highest bit that is set.
+/// The index of the highest set bit.
 fn highest_bit(bits: u128) -> u8
     requires { 0 < bits }
     ensures set { bit_at bits result ≡ 1 }

@@ -1,18 +1,18 @@
--- The target rotation time over all that a station did with the token.
+-- The target rotation time, by everything that a station did with the token.
 use Rattle.std.specs.Prelude.{ℕ, Bool, false, ◌||◌, List, [], ◌∷◌, reverse, is_none, Option, Some, None}
 
--- the token comes, or a high priority cycle is started with it
+-- the token is received, or a high priority cycle is started with it
 pub data Happening : Type 0 where
   Received : ℕ → Happening
   StartedHigh : Happening
 
--- the moments at which the token came
+-- the moments at which the token was received
 abbrev pub receipts : List Happening → List ℕ
 receipts [] = []
 receipts (Received at ∷ happenings) = at ∷ receipts happenings
 receipts (StartedHigh ∷ happenings) = receipts happenings
 
--- the first of receipts that stand from the newest on
+-- the newest of receipts in order from the newest
 abbrev pub newest : List ℕ → Option ℕ
 newest [] = None
 newest (last ∷ older) = Some last
@@ -23,7 +23,7 @@ has_started_high [] = false
 has_started_high (Received at ∷ happenings) = has_started_high happenings
 has_started_high (StartedHigh ∷ happenings) = is_none (newest (receipts happenings)) || has_started_high happenings
 
--- the second of receipts that stand from the newest on, or the only one
+-- the second newest of receipts in order from the newest, or the only one
 abbrev pub previous : List ℕ → Option ℕ
 previous [] = None
 previous (last ∷ []) = Some last

@@ -43,7 +43,7 @@ holding_left r now = left_of r.ttr r.last now
 abbrev pub may_low : Rotation → ℕ → Bool
 may_low r now = nat_lt 0 (holding_left r now)
 
--- whether none of high priority was started since the last receipt
+-- whether no high priority cycle was started since the last receipt
 abbrev pub is_unused : Option Receipt → Bool
 is_unused None = false
 is_unused (Some last) = not last.high
@@ -52,7 +52,7 @@ is_unused (Some last) = not last.high
 abbrev pub may_high : Rotation → ℕ → Bool
 may_high r now = may_low r now || is_unused r.last
 
--- what a station keeps is what follows from its target rotation time and all that it did with the token
+-- the kept values follow from the target rotation time and everything that the station did with the token
 pub record StandsFor (ttr : ℕ) (r : Rotation) (happenings : List Happening) : Type 0 where
   pub target : r.ttr ≡ ttr
   pub measured : option_map (λ last. last.previous) r.last ≡ measured_from happenings

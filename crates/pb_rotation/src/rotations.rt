@@ -1,3 +1,5 @@
+//! Keeps the last two receipts of the token, and decides which cycles may start.
+
 ghost use Rattle.std.specs.Prelude.{◌≡◌};
 ghost use Rattle.std.specs.Option.{option_map};
 ghost use Rattle.pb_rotation.specs.Rotation as model;
@@ -6,19 +8,19 @@ ghost use Rattle.pb_rotation.specs.RotationViews.{receipt_of};
 use pb_timers::Moment;
 use std::marker::Model;
 
-/// A receipt of the token.
+/// A receipt of the token by the station.
 #[derive(Clone, Copy, Debug, PartialEq, Eq)]
 struct Receipt {
-    /// The receipt before it; at the first one itself.
+    /// The moment of the receipt before this one; at the first receipt, its own moment.
     previous: Moment,
     at: Moment,
-    /// Whether a high priority cycle was started since.
+    /// Whether a high priority cycle was started since this receipt.
     high: bool,
 }
 
-/// How long a station may hold the token, from the receipts of the token (EN 50170-2, token holding
-/// time): a rotation that took long leaves little time, and one that took longer than the target rotation
-/// time leaves none but for a first high priority cycle.
+/// How long a station may hold the token, from its receipts of the token (EN 50170-2, token holding time). The longer
+/// the last rotation took, the less time is left. If it took longer than the target rotation time, only one high
+/// priority cycle may start.
 #[derive(Clone, Copy, Debug, PartialEq, Eq)]
 pub struct Rotation {
     ttr: u32,
@@ -43,7 +45,7 @@ impl Rotation {
     ghost use Rattle.pb_rotation.specs.Receipts as heard;
     ghost use Rattle.pb_rotation.specs.Rotation as model;
 
-    /// Nothing is received yet; the target rotation time in bit times.
+    /// A station that has not received the token. `ttr` is the target rotation time, in bit times.
     pub fn new(ttr: u32) -> Rotation
         ensures value { result ≡ model.fresh ttr }
         ensures stands { model.StandsFor ttr result [] }
@@ -58,8 +60,7 @@ impl Rotation {
         self.ttr
     }
 
-    /// The station receives the token, at a moment: the rotation that began with the receipt before is
-    /// over.
+    /// Records that the station receives the token at `at`. This ends the rotation that began with the receipt before.
     pub fn received(&mut self, at: Moment)
         ensures value { self.new ≡ model.received self.old at }
         ensures stands { (ttr : ℕ) (happenings : List heard.Happening)
@@ -73,9 +74,9 @@ impl Rotation {
         });
     }
 
-    /// How long the station may still hold the token, in bit times, at a moment: up to the target rotation
-    /// time after the receipt before the last, or after the only one; 0 where that is over. The token was
-    /// received before, the caller's condition.
+    /// How long the station may still hold the token at `now`, in bit times: until the target rotation time after the
+    /// receipt before the last, or after the only one; 0 if that has passed. The caller ensures that the token was
+    /// received before.
     pub fn holding_left(&self, now: Moment) -> u64
         requires { IsSome self.now.last }
         ensures value { result ≡ model.holding_left self.now now }
@@ -89,9 +90,8 @@ impl Rotation {
         (last.previous.get() + u64::from(self.ttr)).saturating_sub(now.get())
     }
 
-    /// Whether a high priority cycle may start, at a moment: where holding time is left, and where none is,
-    /// if no high priority cycle was started since the last receipt. The token was received before, the caller's
-    /// condition.
+    /// Whether a high priority cycle may start at `now`: holding time is left, or no high priority cycle was started
+    /// since the last receipt. The caller ensures that the token was received before.
     pub fn may_high(&self, now: Moment) -> bool
         requires { IsSome self.now.last }
         ensures value { result ≡ model.may_high self.now now }
@@ -103,7 +103,7 @@ impl Rotation {
         self.may_low(now) || self.last.is_some_and(|last| !last.high)
     }
 
-    /// A high priority cycle is started. The token was received before, the caller's condition.
+    /// Records that a high priority cycle is started. The caller ensures that the token was received before.
     pub fn started_high(&mut self)
         requires { IsSome self.old.last }
         ensures value { self.new ≡ model.started_high self.old }
@@ -114,8 +114,8 @@ impl Rotation {
         self.last = used(self.last);
     }
 
-    /// Whether a low priority cycle may start, at a moment: where holding time is left. The token was
-    /// received before, the caller's condition.
+    /// Whether a low priority cycle may start at `now`: holding time is left. The caller ensures that the token was
+    /// received before.
     pub fn may_low(&self, now: Moment) -> bool
         requires { IsSome self.now.last }
         ensures value { result ≡ model.may_low self.now now }
@@ -127,7 +127,7 @@ impl Rotation {
     }
 }
 
-/// The receipt before one at a moment.
+/// The moment of the last receipt; `at` if there is none.
 fn before(last: Option<Receipt>, at: Moment) -> Moment
     ensures { result ≡ model.before (option_map receipt_of last) at }
 {
@@ -137,7 +137,7 @@ fn before(last: Option<Receipt>, at: Moment) -> Moment
     }
 }
 
-/// A receipt since which a high priority cycle was started.
+/// The same receipt, with a high priority cycle started since.
 fn used(last: Option<Receipt>) -> Option<Receipt>
     ensures { option_map receipt_of result ≡ option_map model.used (option_map receipt_of last) }
 {

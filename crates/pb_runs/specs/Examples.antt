@@ -23,7 +23,7 @@ trace_with taps steps until = trace_of (record { params = example_bus; taps = ta
 abbrev pub events_with : List TapSpec → List Planned → ℕ → Option (Result (List Event) RunFault)
 events_with taps steps until = events_of (record { params = example_bus; taps = taps; steps = steps; until = until })
 
--- the run of a scenario leaves a trace; has events; ends by a fault
+-- the run of a scenario leaves a trace; has events; ends with a fault
 abbrev pub Leaves : List TapSpec → List Planned → ℕ → List Entry → Type 0
 Leaves taps steps until entries = trace_with taps steps until ≡ Some (Ok entries)
 
@@ -43,11 +43,11 @@ both_start = at 0 (Start 0) ∷ at 0 (Start 1) ∷ []
 abbrev pub first_starts_at : ℕ → List Planned
 first_starts_at moment = at 0 (Start 1) ∷ at moment (Start 0) ∷ []
 
--- the first alone starts, and then comes what else is planned
+-- only the first starts, and then the other steps follow
 abbrev pub alone_with : List Planned → List Planned
 alone_with steps = at 0 (Start 0) ∷ steps
 
--- two masters form a ring: the first claims the token, asks the second, and passes it the token
+-- two masters form a ring: the first claims the token, asks the second, and passes the token to it
 abbrev pub ring_forms : List Entry
 ring_forms =
     sent 0 800 833 (0xdc ∷ 0x01 ∷ 0x01 ∷ []) (Own ∷ Whole ∷ [])
@@ -71,11 +71,11 @@ both_speak =
     ∷ sent 1 1253 1319 (0x10 ∷ 0x03 ∷ 0x02 ∷ 0x49 ∷ 0x4e ∷ 0x16 ∷ []) (Damaged ∷ Own ∷ [])
     ∷ []
 
--- the second is withheld a bit time less
+-- the second is withheld one bit time less
 abbrev pub speaks_late : List Entry
 speaks_late = sent 1 1252 1318 (0x10 ∷ 0x03 ∷ 0x02 ∷ 0x49 ∷ 0x4e ∷ 0x16 ∷ []) (Whole ∷ Own ∷ []) ∷ []
 
--- what the second asks is lost at the first, which passes the token again
+-- the request of the second is lost at the first, which passes the token again
 abbrev pub asks_unheard : List Entry
 asks_unheard =
     sent 1 1190 1256 (0x10 ∷ 0x03 ∷ 0x02 ∷ 0x49 ∷ 0x4e ∷ 0x16 ∷ []) (trace.Unheard ∷ Own ∷ [])
@@ -97,14 +97,14 @@ noise_then_claim = trace.Noise (record { begin = 100; end = 150 }) ∷ sent 0 95
 abbrev pub claim_at : ℕ → ℕ → List Entry
 claim_at begin end = sent 0 begin end (0xdc ∷ 0x01 ∷ 0x01 ∷ []) (Own ∷ []) ∷ []
 
--- the first starts amid the second's claim, and hears no more than that something was there
+-- the first starts during the second's claim, and hears only that there was activity
 abbrev pub started_amid_claim : List Entry
 started_amid_claim =
     sent 1 1000 1033 (0xdc ∷ 0x02 ∷ 0x02 ∷ []) (Damaged ∷ Own ∷ [])
     ∷ sent 1 1070 1103 (0xdc ∷ 0x02 ∷ 0x02 ∷ []) (Whole ∷ Own ∷ [])
     ∷ []
 
--- what else is planned in these
+-- the steps of these scenarios
 abbrev pub second_held_for : ℕ → List Planned
 second_held_for bits = both_start ++ withheld 1190 1 bits ∷ []
 
@@ -134,28 +134,28 @@ claim_heard = Start 0 ∷ Start 1 ∷ Pass 800 ∷ Turn 0 ∷ Pass 1 ∷ Turn 1 
 abbrev pub both_turn : List Event
 both_turn = Start 1 ∷ Pass 200 ∷ Start 0 ∷ Pass 800 ∷ Turn 0 ∷ Turn 1 ∷ Pass 1 ∷ Turn 0 ∷ Turn 1 ∷ []
 
--- a withholding from 700 to 760, and one that it outlasts
+-- a withholding from 700 to 760, and one that ends earlier
 abbrev pub held_twice : List Planned
 held_twice = withheld 700 0 60 ∷ withheld 710 0 10 ∷ []
 
 abbrev pub held_till_760 : List Event
 held_till_760 = Start 0 ∷ Pass 700 ∷ Pass 10 ∷ Pass 50 ∷ Pass 40 ∷ Turn 0 ∷ Pass 1 ∷ Pass 9 ∷ []
 
--- a telegram that doesn't begin is to be lost, which is said after the others
+-- a telegram that does not begin is to be lost; this comes after the other steps
 abbrev pub nothing_to_lose : List Planned
 nothing_to_lose = at 5 (Start 1) ∷ at 5 (Unheard 0 1) ∷ at 5 (Start 0) ∷ []
 
--- ---- what is known of worked worlds
+-- ---- outlooks of worked worlds
 
 abbrev pub known_of : Option World → Option (List (Option ℕ) × Option ℕ)
 known_of None = None
 known_of (Some w) = Some (dues w, next_change w)
 
--- after some events the two taps are due so, and that is the next change
+-- after some events the two taps are due at these moments, and this is the next change
 abbrev pub Knows : List Event → Option ℕ → Option ℕ → Option ℕ → Type 0
 Knows events first second change = known_of (world_of two_masters events) ≡ Some (first ∷ second ∷ [], change)
 
--- the same on a bus where a telegram takes 15 bit times to the other taps
+-- the same on a bus with a cable delay of 15 bit times
 abbrev pub KnowsLate : List Event → Option ℕ → Option ℕ → Option ℕ → Type 0
 KnowsLate events first second change =
     known_of (replay_from (new_world (record example_bus { ttd = 15 }) two_masters) events) ≡ Some (first ∷ second ∷ [], change)
@@ -164,7 +164,7 @@ KnowsLate events first second change =
 abbrev pub claims_with : List Event → List Event
 claims_with events = Start 0 ∷ Start 1 ∷ Pass 800 ∷ Turn 0 ∷ events
 
--- the first alone starts, and claims the token
+-- only the first starts, and claims the token
 abbrev pub claims_alone_with : List Event → List Event
 claims_alone_with events = Start 0 ∷ Pass 800 ∷ Turn 0 ∷ events
 
@@ -179,6 +179,6 @@ starts_after bits = claims_alone_with (Pass bits ∷ Start 1 ∷ [])
 abbrev pub starts_with_claim : List Event
 starts_with_claim = Start 0 ∷ Pass 800 ∷ Start 1 ∷ Turn 0 ∷ []
 
--- it starts as the claim has ended at the first, and not yet reached it
+-- the second starts when the claim has ended at the first and has not yet reached the second
 abbrev pub starts_on_its_way : List Event
 starts_on_its_way = claims_alone_with (Pass 33 ∷ Pass 5 ∷ Start 1 ∷ [])

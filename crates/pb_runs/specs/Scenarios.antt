@@ -1,4 +1,4 @@
--- Scenarios: a bus, and what happens on it from outside. What a scenario's run on one thread is.
+-- Scenarios: a bus, and what happens on it from outside. The run of a scenario on one thread.
 use Rattle.std.specs.Prelude.{ℕ, ◌+◌, Bool, true, false, nat_le, ◌==◌, List, [], ◌∷◌, max, Option, Some, None, Result, Ok, Err, if◌then◌else◌}
 use Rattle.std.specs.List.{filter_map}
 use Rattle.pb_timers.specs.Timers.{Params}
@@ -9,7 +9,7 @@ use Rattle.pb_model.specs.World.{World, Event, Unheard, Turn, Pass, Damage, Star
 use Rattle.pb_runs.specs.Runs.{Plan, after, run}
 use Rattle.pb_runs.specs.Bus.{bus}
 
--- what a step does: an event happens, or a tap takes no turn for some time
+-- what a step does: it triggers an event, or withholds a tap
 pub data Deed : Type 0 where
   Happens : (event : Event) → Deed
   Withhold : (tap bits : ℕ) → Deed
@@ -27,7 +27,8 @@ pub record Scenario : Type 0 where
 
 -- ---- the plan
 
--- that a telegram is lost at a tap is said after the turns, as it begins with one; all else before them
+-- the loss of a telegram at a tap comes after the turns, because that telegram begins with one; all other events come
+-- before them
 abbrev pub is_late : Event → Bool
 is_late (Turn tap) = false
 is_late (Pass bits) = false
@@ -60,7 +61,7 @@ deed_holds tap at (Withhold of bits) = if of == tap then at + bits else 0
 abbrev pub holds_until : ℕ → ℕ → Planned → ℕ
 holds_until now tap s = if nat_le s.at now then deed_holds tap s.at s.deed else 0
 
--- until when the steps up to now withhold a tap: the latest end counts
+-- until when the steps up to now withhold a tap: the latest end
 abbrev pub held_until : List Planned → ℕ → ℕ → ℕ
 held_until [] now tap = 0
 held_until (s ∷ steps) now tap = max (holds_until now tap s) (held_until steps now tap)
@@ -81,7 +82,7 @@ plan_of steps until = record {
 
 -- ---- the run on one thread
 
--- why a run ends before its time: there is no new world, or an event is refused at a moment
+-- why a run ends early: there is no new world, or an event is refused at a moment
 pub data RunFault : Type 0 where
   New : (fault : NewFault) → RunFault
   At : (moment : ℕ) (fault : Fault) → RunFault
@@ -95,7 +96,8 @@ abbrev pub run_from : Scenario → Result World NewFault → Option (Result (Wor
 run_from s (Ok w) = outcome_of (run (s.until + 1) bus (plan_of s.steps s.until) 0 w)
 run_from s (Err fault) = Some (Err (New fault))
 
--- The run of a scenario from its new world at 0: its last world and its events, or the fault that ends it. Of as many instants as there are moments none is left over (a law), so this is never None.
+-- The run of a scenario from its new world at 0: its last world and its events, or the fault that ends it. There are as
+-- many allowed instants as moments, so this is never None (a law).
 abbrev pub run_of : Scenario → Option (Result (World × List Event) RunFault)
 run_of s = run_from s (new_world s.params s.taps)
 

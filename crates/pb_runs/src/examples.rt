@@ -1,3 +1,5 @@
+//! Worked scenarios, with their traces, events and outlooks, computed by the definitions.
+
 ghost use Rattle.std.specs.Prelude.{◌∷◌, [], ◌++◌, Some, None};
 ghost use Rattle.pb_model.specs.World.{Turn, Pass, Damage, Start, Noise, Unheard, NothingInAir, NoTaps};
 ghost use Rattle.pb_model.specs.Scenarios.{two_masters};
@@ -26,8 +28,8 @@ pub fn runs_of_worked_scenarios()
     ensures unheard { Leaves two_masters second_unheard 1300 (ring_forms ++ asks_unheard) }
 {}
 
-/// The events of worked runs: each tap takes its turns when it is due and at no other instant, and the end
-/// of a withholding is an instant, unless a later one holds on.
+/// The events of worked runs. Each tap takes its turns when it is due and at no other instant. The end of a withholding
+/// is an instant, unless a later withholding continues.
 pub fn events_of_worked_scenarios()
     ensures claim { Has two_masters both_start 850 claim_heard }
     ensures together { Has two_masters (first_starts_at 200) 1001 both_turn }
@@ -38,8 +40,8 @@ pub fn events_of_worked_scenarios()
     ensures no_world { Refuses [] [] 1 (New NoTaps) }
 {}
 
-/// When the taps of worked worlds are due, and when something else changes: an end, the bit time after a
-/// begin has reached the taps, and the bit time after a start while something is in the air.
+/// When the taps of worked worlds are due, and when something else changes: at an end, one bit time after a begin has
+/// reached the taps, and one bit time after a start during activity.
 pub fn outlooks_of_worked_worlds()
     ensures new { Knows [] None None None }
     ensures started { Knows (Start 0 ∷ Start 1 ∷ []) (Some 800) (Some 1000) None }

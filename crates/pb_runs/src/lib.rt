@@ -1,9 +1,9 @@
-//! What the run of a scenario on one thread is, and that a history by many threads is that run.
+//! The run of a scenario on one thread, and the proof that a history by many threads is that run.
 //!
-//! `specs/` defines, over plain data, a run instant by instant (`Runs.antt`), histories in which the turns of
-//! an instant stand in any order (`Histories.antt`), the bus as something that is run (`Bus.antt`), and a
-//! scenario with the plan that its steps make (`Scenarios.antt`). This crate has no code that runs: its
-//! functions do nothing, and their contracts are laws.
+//! `specs/` defines, over plain data, a run instant by instant (`Runs.antt`), histories with the turns of an instant in
+//! any order (`Histories.antt`), the bus as something that is run (`Bus.antt`), and a scenario with the plan that its
+//! steps make (`Scenarios.antt`). This crate has no code that runs: its functions have empty bodies, and their
+//! contracts are laws.
 #![tactic(auto)]
 
 mod examples;

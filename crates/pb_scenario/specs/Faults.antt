@@ -1,4 +1,4 @@
--- Why the run of a scenario ends before its time.
+-- Why the run of a scenario ends early.
 use Rattle.std.specs.Prelude.{◌≡◌, Option, Some, None, Err, IfSome}
 use Rattle.pb_model.specs.World as model
 use Rattle.pb_model.specs.World.{new_world}
@@ -10,7 +10,7 @@ use Rattle.pb_runs.specs.Scenarios.{Scenario}
 use Rattle.pb_scenario.specs.declared.faults.RunFault.{RunFault}
 use Rattle.pb_scenario.specs.declared.faults.RunFault.TheVariants.{New, At}
 
--- the fault of a world that the model has; want of memory is none
+-- the fault of a world that the model has; refused memory is none
 abbrev pub model_fault : WorldFault → Option model.Fault
 model_fault fault.NoSuchTap = Some model.NoSuchTap
 model_fault fault.Running = Some model.Running
@@ -24,7 +24,8 @@ model_fault (fault.InboxFull tap) = Some (model.InboxFull tap)
 model_fault fault.TraceFull = Some model.TraceFull
 model_fault fault.NoMemory = None
 
--- why a scenario has no events: there is no new world; or its run ends with this fault at this moment; or memory was refused
+-- why a scenario has no events: there is no new world; or its run ends with this fault at this moment; or memory was
+-- refused
 abbrev pub EndsBy : Scenario → RunFault → Type 0
 EndsBy s (New f) = RefusesNew (new_world s.params s.taps) f
 EndsBy s (At moment f) = IfSome (model_fault f) (λ g. runs.events_of s ≡ Some (Err (runs.At moment g)))

@@ -1,4 +1,4 @@
--- What the keys of a table say, and their faults.
+-- The values of a table's keys, and their faults.
 use Rattle.std.specs.Prelude.{◌≡◌, ℕ, ◌*◌, ℤ, pos, negsuc, nat_le, ◌&&◌, List, length, Option, Some, None, Result, Ok, Err, MatchResult, if◌then◌else◌}
 use Rattle.std.specs.Option.{ok_or}
 use Rattle.std.specs.Result.{result_ok}
@@ -29,7 +29,7 @@ number_of (fault.Params f) = 10
 number_of fault.TooMany = 11
 number_of fault.NoMemory = 12
 
--- why a table doesn't describe what it should
+-- why a table does not describe what it should
 pub data Fault : Type 0 where
   BadVersion : Fault
   Missing : (path : Path) → Fault
@@ -57,7 +57,7 @@ Tells (fault.Params f) r = r ≡ Err (Params f)
 Tells fault.TooMany r = r ≡ Err TooMany
 Tells fault.NoMemory r = Unit {0}
 
--- an answer, as it is seen, is that outcome, or memory was refused
+-- a result, as plain data, is that outcome, or memory was refused
 abbrev pub Answers : {X Y : Type 0} → (X → Y) → Result X ScenarioFault → Result Y Fault → Type 0
 Answers seen result r = MatchResult result (λ x. r ≡ Ok (seen x)) (λ f. Tells f r)
 
@@ -71,25 +71,25 @@ and_then (Err fault) f = Err fault
 abbrev pub path_of : Section → Key → Path
 path_of section key = path.Key section key
 
--- the value of a key that has to be there
+-- the value of a key that must be there
 unfoldable pub value_in : Section → Key → Members → Result Data Fault
 value_in section key table = ok_or (get_member (key_name key) table) (Missing (path_of section key))
 
--- of a type
+-- the value of a type
 unfoldable pub typed : {X : Type 0} → (Data → Option X) → Section → Key → Members → Result X Fault
 typed type section key table = and_then (value_in section key table) (λ d. ok_or (type d) (BadKind (path_of section key)))
 
--- and what it stands for
+-- its meaning
 unfoldable pub meant : {X Y : Type 0} → (X → Option Y) → (Data → Option X) → Section → Key → Members → Result Y Fault
 meant means type section key table = and_then (typed type section key table) (λ x. ok_or (means x) (BadValue (path_of section key)))
 
--- ---- what values stand for
+-- ---- the meaning of values
 
 abbrev pub in_range : ℕ → ℕ → ℤ → Option ℕ
 in_range least most (pos n) = if nat_le least n && nat_le n most then Some n else None
 in_range least most (negsuc n) = None
 
--- octets in hex digits, no more than a unit has
+-- octets in hex digits, at most as many as a unit has
 abbrev pub octets_in : List ℕ → Option (List ℕ)
 octets_in text = if nat_le (length text) (2 * 246) then result_ok (decode_of text) else None
 
@@ -98,7 +98,7 @@ as_name text = if is_name text then Some text else None
 
 -- ---- the keys that a table may have
 
--- the first key that is none of these
+-- the first key that is not one of these
 abbrev pub first_other : List Key → Members → Option (List ℕ)
 first_other keys no_members = None
 first_other keys (member k d ms) = if is_named keys k then first_other keys ms else Some k

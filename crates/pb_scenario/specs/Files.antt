@@ -52,7 +52,7 @@ octets = meant octets_in as_str
 abbrev pub if_there : {X : Type 0} → X → (Section → Key → Members → Result X Fault) → Section → Key → Members → Result X Fault
 if_there without read at k table = if is_some (get_member (key_name k) table) then read at k table else Ok without
 
--- an item of a list as a table
+-- an element of a list as a table
 abbrev pub item_in : Section → Data → Result Members Fault
 item_in at d = ok_or (as_table d) (BadKind (path.Item at))
 
@@ -66,7 +66,7 @@ abbrev pub checked : Params → Option ParamFault → Result Params Fault
 checked p None = Ok p
 checked p (Some f) = Err (ParamsFault f)
 
--- how many bit times later telegrams are at the taps of others
+-- how many bit times later telegrams reach the taps of others
 abbrev pub delay_in : Version → Section → Members → Result ℕ Fault
 delay_in Undelayed at bus = Ok 0
 delay_in Delayed at bus = word32 at key.Ttd bus
@@ -106,7 +106,7 @@ tap_in names at table =
     and_then (if_there [] octets at key.Reply table) (λ reply.
     Ok (record { name = name; spec = record { address = address; master = is_master kind; reply = reply } })))))))
 
--- the taps of some items, the first of them at a position, behind others with names
+-- the taps of some list elements, the first of them at an index, after others with names
 unfoldable pub taps_from : List (List ℕ) → ℕ → Items → Result (List NamedTap) Fault
 taps_from names tap no_items = Ok []
 taps_from names tap (item d ds) =
@@ -115,7 +115,7 @@ taps_from names tap (item d ds) =
     and_then (taps_from (names ++ t.name ∷ []) (tap + 1) ds) (λ ts.
     Ok (t ∷ ts))))
 
--- some names and what is known of as many taps, one by one
+-- names and as many definitions of taps, paired
 abbrev pub named : List (List ℕ) → List TapSpec → List NamedTap
 named [] specs = []
 named (name ∷ names) [] = []
@@ -130,11 +130,11 @@ taps_in version items = if nat_lt (most_taps version) (count items) then Err Too
 
 -- ---- the steps
 
--- the tap whose name a key has
+-- the tap whose name is the value of a key
 unfoldable pub tap_at : List (List ℕ) → Section → Key → Members → Result ℕ Fault
 tap_at names at k table = and_then (typed as_str at k table) (λ name. ok_or (position (bytes_eq name) names) (NoSuchName (path_of at k)))
 
--- whether there is a request is looked at with its address
+-- the address of a request is checked against its service when it is read
 abbrev pub addressed : Service → Section → Option RequestFault → ℕ → Result ℕ Fault
 addressed service at None to = Ok to
 addressed service at (Some f) to = Err (BadValue (path_of at key.To))
@@ -151,7 +151,7 @@ request_in at table =
 abbrev pub some_octet : Section → Key → Members → Result (Option ℕ) Fault
 some_octet at k table = and_then (octet at k table) (λ n. Ok (Some n))
 
--- what a step of a word does
+-- what a step with this word does
 unfoldable pub deed_in : List (List ℕ) → Section → Members → Word → Result Deed Fault
 deed_in names at table word.Start = and_then (tap_at names at key.Tap table) (λ tap. Ok (Happens (model.Start tap)))
 deed_in names at table word.Stop = and_then (tap_at names at key.Tap table) (λ tap. Ok (Happens (model.Stop tap)))
@@ -177,7 +177,7 @@ deed_in names at table word.Withhold =
 abbrev pub in_order : ℕ → Section → ℕ → Result ℕ Fault
 in_order before at n = if nat_lt n before then Err (StepOrder (path_of at key.At)) else Ok n
 
--- a step that may not stand before a moment
+-- a step that must not be earlier than a moment
 unfoldable pub step_in : List (List ℕ) → ℕ → Section → Members → Result Planned Fault
 step_in names before at table =
     and_then (meant word_of as_str at key.Do table) (λ does.
@@ -217,7 +217,7 @@ with_steps top until params taps =
     and_then (if_there [] (listed_steps names) Top key.Step top) (λ steps.
     Ok (record { scenario = record { params = params; taps = map (λ (t : NamedTap). t.spec) taps; steps = steps; until = until }; names = names }))
 
--- what the table of a whole file describes
+-- the scenario that the table of a whole file describes
 unfoldable pub scenario_in : Members → Result ScenarioView Fault
 scenario_in top =
     and_then (version_in Top top) (λ version.
@@ -237,7 +237,7 @@ pub record IsToml (file : List ℕ) (top : Members) : Type 0 where
 abbrev pub Describes : List ℕ → ScenarioView → Type 0
 Describes file s = (top : Members) × IsToml file top × (scenario_in top ≡ Ok s)
 
--- why it describes none: it is no TOML, or its table has this fault; or memory was refused
+-- why it describes none: it is not TOML, or its table has this fault; or memory was refused
 abbrev pub RefusesFile : List ℕ → ScenarioFault → Type 0
 RefusesFile file fault.NotToml = (top : Members) → IsToml file top → ⊥
 RefusesFile file fault.NoMemory = Unit {0}

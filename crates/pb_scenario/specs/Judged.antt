@@ -6,6 +6,6 @@ use Rattle.pb_runs.specs.Scenarios.{Scenario}
 use Rattle.pb_audit.specs.Auditing.{Finds, IsLegalIfKept}
 use Rattle.pb_audit.specs.declared.findings.Audit.{Audit}
 
--- the run has events, and it finds what an audit of them finds
+-- the run has events, and this is what an audit of them finds
 abbrev pub FindsInRun : Scenario → Audit → Type 0
 FindsInRun s found = (events : List Event) × (runs.events_of s ≡ Some (Ok events)) × Finds s.params s.taps events found × IsLegalIfKept found

@@ -1,4 +1,4 @@
--- What a scenario is by its fields, and what it keeps.
+-- The plain data of a scenario, and its invariant.
 use Rattle.std.specs.Prelude.{◌≡◌, ◌≤◌, length, map}
 use Rattle.pb_taps.specs.Taps.{spec_of}
 use Rattle.pb_runs.specs.Laws.{AreFromOutside}

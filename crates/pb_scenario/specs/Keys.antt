@@ -1,4 +1,4 @@
--- The keys of a scenario file as they are written, and which of them each table may have.
+-- The keys of a scenario file as text, and which of them each table may have.
 use Rattle.std.specs.Prelude.{ℕ, Bool, List, [], ◌∷◌, codes, bytes_eq, Option, Some, None}
 use Rattle.std.specs.List.{list_any}
 use Rattle.pb_scenario.specs.declared.keys.Key.{Key}
@@ -38,14 +38,14 @@ key_name key.Speaker = codes "speaker"
 key_name key.Place = codes "place"
 key_name key.Bits = codes "bits"
 
--- one of some keys is written so
+-- a text is the name of one of some keys
 abbrev pub is_named : List Key → List ℕ → Bool
 is_named keys text = list_any (λ k. bytes_eq (key_name k) text) keys
 
 abbrev pub top_keys : List Key
 top_keys = key.Version ∷ key.Until ∷ key.Bus ∷ key.Tap ∷ key.Step ∷ []
 
--- a version that has a cable delay has its key
+-- a version with a cable delay has its key
 abbrev pub bus_keys : Version → List Key
 bus_keys Undelayed = key.Tsl ∷ key.Tid1 ∷ key.Tid2 ∷ key.Tsdr ∷ key.Lag ∷ key.Ttr ∷ key.Gap ∷ key.Hsa ∷ key.Retries ∷ []
 bus_keys Delayed = key.Tsl ∷ key.Tid1 ∷ key.Tid2 ∷ key.Tsdr ∷ key.Lag ∷ key.Ttr ∷ key.Gap ∷ key.Hsa ∷ key.Retries ∷ key.Ttd ∷ []
@@ -53,7 +53,7 @@ bus_keys Delayed = key.Tsl ∷ key.Tid1 ∷ key.Tid2 ∷ key.Tsdr ∷ key.Lag �
 abbrev pub tap_keys : List Key
 tap_keys = key.Name ∷ key.Kind ∷ key.Address ∷ key.Reply ∷ []
 
--- the keys of a step that does something
+-- the keys of a step, by what it does
 abbrev pub step_keys : Word → List Key
 step_keys word.Start = key.At ∷ key.Do ∷ key.Tap ∷ []
 step_keys word.Stop = key.At ∷ key.Do ∷ key.Tap ∷ []
@@ -63,7 +63,7 @@ step_keys word.Noise = key.At ∷ key.Do ∷ key.Bits ∷ []
 step_keys word.Unheard = key.At ∷ key.Do ∷ key.Tap ∷ key.Speaker ∷ []
 step_keys word.Withhold = key.At ∷ key.Do ∷ key.Tap ∷ key.Bits ∷ []
 
--- no keys where it does nothing that is known
+-- no keys if what it does is unknown
 abbrev pub step_keys_of : Option Word → List Key
 step_keys_of None = []
 step_keys_of (Some w) = step_keys w

@@ -1,4 +1,4 @@
--- What comes of events and instants that are played.
+-- The results of playing events and instants.
 use Rattle.std.specs.Prelude.{◌≡◌, ℕ, suc, ◌<◌, ◌≤◌, Bool, List, [], ◌∷◌, ◌++◌, length, Option, Some, None, Result, Ok, Err, MatchResult, IfSome, if◌then◌else◌}
 use Rattle.pb_model.specs.World as model
 use Rattle.pb_runs.specs.Runs.{Plan, all, run, with_front}
@@ -18,27 +18,29 @@ Stops refused (At moment f) outcome = IfSome (model_fault f) (λ g. outcome ≡ 
 
 -- ---- events of a moment
 
--- they have happened, behind those by which the world had come
+-- they have happened, after those that led to the world
 pub record Happened (now : ℕ) (old : StageView) (es : List model.Event) (new : StageView) : Type 0 where
   pub world : all bus now es old.world ≡ Ok new.world
   pub comes : ComesOn old es new
 
--- they happen, or the first that is refused says why
+-- they happen, or the fault is that of the first refused one
 abbrev pub Plays : ℕ → StageView → List model.Event → Result (Unit {0}) RunFault → StageView → Type 0
 Plays now old es result new = MatchResult result (λ _. Happened now old es new) (λ fault. Stops Err fault (all bus now es old.world))
 
--- the turn of a tap, if it takes it
+-- the turn of a tap, if it takes one
 abbrev pub turn_if : Bool → ℕ → List model.Event
 turn_if b tap = if b then model.Turn tap ∷ [] else []
 
 -- ---- instants
 
--- A run by a plan whose first events have led to a world: it goes on from there at a moment, for so many instants, or has ended.
+-- A run by a plan whose first events have led to a world: it continues from there at a moment, for this many instants,
+-- or has ended.
 abbrev pub run_with : List model.Event → Plan model.Event → ℕ → Option ℕ → model.World → Option (Result (model.World × List model.Event) (ℕ × model.Fault))
 run_with events p left None w = Some (Ok (w, events))
 run_with events p left (Some moment) w = with_front events (run left bus p moment w)
 
--- the events of an instant of a walk have happened, and behind them the run goes on at the next instant, if there is one
+-- the events of an instant of a walk have happened, and after them the run continues at the next instant, if there is
+-- one
 pub record GoesOn (walk : WalkView) (old : StageView) (next : Option ℕ) (new : StageView) : Type 0 where
   pub events : List model.Event
   pub comes : ComesOn old events new
@@ -47,7 +49,7 @@ pub record GoesOn (walk : WalkView) (old : StageView) (next : Option ℕ) (new :
   pub later : IfSome next (λ moment. (walk.clock < moment) × (moment ≤ walk.until))
   pub taps : length new.world.taps ≡ length old.world.taps
 
--- a fault ends the run of a walk in its instant, whatever came before
+-- a fault ends the run of a walk in its instant, whatever happened before
 abbrev pub EndsIn : WalkView → StageView → RunFault → Type 0
 EndsIn walk old fault = (before : List model.Event) (left : ℕ) → Stops (λ refused. Some (Err refused)) fault (run_with before (plan_in walk) (suc left) (Some walk.clock) old.world)
 
@@ -57,6 +59,6 @@ Goes walk old result new = MatchResult result (λ next. GoesOn walk old next new
 
 -- ---- the run
 
--- a stage has come from a world by the events of a scenario's run
+-- the events of a scenario's run have led to a stage from a world
 abbrev pub IsPlayed : Scenario → model.World → StageView → Type 0
 IsPlayed s first v = (events : List model.Event) × (runs.events_of s ≡ Some (Ok events)) × v.comes first events

@@ -1,4 +1,4 @@
--- A bus with the events that it has taken.
+-- A bus with its events.
 use Rattle.std.specs.Prelude.{◌≡◌, List, map}
 use Rattle.pb_model.specs.World.{World, Event}
 use Rattle.pb_taps.specs.Events.{event_of}

@@ -7,14 +7,14 @@ use Rattle.pb_runs.specs.Scenarios as runs
 
 pub record ScenarioView : Type 0 where
   pub scenario : runs.Scenario
-  -- of each tap, in its bytes
+  -- the name of each tap, in bytes
   pub names : List (List ℕ)
 
 -- a walk at 0 through its steps
 abbrev pub walk_of : ScenarioView → WalkView
 walk_of s = new_walk s.scenario.steps (length s.scenario.taps) s.scenario.until
 
--- until when the time of a scenario passes at most
+-- the last moment until which a scenario's time may pass
 abbrev pub until_limit : ℕ
 until_limit = 10000000
 

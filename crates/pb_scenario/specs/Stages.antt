@@ -5,20 +5,20 @@ use Rattle.pb_model.specs.Step.{step}
 use Rattle.pb_taps.specs.declared.faults.WorldFault.{WorldFault}
 use Rattle.pb_scenario.specs.Faults.{model_fault}
 
--- a world, and what is known of where it has come from: from which world and by which events
+-- a world, and what is known of how it was reached: from which world and by which events
 pub record StageView : Type 1 where
   pub world : World
   pub comes : World → List Event → Type 0
 
--- it has come from some world
+-- events have led to it from some world
 abbrev pub IsReady : StageView → Type 0
 IsReady v = (start : World) × (events : List Event) × v.comes start events
 
--- what has come by some events has come by them and more
+-- more events have led on from the events that led to the world
 abbrev pub ComesOn : StageView → List Event → StageView → Type 0
 ComesOn old more new = (start : World) (events : List Event) → old.comes start events → new.comes start (events ++ more)
 
--- an event happens, or it is refused, or memory was
+-- an event happens, or it is refused, or memory is refused
 abbrev pub Takes : StageView → Event → Result (Unit {0}) WorldFault → StageView → Type 0
 Takes old e result new = MatchResult result
     (λ _. ComesOn old (e ∷ []) new × ((reply : Reply) × (step old.world e ≡ Ok (new.world, reply))))

@@ -1,4 +1,4 @@
--- What the code keeps of a file, as definitions see it.
+-- What the code keeps of a file, as plain data.
 use Rattle.std.specs.Prelude.{List, map, string_bytes}
 use Rattle.toml.specs.Data.{Members}
 use Rattle.toml.specs.View.{table_view}
@@ -9,7 +9,7 @@ use Rattle.pb_scenario.specs.declared.taps.Taps.{Taps}
 use Rattle.pb_scenario.specs.Scenarios.{names_of}
 use Rattle.pb_scenario.specs.Files.{NamedTap, named}
 
--- the members of a table that is looked at
+-- the members of a table
 abbrev pub members : Fields → Members
 members f = table_view f.table.now
 

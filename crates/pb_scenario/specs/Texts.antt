@@ -4,7 +4,7 @@ use Rattle.hex.specs.Hex.{encode_lower}
 use Rattle.pb_model.specs.Trace as trace
 use Rattle.pb_model.specs.Trace.{Heard, Own, Whole, Damaged, Unheard, Pending, Record, Entry, Sent}
 
--- the letter that says how a telegram reached a tap
+-- the letter for how a telegram reached a tap
 abbrev pub letter_of : Heard → ℕ
 letter_of Own = 0x2d
 letter_of Whole = 0x77
@@ -15,7 +15,7 @@ letter_of Pending = 0x2e
 abbrev pub span_text : ℕ → ℕ → List ℕ
 span_text begin end = decimal begin ++ codes " " ++ decimal end ++ codes " "
 
--- of some taps with names
+-- the text of a telegram, given the names of the taps
 abbrev pub record_text : List (List ℕ) → Record → List ℕ
 record_text names r =
     span_text r.begin r.end ++ slice_index_or names r.tap [] ++ codes " " ++ encode_lower r.octets ++ codes " " ++ map letter_of r.heard ++ codes "\n"
@@ -28,7 +28,7 @@ abbrev pub entries_text : List (List ℕ) → List Entry → List ℕ
 entries_text names [] = []
 entries_text names (e ∷ es) = entry_text names e ++ entries_text names es
 
--- the taps of an entry are among so many
+-- the tap of an entry is one of this many
 abbrev pub IsOfTaps : ℕ → Entry → Type 0
 IsOfTaps taps (Sent r) = r.tap < taps
 IsOfTaps taps (trace.Noise span) = Unit {0}

@@ -1,4 +1,4 @@
--- A watched bus, as a run's events happen on it.
+-- A watched bus, as a stage for a run's events.
 use Rattle.pb_audit.specs.declared.causes.Inquiry.{Inquiry}
 use Rattle.pb_audit.specs.declared.watched.Watched.{Watched}
 use Rattle.pb_audit.specs.Watched.{HasCome, world_in}

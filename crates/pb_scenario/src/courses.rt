@@ -1,4 +1,4 @@
-//! How far a scenario's run on one thread comes, and which step ends it: for those who tell people why a run is refused.
+//! How far a scenario's run on one thread gets, and which step ends it: used to explain why a run is refused.
 
 ghost use Rattle.std.specs.Prelude.{◌≡◌, Some, IfOk, IfSome};
 ghost use Rattle.pb_scenario.specs.Faults.{EndsBy};
@@ -13,19 +13,19 @@ use pb_taps::{Event, NewFault, WorldFault};
 use pb_timers::Moment;
 use std::alloc::{AllocError, Global};
 
-/// How far a run comes.
+/// How far a run gets.
 #[derive(Clone, Copy, Debug, PartialEq, Eq)]
 pub struct Course {
-    /// Why it ends before its time, if it does.
+    /// Why it ends early, if it does.
     pub fault: Option<RunFault>,
-    /// The step whose event is refused then, counted from 0, if it is a step's.
+    /// The index, from 0, of the step whose event is refused then, if it is a step's.
     pub step: Option<usize>,
-    /// The clock at which the first event after the counted ones was to happen, if there is one, in bit times.
+    /// The clock, in bit times, at the first event after the first `counted` ones, if there is one.
     pub passed: Option<Moment>,
 }
 
-/// How far the run of a scenario on one thread comes, of which so many events are counted. It takes as long as the run,
-/// and keeps none of its events.
+/// How far the run of a scenario on one thread gets; `counted` is the number of events to count. This takes as long as
+/// the run, and stores none of its events.
 ///
 /// Fault: memory was refused.
 pub fn course_of(alloc: Global, scenario: &Scenario, counted: u64) -> Result<Course, AllocError>
@@ -85,20 +85,20 @@ fn refused_step(scenario: &Scenario, fault: &RunFault, steps: usize) -> Option<u
     }
 }
 
-/// A bus that counts the events which it takes.
+/// A bus that counts its events.
 #[derive(Drop)]
 struct Counted {
     bus: Bus,
     /// How many more events are counted.
     left: u64,
-    /// The clock at which the first event after them was to happen.
+    /// The clock at the first event after the counted ones.
     passed: Option<Moment>,
-    /// How many events of steps this instant has had.
+    /// How many events of steps have happened in this instant.
     steps: usize,
 }
 
 impl Counted {
-    /// A bus that has taken no event, and counts so many.
+    /// A bus on which nothing has happened, which counts `counted` events.
     fn new(bus: Bus, counted: u64) -> Counted
         ensures { result.bus ≡ bus }
     {
@@ -145,7 +145,7 @@ impl Stage for Counted {
     }
 }
 
-/// Whether only the event of a step is refused so.
+/// Whether only the event of a step has such a fault.
 fn is_of_a_step(fault: WorldFault) -> bool {
     matches!(
         fault,
@@ -158,7 +158,8 @@ fn is_of_a_step(fault: WorldFault) -> bool {
     )
 }
 
-/// The position of the step that has an instant's event after so many of its steps: those before the turns come first.
+/// The index of the step whose event comes after `before` events of steps in an instant. Steps with events before the
+/// turns come first.
 fn step_at(steps: &[Step], at: u64, before: usize) -> Option<usize> {
     let of_instant = |when| {
         steps.iter().enumerate().filter(move |(_, step)| step.at == at

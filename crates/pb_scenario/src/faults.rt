@@ -1,14 +1,16 @@
+//! Why a scenario file or its run is refused.
+
 use crate::keys::{Path, UnknownKey};
 use pb_taps::{NewFault, WorldFault};
 use pb_timers::{Moment, ParamFault};
 use thiserror::Error;
 
-/// Why a scenario file is refused: the first fault that applies. The version comes first, then the table of the
-/// whole file with its unknown keys, the end, the bus, the taps and the steps; in each table first its unknown
-/// keys by their bytes, and then its keys in their order; in that of a step first what it does.
+/// Why a scenario file is refused: the first fault that applies. The order is the version, the table of the whole file
+/// with its unknown keys, the end, the bus, the taps and the steps. In each table its unknown keys come first, ordered
+/// by their bytes, and then its keys in their order. In the table of a step the word comes first.
 #[derive(Debug, PartialEq, Eq, Drop, Error)]
 pub enum ScenarioFault {
-    /// 1: the file is no TOML.
+    /// 1: the file is not TOML.
     #[error("NotToml")]
     NotToml,
     /// 2: the version is neither 1 nor 2.
@@ -17,28 +19,28 @@ pub enum ScenarioFault {
     /// 3: a key is missing.
     #[error("Missing {0}")]
     Missing(Path),
-    /// 4: a value has another type.
+    /// 4: a value has the wrong type.
     #[error("BadKind {0}")]
     BadKind(Path),
-    /// 5: a value stands for nothing, or is out of its range.
+    /// 5: a value has no meaning, or is out of its range.
     #[error("BadValue {0}")]
     BadValue(Path),
-    /// 6: a table may not have the key.
+    /// 6: a table must not have this key.
     #[error("Unknown {0}")]
     Unknown(UnknownKey),
-    /// 7: a name has been given to another tap.
+    /// 7: another tap has this name.
     #[error("Twice {0}")]
     Twice(Path),
-    /// 8: no tap has the name.
+    /// 8: no tap has this name.
     #[error("NoSuchName {0}")]
     NoSuchName(Path),
-    /// 9: a step stands before the one before it.
+    /// 9: a step is earlier than the one before it.
     #[error("StepOrder {0}")]
     StepOrder(Path),
     /// 10: the parameters of the bus are refused.
     #[error("Params {number}", number = .0.number())]
     Params(ParamFault),
-    /// 11: there are more than 32 taps, or 127 in version 2, or more than 10,000 steps.
+    /// 11: there are more than 32 taps (127 in version 2), or more than 10,000 steps.
     #[error("TooMany")]
     TooMany,
     /// 12: memory was refused.
@@ -71,13 +73,13 @@ impl ScenarioFault {
     }
 }
 
-/// Why the run of a scenario ends before its time.
+/// Why the run of a scenario ends early.
 #[derive(Clone, Copy, Debug, PartialEq, Eq, Error)]
 pub enum RunFault {
-    /// There is no world of the scenario's taps.
+    /// The taps of the scenario make no world.
     #[error("{0}")]
     New(NewFault),
-    /// An event is refused at a moment.
+    /// An event is refused at a clock.
     #[error("{1} at {clock}", clock = .0.get())]
     At(Moment, WorldFault),
 }

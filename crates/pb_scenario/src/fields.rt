@@ -1,3 +1,5 @@
+//! Reads the values of a table of a scenario file.
+
 ghost use Rattle.std.specs.Prelude.{◌≡◌, Some, option_map};
 ghost use Rattle.pb_scenario.specs.Keys.{is_named};
 ghost use Rattle.pb_scenario.specs.Fields.{Tells, in_range, known_or, octets_in};
@@ -9,10 +11,10 @@ use arrayvec::ArrayVec;
 use std::alloc::Global;
 use toml::{Table, Value};
 
-/// The most octets that a unit has, and the data of a reply.
+/// The most octets of a unit, and thus of the data of a reply.
 pub(crate) const LONGEST_UNIT: usize = 246;
 
-/// A table of a file, and where it stands.
+/// A table of a file, and which table it is.
 #[derive(Clone, Copy)]
 pub(crate) struct Fields<'a> {
     pub(crate) section: Section,
@@ -28,7 +30,7 @@ impl<'a> Fields<'a> {
     ghost use Rattle.pb_scenario.specs.Keys.{key_name, is_named};
     ghost use Rattle.pb_scenario.specs.Fields.{Answers, as_name, in_range, known, meant, octets_in, path_of, typed, value_in};
 
-    /// Whether the table has only these keys: the fault names the first other one, by its bytes.
+    /// Checks that the table has only these keys. The fault names the first other key, ordered by bytes.
     #[tactic(auto, unfolding(crate::specs::Fields::known))]
     pub(crate) fn known(&self, alloc: Global, keys: &[Key]) -> Result<(), ScenarioFault>
         ensures { Answers (λ x. x) result (known keys.now self.now.section (members self.now)) }
@@ -39,7 +41,7 @@ impl<'a> Fields<'a> {
         }
     }
 
-    /// The first key of the table, by its bytes, that is none of these.
+    /// The first key of the table, ordered by bytes, that is not one of these.
     fn other(&self, keys: &[Key]) -> Option<&'a String>
         ensures { option_copied result ≡ find
             (λ k. not (is_named keys.now (string_bytes k))) (tree.keys self.now.table.now) }
@@ -54,7 +56,7 @@ impl<'a> Fields<'a> {
         Path::Key(self.section, key)
     }
 
-    /// The value of a key, if the table has it.
+    /// The value of a key; `None` if the table does not have it.
     pub(crate) fn find(&self, key: Key) -> Option<&'a Value>
         ensures { option_map (λ v. view v.now) result ≡ get_member (key_name key) (members self.now) }
     {
@@ -72,7 +74,7 @@ impl<'a> Fields<'a> {
         }
     }
 
-    /// An integer.
+    /// The integer of a key.
     #[tactic(auto, unfolding(crate::specs::Fields::typed))]
     pub(crate) fn integer(&self, key: Key) -> Result<i64, ScenarioFault>
         ensures { Answers (λ z. z) result (typed as_integer self.now.section key (members self.now)) }
@@ -83,7 +85,7 @@ impl<'a> Fields<'a> {
         }
     }
 
-    /// A truth value.
+    /// The Boolean of a key.
     #[tactic(auto, unfolding(crate::specs::Fields::typed))]
     pub(crate) fn flag(&self, key: Key) -> Result<bool, ScenarioFault>
         ensures { Answers (λ b. b) result (typed as_bool self.now.section key (members self.now)) }
@@ -94,7 +96,7 @@ impl<'a> Fields<'a> {
         }
     }
 
-    /// A text.
+    /// The text of a key.
     #[tactic(auto, unfolding(crate::specs::Fields::typed))]
     pub(crate) fn text(&self, key: Key) -> Result<&'a str, ScenarioFault>
         ensures { Answers (λ t. t.now) result (typed as_str self.now.section key (members self.now)) }
@@ -105,7 +107,7 @@ impl<'a> Fields<'a> {
         }
     }
 
-    /// A list.
+    /// The list of a key.
     #[tactic(auto, unfolding(crate::specs::Fields::typed))]
     pub(crate) fn list(&self, key: Key) -> Result<&'a Vec<Value>, ScenarioFault>
         ensures { Answers (λ v. array_view v.now) result
@@ -117,7 +119,7 @@ impl<'a> Fields<'a> {
         }
     }
 
-    /// A table.
+    /// The table of a key.
     #[tactic(auto, unfolding(crate::specs::Fields::typed))]
     pub(crate) fn table(&self, key: Key) -> Result<&'a Table, ScenarioFault>
         ensures { Answers (λ t. table_view t.now) result
@@ -129,7 +131,7 @@ impl<'a> Fields<'a> {
         }
     }
 
-    /// A number in a range.
+    /// The number of a key, in a range.
     #[tactic(auto, unfolding(crate::specs::Fields::meant))]
     pub(crate) fn number(&self, key: Key, least: u64, most: u64) -> Result<u64, ScenarioFault>
         ensures value { Answers (λ n. n) result
@@ -142,7 +144,7 @@ impl<'a> Fields<'a> {
         }
     }
 
-    /// Octets in hex digits, at most as many as a unit has.
+    /// The octets of a key, in hex digits. There are at most as many as a unit has.
     #[tactic(auto, unfolding(crate::specs::Fields::meant))]
     pub(crate) fn octets(&self, key: Key) -> Result<ArrayVec<u8, 246>, ScenarioFault>
         ensures { Answers (λ octets. octets.items) result
@@ -169,14 +171,14 @@ impl<'a> Fields<'a> {
     }
 }
 
-/// Whether one of some keys is written so.
+/// Whether a text is the name of one of some keys.
 fn is_named(keys: &[Key], text: &str) -> bool
     ensures { result ≡ is_named keys.now text.now }
 {
     keys.iter().any(|key| key.name() == text)
 }
 
-/// That a table may not have a key, or that memory was refused.
+/// The fault of a key that a table must not have, or of refused memory.
 fn unknown(alloc: Global, section: Section, key: &str) -> ScenarioFault
     ensures { Tells result (known_or section (Some key.now)) }
 {
@@ -201,7 +203,7 @@ fn in_range(integer: i64, least: u64, most: u64) -> Option<u64>
     }
 }
 
-/// The octets that a text writes in hex digits, if it does, and if they are no more than a unit has.
+/// The octets that a text has in hex digits, if it is hex and they are at most as many as a unit has.
 fn octets_in(text: &str) -> Option<ArrayVec<u8, 246>>
     ensures { option_map (λ octets. octets.items) result ≡ octets_in text.now }
 {

@@ -1,3 +1,5 @@
+//! Reads a scenario file.
+
 ghost use Rattle.std.specs.Prelude.{◌≡◌, [], IfErr, IfOk};
 ghost use Rattle.toml.specs.View.{table_view, view};
 ghost use Rattle.pb_runs.specs.Laws.{AreFromOutside};
@@ -22,17 +24,17 @@ use pb_timers::BusParams;
 use std::alloc::Global;
 use toml::{Table, Value};
 
-/// The last end that a scenario may have.
+/// The last moment at which a scenario may end, in bit times.
 const LAST_END: u64 = 10_000_000;
 
 const TOP_KEYS: [Key; 5] = [Key::Version, Key::Until, Key::Bus, Key::Tap, Key::Step];
 
-/// The scenario that a file describes, in TOML. In version 1 a bus delays nothing, and has 32 taps at most; in version
-/// 2 the file says the cable delay, in bit times, and there are 127 taps at most.
+/// Reads the scenario that a TOML file describes. In version 1 a bus has no cable delay and at most 32 taps. In version
+/// 2 the file gives the cable delay, in bit times, and there are at most 127 taps.
 ///
-/// Faults: `NotToml` where the file is no TOML in UTF-8; else the first that applies in the order in which
-/// [`ScenarioFault`] says that a file is looked at: `BadVersion`, `Missing`, `BadKind`, `BadValue`, `Unknown`, `Twice`,
-/// `NoSuchName`, `StepOrder`, `Params` or `TooMany`; or `NoMemory`.
+/// Faults: `NotToml` if the file is not TOML in UTF-8; else the first that applies, in the order that [`ScenarioFault`]
+/// describes: `BadVersion`, `Missing`, `BadKind`, `BadValue`, `Unknown`, `Twice`, `NoSuchName`, `StepOrder`, `Params`
+/// or `TooMany`; or `NoMemory`.
 pub fn read(alloc: Global, file: &[u8]) -> Result<Scenario, ScenarioFault>
     ensures scenario { IfOk result (files.Describes file.now) }
     ensures fault { IfErr result (files.RefusesFile file.now) }
@@ -66,7 +68,7 @@ fn scenario_in(alloc: Global, table: &Table) -> Result<Scenario, ScenarioFault>
     Ok(Scenario::new(params, taps.specs, taps.names, steps, until))
 }
 
-/// The steps on taps with names; none where the key is missing.
+/// The steps, on taps with these names; none if the key is missing.
 fn steps_at(
     alloc: Global,
     top: Fields<'_>,
@@ -108,7 +110,7 @@ fn params_in(alloc: Global, bus: Fields<'_>, version: Version) -> Result<BusPara
     }
 }
 
-/// The cable delay of the bus: none where the version has no key for it.
+/// The cable delay of the bus; 0 if the version has no key for it.
 fn delay_in(bus: Fields<'_>, version: Version) -> Result<u32, ScenarioFault>
     ensures { Answers (λ n. n) result (files.delay_in version bus.entry.section (members bus.entry)) }
 {

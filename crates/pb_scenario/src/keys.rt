@@ -1,3 +1,5 @@
+//! The keys, tables and paths of a scenario file.
+
 use std::fmt;
 
 /// A key that a scenario file may have.
@@ -37,7 +39,7 @@ impl Key {
     ghost use Rattle.std.specs.Prelude.{◌≡◌};
     ghost use Rattle.pb_scenario.specs.Keys.{key_name};
 
-    /// The key as it is written.
+    /// The key as text.
     #[tactic(auto, unfolding(crate::specs::Keys::key_name))]
     pub fn name(self) -> &'static str
         ensures { result.now ≡ key_name self }
@@ -81,7 +83,7 @@ impl fmt::Display for Key {
     }
 }
 
-/// A table of a scenario file. Taps and steps are counted from 0.
+/// A table of a scenario file. Taps and steps have indices from 0.
 #[derive(Clone, Copy, Debug, PartialEq, Eq)]
 pub enum Section {
     /// The table of the whole file.
@@ -95,7 +97,7 @@ pub enum Section {
 }
 
 impl fmt::Display for Section {
-    /// As in `tap[0]`; nothing for the table of the whole file.
+    /// As in `tap[0]`; empty for the table of the whole file.
     fn fmt<W: fmt::Write>(&self, f: &mut fmt::Formatter<W>) -> fmt::Result {
         match self {
             Section::Top => Ok(()),
@@ -106,10 +108,10 @@ impl fmt::Display for Section {
     }
 }
 
-/// Where something stands in a scenario file.
+/// A position in a scenario file.
 #[derive(Clone, Copy, Debug, PartialEq, Eq)]
 pub enum Path {
-    /// An item of the taps or of the steps.
+    /// An element of the list of taps or steps.
     Item(Section),
     /// A key of a table.
     Key(Section, Key),
@@ -126,7 +128,7 @@ impl fmt::Display for Path {
     }
 }
 
-/// A key that a table may not have.
+/// A key that a table must not have.
 #[derive(Debug, PartialEq, Eq, Drop)]
 pub struct UnknownKey {
     /// The table.

@@ -1,5 +1,5 @@
-//! Scenarios: a bus with named taps, and what happens on it from outside; its run on one thread, as a list of events
-//! or judged as they happen. The text of a trace.
+//! Scenarios: a bus with named taps, and steps that act on it from outside; the run on one thread, as a list of events
+//! or judged as they happen; and the text of a trace.
 #![tactic(auto)]
 
 mod courses;
@@ -25,7 +25,7 @@ pub use keys::{Key, Path, Section, UnknownKey};
 pub use pb_audit::{Audit, Cause, Illegal, Reasons, Rule};
 pub use pb_medium::Entry;
 pub use pb_plan::{Deed, Step};
-pub use pb_station::NoMemory;
+pub use pb_refusals::NoMemory;
 pub use pb_taps::{Event, Kind, NewFault, TapSpec, WorldFault};
 pub use runs::{audit_of, events_of, reasons_of};
 pub use scenarios::Scenario;

@@ -1,3 +1,5 @@
+//! Plays a scenario's run, instant by instant.
+
 ghost use Rattle.std.specs.Prelude.{◌≡◌, ◌≤◌, ◌<◌, ◌∷◌, [], Ok, IfErr, OnOk, length, map};
 ghost use Rattle.std.specs.Option.{option_map, option_to_list};
 ghost use Rattle.pb_timers.specs.Timers.{last_moment};
@@ -23,8 +25,7 @@ use std::alloc::Global;
 
 /// Plays a scenario's run on a stage with its new world.
 ///
-/// Faults: `New` for want of memory; `At` where an event is refused, with the clock then, or where memory was refused
-/// for one.
+/// Faults: `New` if memory was refused; `At`, with the clock, if an event is refused or memory was refused for one.
 pub(crate) fn play<S: Stage>(
     alloc: Global,
     scenario: &Scenario,
@@ -46,7 +47,7 @@ pub(crate) fn play<S: Stage>(
     Ok(())
 }
 
-/// Plays the instant at which a walk through the scenario is, and answers the next one, if there is one.
+/// Plays the instant at which the walk is, and returns the next instant, if there is one.
 fn play_instant<S: Stage>(
     alloc: Global,
     stage: &mut S,
@@ -66,7 +67,7 @@ fn play_instant<S: Stage>(
     Ok(next)
 }
 
-/// What some steps of a moment say before the turns or after them happens.
+/// Plays the events that some steps trigger before or after the turns.
 fn play_steps<S: Stage>(
     alloc: Global,
     stage: &mut S,
@@ -83,7 +84,7 @@ fn play_steps<S: Stage>(
     Ok(())
 }
 
-/// What a deed says then happens, if it says anything.
+/// Plays the event that a step triggers then, if it does.
 fn play_deed<S: Stage>(
     alloc: Global,
     stage: &mut S,
@@ -101,8 +102,8 @@ fn play_deed<S: Stage>(
     }
 }
 
-/// The taps that are due and aren't withheld take their turns. A turn leaves when the other taps are due, so each is
-/// asked when the taps before it have had their turns.
+/// Plays the turns of the taps that are due and not withheld. A turn does not change when the other taps are due, so
+/// each tap is asked just before its own turn.
 fn play_turns<S: Stage>(
     alloc: Global,
     stage: &mut S,
@@ -120,7 +121,7 @@ fn play_turns<S: Stage>(
     Ok(())
 }
 
-/// A tap takes its turn, if it is due now and isn't withheld.
+/// Plays a tap's turn, if the tap is due now and not withheld.
 fn play_turn<S: Stage>(
     alloc: Global,
     stage: &mut S,
@@ -141,7 +142,7 @@ fn play_turn<S: Stage>(
     }
 }
 
-/// Time passes, in bit times, if it does.
+/// Lets time pass, in bit times, if it does.
 fn play_pass<S: Stage>(
     alloc: Global,
     stage: &mut S,
@@ -157,7 +158,7 @@ fn play_pass<S: Stage>(
     }
 }
 
-/// An event happens at a moment.
+/// Plays an event at `now`.
 fn happens<S: Stage>(
     alloc: Global,
     stage: &mut S,
@@ -173,7 +174,7 @@ fn happens<S: Stage>(
     }
 }
 
-/// The first moment after now at which a tap may take a turn next.
+/// The first moment after now at which some tap may take a turn next.
 fn next_turn<S: Stage>(stage: &S, walk: &Walk<'_>) -> Option<u64>
     requires taps { length (S.view stage.now).world.taps ≡ walk.now.taps }
     requires ready { IsReady (S.view stage.now) }
@@ -187,7 +188,7 @@ fn next_turn<S: Stage>(stage: &S, walk: &Walk<'_>) -> Option<u64>
     first
 }
 
-/// The moment at which a walk is.
+/// The present moment of a walk.
 fn moment_of(walk: &Walk<'_>) -> Moment
     requires { walk.now.clock ≤ last_moment }
     ensures { result ≡ walk.now.clock }

@@ -1,3 +1,5 @@
+//! A stage that records the events of a run.
+
 ghost use Rattle.std.specs.Prelude.{◌≡◌, []};
 
 use crate::stages::Stage;
@@ -5,7 +7,7 @@ use pb_bus::Bus;
 use pb_taps::{Event, WorldFault};
 use std::alloc::Global;
 
-/// A bus, and the events that it has taken.
+/// A bus, and the events that have happened on it.
 #[derive(Drop)]
 pub(crate) struct Recorded {
     pub(crate) bus: Bus,
@@ -13,7 +15,7 @@ pub(crate) struct Recorded {
 }
 
 impl Recorded {
-    /// A bus that has taken no events yet.
+    /// A bus on which nothing has happened.
     pub(crate) fn new(alloc: Global, bus: Bus) -> Recorded
         ensures bus { result.bus ≡ bus }
         ensures events { result.events.items ≡ [] }

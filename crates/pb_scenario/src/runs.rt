@@ -1,3 +1,5 @@
+//! The run of a scenario on one thread: its events, or its audit.
+
 ghost use Rattle.std.specs.Prelude.{◌≡◌, Some, Ok, IfOk, IfErr, map};
 ghost use Rattle.pb_taps.specs.Events.{event_of};
 ghost use Rattle.pb_runs.specs.Scenarios as runs;
@@ -13,12 +15,12 @@ use pb_bus::new_bus;
 use pb_taps::Event;
 use std::alloc::Global;
 
-/// The events of the run of a scenario on one thread: at each instant, those of its steps, the turns of the
-/// taps that are due and aren't withheld, that telegrams are lost, and that time passes to the next instant or
-/// to the end. It takes as long as events and steps are together.
+/// The events of the run of a scenario on one thread. At each instant these are the events of its steps, the turns of
+/// the taps that are due and not withheld, the losses of telegrams, and a pass of time to the next instant or to the
+/// end. This takes time in proportion to events and steps.
 ///
-/// Faults: `New` where there is no new world, also for want of memory; `At` where an event is refused, with the
-/// clock then, or where memory was refused for one.
+/// Faults: `New` if there is no new world, or memory was refused; `At`, with the clock, if an event is refused or
+/// memory was refused for one.
 pub fn events_of(alloc: Global, scenario: &Scenario) -> Result<Vec<Event>, RunFault>
     ensures events { IfOk result
         (λ events. runs.events_of scenario.now.scenario ≡ Some (Ok (map event_of events.items))) }
@@ -33,9 +35,9 @@ pub fn events_of(alloc: Global, scenario: &Scenario) -> Result<Vec<Event>, RunFa
     Ok(recorded.events)
 }
 
-/// What an audit of the events of a scenario's run on one thread finds: each is judged as it happens, and none is kept.
+/// What an audit of the run of a scenario on one thread finds. Each event is judged as it happens, and none is stored.
 ///
-/// Faults: those of [`events_of`]. An audit of events that a run has taken has none.
+/// Faults: those of [`events_of`]. An audit of events that a run has accepted has no fault of its own.
 pub fn audit_of(alloc: Global, scenario: &Scenario) -> Result<Audit, RunFault>
     ensures ok { IfOk result (FindsInRun scenario.now.scenario) }
     ensures fault { IfErr result (EndsBy scenario.now.scenario) }
@@ -48,8 +50,8 @@ pub fn audit_of(alloc: Global, scenario: &Scenario) -> Result<Audit, RunFault>
     Ok(watched.judge())
 }
 
-/// What an audit of the events of a scenario's run on one thread finds, as [`audit_of`], and why: it costs more for each
-/// event.
+/// What an audit of the run of a scenario on one thread finds, as [`audit_of`] does, and why. Each event costs more
+/// time.
 ///
 /// Faults: those of [`events_of`].
 pub fn reasons_of(alloc: Global, scenario: &Scenario) -> Result<Reasons, RunFault>

@@ -1,3 +1,5 @@
+//! A scenario as a value.
+
 ghost use Rattle.std.specs.Prelude.{◌≡◌, ◌<◌, IfOk, IfErr, length, slice_get, Some, None};
 ghost use Rattle.pb_refusals.specs.FirstFault.{first_fault};
 ghost use Rattle.pb_timers.specs.ParamRules.{param_faults};
@@ -10,8 +12,8 @@ use pb_timers::{BusParams, ParamFault};
 use std::alloc::{AllocError, Global};
 use std::marker::Model;
 
-/// What is played on a bus: its parameters and its taps, each with a name, the steps in order of time, and
-/// until when time passes.
+/// What is played on a bus: its parameters, its named taps, the steps in order of time, and the moment until which time
+/// passes.
 #[derive(Debug, Drop)]
 pub struct Scenario {
     params: BusParams,
@@ -43,8 +45,8 @@ impl Scenario {
     ghost use Rattle.pb_plan.specs.Walks.{AreFrom};
     ghost use Rattle.pb_scenario.specs.Scenarios.{delayed, names_of, params_with, until_limit, walk_of};
 
-    /// A scenario of taps with as many names, of steps that stand in order of time and are neither turns nor
-    /// passes of time, up to a moment in bit times.
+    /// A scenario of taps with as many names, up to the moment `until`, in bit times. The caller ensures that the steps
+    /// are in order of time and are neither turns nor passes of time.
     pub(crate) fn new(
         params: BusParams,
         taps: Vec<TapSpec>,
@@ -78,7 +80,7 @@ impl Scenario {
         &self.params
     }
 
-    /// What the taps are, in their order.
+    /// The definitions of the taps, in their order.
     pub fn taps(&self) -> &[TapSpec]
         ensures specs { map spec_of result.now ≡ self.now.scenario.taps }
         ensures named { length self.now.names ≡ length result.now }
@@ -86,7 +88,7 @@ impl Scenario {
         &self.taps
     }
 
-    /// The name of a tap, counted from 0, which is below the number of taps, the caller's condition.
+    /// The name of the tap with this index, from 0. The caller ensures that it is below the number of taps.
     pub fn name(&self, tap: usize) -> &str
         requires { tap < length self.now.names }
         ensures { slice_get self.now.names tap ≡ Some result.now }
@@ -111,10 +113,11 @@ impl Scenario {
         self.until
     }
 
-    /// The same scenario on a bus whose telegrams are at the taps of others so many bit times later.
+    /// The same scenario on a bus with the cable delay `ttd`, in bit times: telegrams reach the taps of others this
+    /// much later.
     ///
-    /// Where the parameters of the bus refuse that cable delay, the scenario comes back as it was, with the first rule
-    /// that they would break.
+    /// If the parameters of the bus do not allow that cable delay, returns the scenario unchanged with the first
+    /// violated rule.
     pub fn with_ttd(mut self, ttd: u32) -> Result<Scenario, (Scenario, ParamFault)>
         ensures ok { IfOk result (λ s. s ≡ delayed self ttd) }
         ensures valid { IfOk result
@@ -132,7 +135,9 @@ impl Scenario {
         }
     }
 
-    /// A walk at 0 through the scenario's steps. Its fault: memory was refused.
+    /// A walk at 0 through the scenario's steps.
+    ///
+    /// Fault: memory was refused.
     pub fn walk(&self, alloc: Global) -> Result<Walk<'_>, AllocError>
         ensures walk { IfOk result (λ walk. walk ≡ walk_of self.now) }
         ensures end { IfOk result (λ walk. walk.until ≤ until_limit) }
@@ -141,7 +146,7 @@ impl Scenario {
     }
 }
 
-/// Parameters with another cable delay, or the first rule that they would break.
+/// Parameters with another cable delay, or the first rule that they would violate.
 fn with_delay(params: &BusParams, ttd: u32) -> Result<BusParams, ParamFault>
     ensures ok { IfOk result (λ p. p ≡ params_with params.now ttd) }
     ensures valid { IfOk result (λ _. first_fault (param_faults (params_with params.now ttd)) ≡ None) }
@@ -162,7 +167,7 @@ fn with_delay(params: &BusParams, ttd: u32) -> Result<BusParams, ParamFault>
     )
 }
 
-/// The name of a tap among names.
+/// The name with this index.
 fn name_in(names: &[String], tap: usize) -> &str
     requires { tap < length names.now }
     ensures { slice_get (names_of names.now) tap ≡ Some result.now }

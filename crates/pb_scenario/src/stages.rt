@@ -1,3 +1,5 @@
+//! Stages: what a scenario's run is played on.
+
 ghost use Rattle.std.specs.Prelude.{◌≡◌};
 ghost use Rattle.pb_bus.specs.Buses.{world_of, IsKept};
 ghost use Rattle.pb_taps.specs.Events.{event_of};
@@ -8,12 +10,14 @@ use pb_bus::Bus;
 use pb_taps::{Event, WorldFault};
 use std::alloc::Global;
 
-/// What the events of a scenario's run happen on, one after another.
+/// What the events of a scenario's run happen on.
 pub(crate) trait Stage {
-    /// Its world, and from where and by which events it has come there.
+    /// Its world, and the start and the events from which the world follows.
     ghost view: { Self → StageView };
 
-    /// Does an event. Its fault: that of the event on a bus, or that memory was refused.
+    /// Applies an event.
+    ///
+    /// Fault: that of the event on a bus, or refused memory.
     fn apply(&mut self, alloc: Global, event: &Event) -> Result<(), WorldFault>
         requires { IsReady (view self.old) }
         ensures { Takes (view self.old) (event_of event.now) result (view self.new) };

@@ -1,3 +1,5 @@
+//! Reads the steps of a scenario file.
+
 ghost use Rattle.std.specs.Prelude.{◌≡◌, None, IfOk};
 ghost use Rattle.toml.specs.Data.{as_str};
 ghost use Rattle.toml.specs.View.{items_view};
@@ -24,7 +26,7 @@ use pb_taps::Event;
 use std::alloc::Global;
 use toml::Value;
 
-/// How many steps a scenario may have.
+/// The most steps of a scenario.
 const MOST_STEPS: usize = 10_000;
 
 const POWER_KEYS: [Key; 3] = [Key::At, Key::Do, Key::Tap];
@@ -47,7 +49,7 @@ const UNHEARD_KEYS: [Key; 4] = [Key::At, Key::Do, Key::Tap, Key::Speaker];
 
 const WITHHOLD_KEYS: [Key; 4] = [Key::At, Key::Do, Key::Tap, Key::Bits];
 
-/// The steps that a list describes, on taps with names.
+/// The steps that a list describes, on taps with these names.
 #[tactic(auto, unfolding(crate::specs::Files::steps_from))]
 pub(crate) fn steps_in(
     alloc: Global,
@@ -74,7 +76,7 @@ pub(crate) fn steps_in(
     Ok(steps)
 }
 
-/// The step that a table describes, which may not stand before a moment.
+/// The step that a table describes. It must not be earlier than `before`.
 #[tactic(auto, unfolding(crate::specs::Files::step_in), using(crate::proofs::Chains::then_ok, crate::proofs::Chains::then_tells, crate::proofs::Chains::then_tells_next))]
 fn step_in(
     alloc: Global,
@@ -95,7 +97,7 @@ fn step_in(
     Ok(Step { at, deed })
 }
 
-/// What a step of a word does.
+/// What the step with this word does.
 #[tactic(auto, unfolding(crate::specs::Files::deed_in), using(crate::proofs::Chains::then_ok, crate::proofs::Chains::then_tells, crate::proofs::Chains::then_tells_next))]
 fn deed_in(fields: Fields<'_>, names: &IndexSet<String>, word: Word) -> Result<Deed, ScenarioFault>
     ensures { Answers deed_of result
@@ -125,7 +127,7 @@ fn deed_in(fields: Fields<'_>, names: &IndexSet<String>, word: Word) -> Result<D
     })
 }
 
-/// The keys that a step of a word has.
+/// The keys of a step with this word.
 fn keys_of(word: Word) -> &'static [Key]
     ensures { result.now ≡ step_keys word }
 {
@@ -151,7 +153,7 @@ fn word(fields: Fields<'_>) -> Result<Word, ScenarioFault>
     }
 }
 
-/// The tap whose name a key has.
+/// The tap whose name is the value of a key.
 #[tactic(auto, unfolding(crate::specs::Files::tap_at))]
 fn tap(fields: Fields<'_>, names: &IndexSet<String>, key: Key) -> Result<usize, ScenarioFault>
     ensures { Answers (λ t. t) result
@@ -163,14 +165,14 @@ fn tap(fields: Fields<'_>, names: &IndexSet<String>, key: Key) -> Result<usize, 
     }
 }
 
-/// For how long something lasts, in bit times.
+/// A duration, in bit times.
 fn bits(fields: Fields<'_>) -> Result<u32, ScenarioFault>
     ensures { Answers (λ n. n) result (files.word32 fields.entry.section keys.Bits (members fields.entry)) }
 {
     Ok(fields.number(Key::Bits, 0, u64::from(u32::MAX))? as u32)
 }
 
-/// The place of a damaged character; none where the key is missing.
+/// The index of a damaged character; `None` if the key is missing.
 fn place(fields: Fields<'_>) -> Result<Option<u8>, ScenarioFault>
     ensures { Answers (λ p. p) result
         (files.if_there None files.some_octet fields.entry.section keys.Place (members fields.entry)) }
@@ -181,7 +183,7 @@ fn place(fields: Fields<'_>) -> Result<Option<u8>, ScenarioFault>
     }
 }
 
-/// The request that a step queues. Whether there is such a request is looked at as soon as its address is.
+/// The request of a step. Its address is checked against its service before its other keys are read.
 #[tactic(auto, unfolding(crate::specs::Files::request_in), using(crate::proofs::Chains::then_ok, crate::proofs::Chains::then_tells, crate::proofs::Chains::then_tells_next))]
 fn request(fields: Fields<'_>) -> Result<Request, ScenarioFault>
     ensures { Answers (λ r. r) result (files.request_in fields.entry.section (members fields.entry)) }

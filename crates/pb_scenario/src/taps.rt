@@ -1,3 +1,5 @@
+//! Reads the taps of a scenario file.
+
 ghost use Rattle.std.specs.Prelude.{◌≡◌, [], IfOk, false, bytes_eq, length, string_bytes};
 ghost use Rattle.std.specs.List.{list_any};
 ghost use Rattle.toml.specs.Data.{as_str};
@@ -24,14 +26,14 @@ use toml::Value;
 
 const TAP_KEYS: [Key; 4] = [Key::Name, Key::Kind, Key::Address, Key::Reply];
 
-/// Taps, each with its name.
+/// Taps and their names.
 #[derive(Drop)]
 pub(crate) struct Taps {
     pub(crate) specs: Vec<TapSpec>,
     pub(crate) names: IndexSet<String>,
 }
 
-/// The taps that a list describes in a file of a version.
+/// The taps that a list describes, in a file of a version.
 #[tactic(auto, unfolding(crate::specs::Files::taps_from))]
 pub(crate) fn taps_in(
     alloc: Global,
@@ -58,7 +60,7 @@ pub(crate) fn taps_in(
     Ok(taps)
 }
 
-/// A tap with its name.
+/// A tap and its name.
 #[derive(Drop)]
 struct NamedTap {
     name: String,
@@ -71,7 +73,9 @@ impl Taps {
     ghost use Rattle.pb_taps.specs.Taps.{spec_of};
     ghost use Rattle.pb_scenario.specs.Scenarios.{names_of};
 
-    /// Adds a tap behind the others, whose names are others. Its fault: memory was refused.
+    /// Appends a tap. The caller ensures that no other tap has its name.
+    ///
+    /// Fault: memory was refused.
     fn add(&mut self, tap: NamedTap) -> Result<(), AllocError>
         requires { list_any (bytes_eq (string_bytes tap.name)) (names_of self.old.names.keys) ≡ false }
         ensures names { OnOk result (names_of self.new.names.keys
@@ -85,7 +89,7 @@ impl Taps {
     }
 }
 
-/// The tap that a table describes, behind others with names.
+/// The tap that a table describes. Its name must not be one of `names`.
 #[tactic(auto, unfolding(crate::specs::Files::tap_in), using(crate::proofs::Chains::then_ok, crate::proofs::Chains::then_tells, crate::proofs::Chains::then_tells_next))]
 fn tap_in(
     alloc: Global,
@@ -142,7 +146,7 @@ fn kind(fields: Fields<'_>) -> Result<Kind, ScenarioFault>
     }
 }
 
-/// The data of a tap's replies; none where the key is missing.
+/// The data with which a tap replies; empty if the key is missing.
 fn reply(fields: Fields<'_>) -> Result<ArrayVec<u8, 246>, ScenarioFault>
     ensures { Answers (λ r. r.items) result
         (if_there [] octets fields.entry.section keys.Reply (members fields.entry)) }

@@ -10,17 +10,17 @@ use crate::scenarios::Scenario;
 use arrayvec::ArrayVec;
 use itoa::{Buffer, Integer};
 use pb_medium::{Entry, Heard, Reception, Record};
-use pb_station::NoMemory;
+use pb_refusals::NoMemory;
 use std::alloc::{AllocError, Global};
 
-/// The most octets that a telegram has.
+/// The most octets of a telegram.
 const LONGEST: usize = 255;
 
-/// The text of a trace, a line for each entry: begin and end, the name of the tap that sent it, its octets,
-/// and a letter for each tap that says how it reached that; or begin, end and `~ noise`. The entries' taps
-/// are the scenario's; another tap has no name.
+/// The text of a trace, with a line for each entry: begin and end, the name of the tap that sent it, its octets, and a
+/// letter for each tap for how the telegram reached it; or begin, end and `~ noise`. The entries' taps are those of the
+/// scenario; any other tap has no name.
 ///
-/// Fault: `NoMemory` where memory was refused.
+/// Fault: `NoMemory` if memory was refused.
 pub fn trace_text(
     alloc: Global,
     scenario: &Scenario,
@@ -33,7 +33,9 @@ pub fn trace_text(
     Ok(text)
 }
 
-/// Appends the text of a trace, as [`trace_text`] gives it. The fault: memory was refused.
+/// Appends the text of a trace, as [`trace_text`] returns it.
+///
+/// Fault: memory was refused.
 pub fn push_trace(
     text: &mut Vec<u8>,
     scenario: &Scenario,
@@ -81,7 +83,7 @@ fn push_record(text: &mut Vec<u8>, scenario: &Scenario, telegram: &Record) -> Re
     text.extend_from_slice(b"\n")
 }
 
-/// Appends the name of a tap; nothing where the scenario has no such tap.
+/// Appends the name of a tap; nothing if the scenario has no such tap.
 fn push_name(text: &mut Vec<u8>, scenario: &Scenario, tap: usize) -> Result<(), AllocError>
     ensures { OnOk result (text.new.items ≡ text.old.items ++ slice_index_or scenario.now.names tap []) }
 {
@@ -92,7 +94,7 @@ fn push_name(text: &mut Vec<u8>, scenario: &Scenario, tap: usize) -> Result<(), 
     }
 }
 
-/// Appends begin and end, each with a blank behind it.
+/// Appends begin and end, each followed by a space.
 fn push_span(text: &mut Vec<u8>, begin: u64, end: u64) -> Result<(), AllocError>
     ensures { OnOk result (text.new.items ≡ text.old.items ++ span_text begin end) }
 {
@@ -102,7 +104,7 @@ fn push_span(text: &mut Vec<u8>, begin: u64, end: u64) -> Result<(), AllocError>
     text.extend_from_slice(b" ")
 }
 
-/// Appends the octets of a telegram, each as two hex digits in lower case.
+/// Appends the octets of a telegram, each as two lower-case hex digits.
 fn push_octets(text: &mut Vec<u8>, octets: &ArrayVec<u8, 255>) -> Result<(), AllocError>
     ensures { OnOk result (text.new.items ≡ text.old.items ++ encode_lower octets.now.items) }
 {
@@ -112,7 +114,7 @@ fn push_octets(text: &mut Vec<u8>, octets: &ArrayVec<u8, 255>) -> Result<(), All
     text.extend_from_slice(digits)
 }
 
-/// Appends a letter for each tap.
+/// Appends a letter for each tap: how the telegram reached it.
 fn push_letters(text: &mut Vec<u8>, heard: &Reception) -> Result<(), AllocError>
     ensures { OnOk result (text.new.items ≡ text.old.items ++ map letter_of heard.now) }
 {
@@ -122,7 +124,7 @@ fn push_letters(text: &mut Vec<u8>, heard: &Reception) -> Result<(), AllocError>
     Ok(())
 }
 
-/// The letter that says how a telegram reached a tap.
+/// The letter for how a telegram reached a tap.
 fn letter(heard: Heard) -> u8
     ensures { result ≡ letter_of (heard_of heard) }
 {

@@ -1,3 +1,5 @@
+//! Versions of a scenario file.
+
 ghost use Rattle.std.specs.Prelude.{◌≡◌, IfOk};
 ghost use Rattle.pb_scenario.specs.Fields.{Answers};
 ghost use Rattle.pb_scenario.specs.Files as files;
@@ -7,12 +9,12 @@ use crate::faults::ScenarioFault;
 use crate::fields::Fields;
 use crate::keys::Key;
 
-/// What a file of a version may say of its bus.
+/// The version of a file, by what it may say about its bus.
 #[derive(Clone, Copy, Debug, PartialEq, Eq)]
 pub(crate) enum Version {
-    /// 1: a bus without a cable delay, and with 32 taps at most.
+    /// 1: a bus without a cable delay and with at most 32 taps.
     Undelayed,
-    /// 2: a bus with a cable delay, and with 127 taps at most.
+    /// 2: a bus with a cable delay and with at most 127 taps.
     Delayed,
 }
 
@@ -67,7 +69,7 @@ impl Version {
         }
     }
 
-    /// How many taps a bus may have.
+    /// The most taps of a bus.
     pub(crate) fn most_taps(self) -> usize
         ensures { result ≡ most_taps self }
     {

@@ -1,3 +1,5 @@
+//! The words of a scenario file.
+
 ghost use Rattle.std.specs.Prelude.{◌≡◌};
 ghost use Rattle.std.specs.List.{list_all};
 ghost use Rattle.std.specs.Char.{is_ascii_alphanumeric};
@@ -6,7 +8,7 @@ ghost use Rattle.pb_scenario.specs.Words.{word_of, kind_of, service_of, is_name}
 use pb_cycles::Service;
 use pb_taps::Kind;
 
-/// What a step does, by the word that stands for it.
+/// What a step does, by its word.
 #[derive(Clone, Copy, Debug, PartialEq, Eq)]
 pub(crate) enum Word {
     Start,
@@ -18,7 +20,7 @@ pub(crate) enum Word {
     Withhold,
 }
 
-/// What the word of a step stands for.
+/// The step that a word names.
 #[tactic(auto, unfolding(crate::specs::Words::word_of))]
 pub(crate) fn word_of(text: &str) -> Option<Word>
     ensures { result ≡ word_of text.now }
@@ -42,7 +44,7 @@ pub(crate) fn word_of(text: &str) -> Option<Word>
     }
 }
 
-/// The kind that a word stands for.
+/// The kind of tap that a word names.
 #[tactic(auto, unfolding(crate::specs::Words::kind_of))]
 pub(crate) fn kind_of(text: &str) -> Option<Kind>
     ensures { result ≡ kind_of text.now }
@@ -56,7 +58,7 @@ pub(crate) fn kind_of(text: &str) -> Option<Kind>
     }
 }
 
-/// The service that a word stands for.
+/// The service that a word names.
 #[tactic(auto, unfolding(crate::specs::Words::service_of))]
 pub(crate) fn service_of(text: &str) -> Option<Service>
     ensures { result ≡ service_of text.now }

@@ -1,4 +1,4 @@
--- Events that stand in blocks.
+-- Events in blocks.
 use Rattle.std.specs.Prelude.{List, ◌++◌, ◌<◌, vec_len, vec_capacity}
 use Rattle.std.specs.List.{flat_map}
 use Rattle.pb_segment.specs.declared.blocks.Block.{Block}
@@ -9,6 +9,6 @@ use Rattle.pb_segment.specs.Histories.{Happened}
 abbrev pub happened_in : Blocks → List Happened
 happened_in b = flat_map (λ (k : Block). k.happened.items) b.full.items ++ b.last.items
 
--- one more event has a place
+-- there is room for one more event
 abbrev pub HasRoom : Blocks → Type 0
 HasRoom b = (vec_len b.last < vec_capacity b.last) × (vec_len b.last < 1024)

@@ -1,4 +1,4 @@
--- What has happened on a segment that is being closed, as another sees it meanwhile.
+-- What has happened on a segment that is being closed, as the reader of the draft sees it.
 use Rattle.std.specs.Prelude.{List}
 use Rattle.pb_segment.specs.Histories.{Happened}
 use Rattle.pb_segment.specs.Locked.{LockedView}
@@ -13,6 +13,6 @@ pub record DraftView : Type 0 where
 abbrev pub draft_of : ReportView → DraftView
 draft_of r = record { history = r.history; outlooks = r.outlooks }
 
--- the draft of what stands under a lock
+-- the draft of the state under a lock
 abbrev pub draft_in : LockedView → DraftView
 draft_in l = record { history = l.history; outlooks = l.outlooks }

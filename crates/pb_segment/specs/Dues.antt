@@ -1,4 +1,4 @@
--- The moments of all taps, wherever they stand.
+-- The moments of all taps, in either form.
 use Rattle.std.specs.Arc.{arc_value}
 use Rattle.std.specs.Prelude.{ℕ, List, Option}
 use Rattle.pb_segment.specs.declared.outlooks.Moments.{Moments}

@@ -1,16 +1,16 @@
--- Histories: the events that a segment has accepted, each with its reply, and what stands in them of one seat.
+-- Histories: the events that a segment has accepted, each with its reply, and the receipts of one seat in them.
 use Rattle.std.specs.Prelude.{◌≡◌, ◌≤◌, ℕ, ◌+◌, ◌==◌, Bool, true, false, not, List, [], ◌∷◌, map, Some, Ok, slice_get, if◌then◌else◌}
 use Rattle.pb_model.specs.World.{World, Event, Turn, Pass, Damage, Start, Stop, Queue, Noise, Unheard, Reply}
 use Rattle.pb_model.specs.Step.{step}
 use Rattle.pb_segment.specs.declared.receipts.Owner.{Owner}
 use Rattle.pb_segment.specs.declared.receipts.Owner.TheVariants as owner
 
--- an event that was accepted, and its reply
+-- an accepted event and its reply
 pub record Happened : Type 0 where
   pub event : Event
   pub reply : Reply
 
--- what the seat of an accepted event is told: how many events came before it, and its reply
+-- the receipt of an accepted event: how many events came before it, and its reply
 pub record Receipt : Type 0 where
   pub place : ℕ
   pub reply : Reply
@@ -26,7 +26,7 @@ unfoldable pub Replays : World → List Happened → World → Type 0
 Replays w [] next = w ≡ next
 Replays w (h ∷ hs) next = (between : World) × (step w h.event ≡ Ok (between, h.reply)) × Replays between hs next
 
--- ---- whose an event is
+-- ---- the owner of an event
 
 abbrev pub is_turn : Event → Bool
 is_turn (Turn tap) = true
@@ -48,7 +48,7 @@ is_turn_of tap (Queue of request) = false
 is_turn_of tap (Noise bits) = false
 is_turn_of tap (Unheard of speaker) = false
 
--- the conductor drives all events but turns
+-- the conductor drives all events except turns
 abbrev pub is_driven : Event → Bool
 is_driven e = not (is_turn e)
 
@@ -56,21 +56,21 @@ abbrev pub is_of : Owner → Event → Bool
 is_of (owner.Tap tap) e = is_turn_of tap e
 is_of owner.Conductor e = is_driven e
 
--- ---- what a seat is told
+-- ---- the receipts of a seat
 
 abbrev pub told_if : Bool → Receipt → List Receipt → List Receipt
 told_if b r rs = if b then r ∷ rs else rs
 
--- what a seat was told of its events in a history, of which so many events stand before
+-- the receipts of a seat for its events in a history, after this many other events
 unfoldable pub told_from : (Event → Bool) → ℕ → List Happened → List Receipt
 told_from is place [] = []
 told_from is place (h ∷ hs) = told_if (is h.event) (record { place = place; reply = h.reply }) (told_from is (place + 1) hs)
 
--- what it was told in all
+-- all its receipts
 abbrev pub told : (Event → Bool) → List Happened → List Receipt
 told is history = told_from is 0 history
 
--- a receipt is of an event of the seat, at its place or a later one than that
+-- a receipt is that of an event of the seat, at an index or later
 pub record StandsFrom (is : Event → Bool) (history : List Happened) (from : ℕ) (r : Receipt) : Type 0 where
   pub later : from ≤ r.place
   pub happened : Happened
@@ -78,7 +78,7 @@ pub record StandsFrom (is : Event → Bool) (history : List Happened) (from : �
   pub own : is happened.event ≡ true
   pub reply : happened.reply ≡ r.reply
 
--- receipts are of events of the seat, one after the other, from a place on
+-- receipts are those of events of the seat, in order, from an index on
 unfoldable pub StandInOrder : (Event → Bool) → List Happened → ℕ → List Receipt → Type 0
 StandInOrder is history from [] = Unit {0}
 StandInOrder is history from (r ∷ rs) = StandsFrom is history from r × StandInOrder is history (r.place + 1) rs

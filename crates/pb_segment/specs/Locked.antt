@@ -1,4 +1,4 @@
--- What stands under the lock, and what an event of a seat does to it.
+-- The state under the lock, and what an event of a seat does to it.
 use Rattle.std.specs.Prelude.{◌≡◌, ◌≢◌, ℕ, ◌<◌, ◌≤◌, true, false, List, [], ◌∷◌, ◌++◌, length, slice_index, Ok, IsOk, MatchResult}
 use Rattle.pb_model.specs.World.{World, Event, Turn}
 use Rattle.pb_model.specs.Step.{step}
@@ -42,8 +42,8 @@ pub record AreCounts (history : List Happened) (by_tap : List ℕ) (by_conductor
   pub turns : (tap : ℕ) → tap < length by_tap → slice_index by_tap tap ≡ length (told (is_turn_of tap) history)
   pub drives : by_conductor ≡ length (told is_driven history)
 
--- The world is the replay of the history, from the new world of its bus and taps, and the events of the history have led to it: so it keeps the promises of the token
--- and of silence.
+-- The world is the replay of the history, from the new world of its bus and taps, and the events of the history have
+-- led to it: so it keeps the promises of the token and of silence.
 pub record IsKept (l : LockedView) : Type 0 where
   pub first : World
   pub made : IsMadeOf l.origin first
@@ -58,7 +58,7 @@ pub record IsKept (l : LockedView) : Type 0 where
 
 -- ---- one more event
 
--- the world does the event, which stands at the end of the history with its reply, and nothing else is done
+-- the world accepts the event, the event is appended to the history with its reply, and nothing else changes
 abbrev pub Appends : LockedView → LockedView → Event → Receipt → Type 0
 Appends old new event r =
     (step old.world event ≡ Ok (new.world, r.reply))
@@ -68,11 +68,12 @@ Appends old new event r =
     × (new.outlooks ≡ old.outlooks)
     × (new.limit ≡ old.limit)
 
--- so it does, with the receipt that its seat is told after those before
+-- the same, with the receipt appended to those of its seat
 abbrev pub AppendsTo : LockedView → LockedView → Event → List Receipt → List Receipt → Type 0
 AppendsTo old new event before after = (r : Receipt) × Appends old new event r × (after ≡ before ++ r ∷ [])
 
--- why an event is refused that its seat may have: by the world; then by a full history; then for want of memory
+-- why an event that its seat may have is refused: by the world; then because the history is full; then because memory
+-- is refused
 abbrev pub RefusesToKeep : LockedView → Event → CommitFault → Type 0
 RefusesToKeep l event commit.WrongTap = ⊥
 RefusesToKeep l event commit.Disagree = ⊥
@@ -81,22 +82,22 @@ RefusesToKeep l event (commit.World fault) =
     MatchResult (step l.world event) (λ _. (fault ≡ world.NoMemory) × (length l.history < l.limit)) (λ reason. fault ≡ world_fault reason)
 RefusesToKeep l event commit.HistoryFull = IsOk (step l.world event) × (length l.history ≡ l.limit)
 
--- ---- which seats and decisions are let through
+-- ---- which seats and decisions are accepted
 
--- the segment has accepted just the turns that the seat of a tap knows of
+-- the segment has accepted exactly the turns for which the tap's seat has receipts
 abbrev pub KnowsTurns : LockedView → SeatView → Type 0
 KnowsTurns l s = slice_index l.turns s.tap ≡ length s.receipts
 
--- and just the other events that the conductor's seat knows of
+-- it has accepted exactly the other events for which the conductor's seat has receipts
 abbrev pub KnowsDrives : LockedView → ConductorView → Type 0
 KnowsDrives l s = l.drives ≡ length s.receipts
 
--- why a seat is shown nothing: it doesn't know of just its events, or else memory is refused
+-- why a glance or an outlook is refused: the receipts are not those of exactly its events, or else memory is refused
 abbrev pub RefusesToShow : Type 0 → GlanceFault → Type 0
 RefusesToShow Knows glance.Disagree = Knows → ⊥
 RefusesToShow Knows glance.NoMemory = Knows
 
--- a decision is of the seat's tap, and was made on the present state
+-- a decision is for the seat's tap, and was computed from the present state
 abbrev pub IsPresent : LockedView → SeatView → DecisionView → Type 0
 IsPresent l s d = (d.tap ≡ s.tap) × KnowsTurns l s × Fits l.world d
 
@@ -109,7 +110,7 @@ RefusesDecision l s d (commit.Stale turns now) =
 RefusesDecision l s d (commit.World fault) = IsPresent l s d × RefusesToKeep l (Turn s.tap) (commit.World fault)
 RefusesDecision l s d commit.HistoryFull = IsPresent l s d × RefusesToKeep l (Turn s.tap) commit.HistoryFull
 
--- the conductor may have the event, and knows of its events
+-- the conductor may have the event, and has the receipts of exactly its events
 abbrev pub IsAllowed : LockedView → ConductorView → Event → Type 0
 IsAllowed l s event = (is_turn event ≡ false) × KnowsDrives l s
 

@@ -8,21 +8,21 @@ use Rattle.pb_segment.specs.declared.faults.CommitFault.{CommitFault}
 use Rattle.pb_segment.specs.declared.faults.CommitFault.TheVariants as commit
 use Rattle.pb_segment.specs.declared.notes.Note.{Note}
 
--- a reply is the one that an event gets which is not refused
+-- a reply is that to an event, if the event is not refused
 abbrev pub IsReplyTo : World → Event → Reply → Type 0
 IsReplyTo w event reply = (next : World) (told : Reply) → step w event ≡ Ok (next, told) → reply ≡ told
 
--- a moment is the clock after an event that is not refused
+-- a moment is the clock after an event, if the event is not refused
 abbrev pub IsClockAfter : World → Event → ℕ → Type 0
 IsClockAfter w event now = (next : World) (told : Reply) → step w event ≡ Ok (next, told) → now ≡ told.now
 
--- what is kept of an event at a place of the history: the event, the reply that it gets, and a receipt of both
+-- what is kept of an event at an index of the history: the event, its reply, and a receipt of both
 pub record IsNoteOf (w : World) (of : Event) (place : ℕ) (n : Note) : Type 0 where
   pub event : n.happened.event ≡ of
   pub reply : IsReplyTo w of n.happened.reply
   pub kept : n.kept ≡ record { place = place; reply = n.happened.reply }
 
--- there is no room for one more event than so many, of which there may be so many: the history is full; or else memory is refused
+-- there is no room for one more event than this many, with this limit: the history is full; or else memory is refused
 abbrev pub IsWantOfRoom : ℕ → ℕ → CommitFault → Type 0
 IsWantOfRoom events limit commit.WrongTap = ⊥
 IsWantOfRoom events limit commit.Disagree = ⊥
@@ -30,7 +30,7 @@ IsWantOfRoom events limit (commit.Stale turns now) = ⊥
 IsWantOfRoom events limit (commit.World fault) = (fault ≡ world.NoMemory) × (events < limit)
 IsWantOfRoom events limit commit.HistoryFull = events ≡ limit
 
--- the world's fault comes before another one
+-- the world's fault comes before any other
 abbrev pub earlier_fault : Option WorldFault → CommitFault → CommitFault
 earlier_fault (Some reason) fault = commit.World reason
 earlier_fault None fault = fault

@@ -1,4 +1,4 @@
--- Of what a new world is made.
+-- The definition of a new world.
 use Rattle.std.specs.Prelude.{◌≡◌, List, [], Ok}
 use Rattle.pb_timers.specs.Timers.{Params}
 use Rattle.pb_model.specs.Medium.{TapSpec}
@@ -6,7 +6,7 @@ use Rattle.pb_model.specs.World.{World, new_world}
 use Rattle.pb_theorem.specs.Headline.{specs_of}
 use Rattle.pb_live.specs.Promises.{LeadTo}
 
--- the parameters of its bus, and what each tap is
+-- the parameters of its bus, and the definition of each tap
 pub record Origin : Type 0 where
   pub params : Params
   pub specs : List TapSpec
@@ -18,7 +18,7 @@ IsMadeOf o first = new_world o.params o.specs ≡ Ok first
 abbrev pub origin_of : World → Origin
 origin_of w = record { params = w.params; specs = specs_of w }
 
--- a world is made of its own parameters and taps, and nothing has happened in it yet
+-- a world is the new world of its own parameters and taps: nothing has happened in it
 abbrev pub IsMade : World → Type 0
 IsMade w = IsMadeOf (origin_of w) w
 

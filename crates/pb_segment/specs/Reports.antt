@@ -1,4 +1,4 @@
--- What a report tells.
+-- The contents of a report.
 use Rattle.std.specs.Prelude.{◌≡◌, ℕ, ◌<◌, List, length, slice_index}
 use Rattle.pb_model.specs.Trace.{Entry}
 use Rattle.pb_model.specs.World.{World}
@@ -18,8 +18,9 @@ pub record ReportView : Type 0 where
 abbrev pub report_of : Origin → List Entry → List Happened → List ℕ → List Outlook → ReportView
 report_of o trace history turns looks = record { origin = o; trace = trace; history = history; turns = turns; outlooks = looks }
 
--- The trace is that of the last world, to which the history's replay leads from the new one, and which keeps the promises of the token and of silence. The turns are
--- those of each tap in the history, and the outlooks show its worlds.
+-- The trace is that of the last world, to which the history's replay leads from the new one, and which keeps the
+-- promises of the token and of silence. The turns are those of each tap in the history, and the outlooks are those of
+-- its worlds.
 pub record IsReport (r : ReportView) : Type 0 where
   pub first : World
   pub last : World

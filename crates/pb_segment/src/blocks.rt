@@ -1,20 +1,22 @@
+//! A list of events in blocks, so that appending never moves earlier events.
+
 ghost use Rattle.std.specs.Prelude.{◌≡◌, ◌≤◌, Some, None, MatchOption, length, slice_get};
 
 use crate::histories::Happened;
 use std::alloc::{AllocError, Global};
 use std::mem;
 
-/// How many events a block has room for.
+/// How many events a block holds.
 const ROOM: usize = 1024;
 
-/// Events of which no more go into their block.
+/// A full block of events.
 #[derive(Debug, Drop)]
 pub(crate) struct Block {
     happened: Vec<Happened>,
     ghost full: { length happened.items ≡ 1024 },
 }
 
-/// Events in order, in blocks, so that more of them move none of those that stand.
+/// Events in order, in blocks. Appending moves none of those that are stored.
 #[derive(Debug, Drop)]
 pub(crate) struct Blocks {
     full: Vec<Block>,
@@ -38,14 +40,14 @@ impl Blocks {
         }
     }
 
-    /// How many there are.
+    /// The number of events.
     pub(crate) fn len(&self) -> usize
         ensures { result ≡ length (happened_in self.now) }
     {
         self.full.len() * ROOM + self.last.len()
     }
 
-    /// The event at a place, counted from 0.
+    /// The event with this index, from 0.
     pub(crate) fn get(&self, place: usize) -> Option<&Happened>
         ensures { MatchOption result (slice_get (happened_in self.entry.now) place ≡ None)
             (λ h. slice_get (happened_in self.entry.now) place ≡ Some h.now) }
@@ -56,7 +58,9 @@ impl Blocks {
         }
     }
 
-    /// Makes room for one more, of 1,000,000. Its fault: memory was refused.
+    /// Reserves memory for one more event, of at most 1,000,000.
+    ///
+    /// Fault: memory was refused.
     pub(crate) fn reserve(&mut self, alloc: Global) -> Result<(), AllocError>
         requires { length (happened_in self.old) < 1000000 }
         ensures same { happened_in self.new ≡ happened_in self.old }
@@ -68,7 +72,7 @@ impl Blocks {
         self.add_room(alloc)
     }
 
-    /// Makes room where there is none for one more. It stands apart, since nearly always there is.
+    /// Slow path of `reserve`, kept out of line: memory is nearly always reserved already.
     #[inline(never)]
     fn add_room(&mut self, alloc: Global) -> Result<(), AllocError>
         requires { length (happened_in self.old) < 1000000 }
@@ -85,7 +89,7 @@ impl Blocks {
         Ok(())
     }
 
-    /// One more, for which there is room.
+    /// Appends one more event, for which memory is reserved.
     pub(crate) fn push_reserved(&mut self, happened: Happened)
         requires { HasRoom self.old }
         ensures { happened_in self.new ≡ happened_in self.old ++ happened ∷ [] }
@@ -94,7 +98,7 @@ impl Blocks {
     }
 }
 
-/// What stands at a place of a block.
+/// The event with this index in a block.
 fn at(happened: &Vec<Happened>, place: usize) -> Option<&Happened>
     ensures { MatchOption result (slice_get happened.entry.now.items place ≡ None)
         (λ h. slice_get happened.entry.now.items place ≡ Some h.now) }

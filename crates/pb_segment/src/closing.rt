@@ -1,3 +1,5 @@
+//! Closes a segment: compares what the seats keep with the history.
+
 ghost use Rattle.std.specs.Prelude.{◌≡◌, ◌+◌, ◌<◌, ◌↔◌, ℕ, All, IsTrue, length, map, slice_index, sum};
 ghost use Rattle.pb_segment.specs.Blocks.{happened_in};
 ghost use Rattle.pb_segment.specs.Histories.{StandsFrom, is_of, is_turn_of, told};
@@ -14,15 +16,15 @@ use crate::seats::{ConductorSeat, TapSeat};
 use std::sync::ledger::{Book, Ledger};
 use std::thread::{Threads, join};
 
-/// How many events are many: sooner than a thread is made, one goes over fewer.
+/// Below this many events, comparing in one thread is cheaper than spawning threads.
 const MANY: usize = 4096;
 
-/// What is found of outlooks.
+/// The results of comparing the outlooks and of reading the draft.
 #[derive(Drop)]
 struct Seen<T> {
-    /// Whether the conductor was shown those that the segment keeps.
+    /// Whether the conductor's outlooks equal those that the segment keeps.
     is_shown: bool,
-    /// What a look finds in the draft.
+    /// What the caller found in the draft.
     found: T,
 }
 
@@ -31,9 +33,9 @@ impl<L: Ledger> Locked<L> {
     ghost use Rattle.pb_segment.specs.Closing.{AgreesWith, CanClose, HasTold, RefusesToClose};
     ghost use Rattle.pb_segment.specs.Drafts.{draft_in};
 
-    /// What a look finds in the draft of what has happened, where it can be closed with these seats, and else why it can't.
-    /// Three of a crew go over it side by side, where there are so many and it is long: one looks, one compares what was
-    /// shown, and one what was told.
+    /// What the caller finds in the draft of the history if it can be closed with these seats, else why it cannot. For
+    /// a long history and a crew of three, three threads work concurrently: one reads the draft, one compares the
+    /// outlooks, and one compares the receipts.
     pub(crate) fn looked_at<R: Threads + Sync, T: Send + Drop, F: FnOnce(Draft<'_>) -> T + Send>(
         &self,
         rt: &R,
@@ -75,8 +77,8 @@ impl<L: Ledger> Locked<L> {
         Ok(seen.found)
     }
 
-    /// Why it can't be closed with these seats, and the origin that was kept beside the lock. It goes once over
-    /// the receipts and outlooks, and takes no memory.
+    /// Why it cannot be closed with these seats and the origin that was kept outside the lock; `None` if it can.
+    /// Receipts and outlooks are each read once, and nothing is allocated.
     pub(crate) fn closing_fault(
         &self,
         origin: &Origin,
@@ -95,14 +97,14 @@ impl<L: Ledger> Locked<L> {
         None
     }
 
-    /// Whether there are as many seats of taps as taps.
+    /// Whether there are as many tap seats as taps.
     fn has_all(&self, seats: &Vec<TapSeat<L>>) -> bool
         ensures { IsTrue result ↔ (length seats.now.items ≡ length self.now.turns) }
     {
         seats.len() == self.turns.len()
     }
 
-    /// Whether it began with the new world of an origin, and has just what the seats were told and shown.
+    /// Whether it began with the new world of `origin`, and has exactly what the seats keep as receipts and outlooks.
     fn agrees_with(
         &self,
         origin: &Origin,
@@ -117,7 +119,7 @@ impl<L: Ledger> Locked<L> {
         self.has_told(origin, conductor, seats)
     }
 
-    /// Whether it began with the new world of an origin, and has just what the seats were told.
+    /// Whether it began with the new world of `origin`, and has exactly what the seats keep as receipts.
     fn has_told(
         &self,
         origin: &Origin,
@@ -141,7 +143,7 @@ impl<L: Ledger> Locked<L> {
     }
 }
 
-/// What is found of outlooks that are kept, and of those that were shown.
+/// Compares the outlooks that the segment keeps with those that the conductor keeps, and reads the draft.
 fn see<R: Threads, T: Send + Drop, F: FnOnce(Draft<'_>) -> T + Send>(
     rt: &R,
     apart: bool,
@@ -168,7 +170,7 @@ fn see<R: Threads, T: Send + Drop, F: FnOnce(Draft<'_>) -> T + Send>(
     Seen { is_shown, found }
 }
 
-/// What two calls give, in a thread each where they are to be apart.
+/// The results of two calls, in two threads if `apart`.
 fn both<R: Threads, F: FnOnce() -> A + Send, G: FnOnce() -> B, A: Send, B>(
     rt: &R,
     apart: bool,
@@ -187,7 +189,7 @@ fn both<R: Threads, F: FnOnce() -> A + Send, G: FnOnce() -> B, A: Send, B>(
     (first, second)
 }
 
-/// Whether receipts are those of an owner's events in a history, of which there are so many.
+/// Whether receipts are those of an owner's events in a history. `count` is the number of these events.
 fn agree(history: &Blocks, owner: Owner, count: usize, receipts: &Vec<KeptReceipt>) -> bool
     requires { count ≡ length (told (is_of owner) (happened_in history.now)) }
     ensures { IsTrue result ↔ (told (is_of owner) (happened_in history.now) ≡ receipts.now.items) }
@@ -207,7 +209,7 @@ fn agree(history: &Blocks, owner: Owner, count: usize, receipts: &Vec<KeptReceip
     true
 }
 
-/// Whether a receipt is of an event of an owner, at a place or a later one.
+/// Whether a receipt is that of an owner's event, at index `from` or later.
 fn stands(history: &Blocks, owner: Owner, from: usize, receipt: &KeptReceipt) -> bool
     ensures { IsTrue result ↔ StandsFrom (is_of owner) (happened_in history.now) from receipt.now }
 {
@@ -217,7 +219,7 @@ fn stands(history: &Blocks, owner: Owner, from: usize, receipt: &KeptReceipt) ->
     from <= receipt.place && is_of(owner, &happened.event) && receipt.reply.is_same(&happened.reply)
 }
 
-/// Whether the receipts of each seat of a tap are those of the tap's turns, of which the counts are given.
+/// Whether the receipts of each tap seat are those of the tap's turns, given the number of turns of each tap.
 fn all_agree<L: Ledger>(history: &Blocks, turns: &Vec<usize>, seats: &Vec<TapSeat<L>>) -> bool
     requires parts { L.parts ≡ length turns.now.items + 1 }
     requires counts { (tap : ℕ) → tap < length turns.now.items
@@ -260,7 +262,7 @@ fn are_same(one: &Vec<Outlook>, other: &Vec<Outlook>) -> bool
     true
 }
 
-/// All seats together had all events accepted.
+/// All seats together had all events accepted, by the ledger.
 pub(crate) fn audit<L: Ledger>(
     book: &mut Book<L>,
     conductor: ConductorSeat<L>,

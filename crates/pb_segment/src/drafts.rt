@@ -1,3 +1,5 @@
+//! The draft of a report, read while the receipts are still compared.
+
 use crate::blocks::Blocks;
 use crate::outlooks::Outlook;
 use crate::reports::Report;
@@ -11,12 +13,12 @@ pub struct Draft<'a> {
     outlooks: &'a [Outlook],
 }
 
-/// A report, with what another has found in its draft.
+/// A report, and what the caller found in its draft.
 #[derive(Drop)]
 pub struct Closed<T> {
     /// The report.
     pub report: Report,
-    /// What was found.
+    /// What the caller found.
     pub found: T,
 }
 
@@ -34,7 +36,7 @@ impl<'a> Draft<'a> {
     ghost use Rattle.pb_taps.specs.Events.{event_of, reply_of};
     ghost use Rattle.pb_segment.specs.Blocks.{happened_in};
 
-    /// The draft of some events, and of what the conductor was shown.
+    /// The draft of some events and of the conductor's outlooks.
     pub(crate) fn of(happened: &'a Blocks, outlooks: &'a [Outlook]) -> Draft<'a>
         ensures { result ≡ record { history = happened_in happened.now; outlooks = outlooks.now } }
     {
@@ -48,7 +50,7 @@ impl<'a> Draft<'a> {
         self.happened.len()
     }
 
-    /// The event at a place, counted from 0, and its reply. None where no more events were accepted.
+    /// The event with this index, from 0, and its reply; `None` if there are fewer events.
     pub fn at(&self, place: usize) -> Option<(&'a Event, &'a Reply)>
         ensures { MatchOption result (slice_get self.entry.now.history place ≡ None)
             (λ h. slice_get self.entry.now.history place
@@ -58,7 +60,7 @@ impl<'a> Draft<'a> {
         Some((&happened.event, &happened.reply))
     }
 
-    /// What the conductor was shown, in order.
+    /// The conductor's outlooks, in order.
     pub fn outlooks(&self) -> &'a [Outlook]
         ensures { result.now ≡ self.now.outlooks }
     {

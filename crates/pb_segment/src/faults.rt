@@ -1,17 +1,19 @@
+//! Why a call on a segment is refused.
+
 ghost use Rattle.pb_segment.specs.declared.faults.CommitFault.TheVariants as commit;
 ghost use Rattle.pb_segment.specs.declared.faults.GlanceFault.TheVariants as glance;
 ghost use Rattle.pb_taps.specs.declared.faults.WorldFault.TheVariants as world;
 ghost use Rattle.std.specs.Prelude.{◌≡◌};
 
-use pb_station::NoMemory;
+use pb_refusals::NoMemory;
 use pb_world::WorldFault;
 use std::alloc::AllocError;
 use thiserror::Error;
 
-/// Why a seat is shown nothing: the first fault that applies, in this order.
+/// Why a glance or an outlook is refused: the first fault that applies, in this order.
 #[derive(Clone, Copy, Debug, PartialEq, Eq, Error)]
 pub enum GlanceFault {
-    /// 1: the segment has accepted another number of events of the seat than the seat knows of.
+    /// 1: the segment has accepted another number of the seat's events than the seat has receipts.
     #[error("Disagree")]
     Disagree,
     /// 2: memory was refused.
@@ -35,17 +37,17 @@ impl From<NoMemory> for GlanceFault {
     }
 }
 
-/// Why an event of a seat is refused: the first fault that applies, in this order. Want of memory is
-/// `World(NoMemory)`, and comes last.
+/// Why an event of a seat is refused: the first fault that applies, in this order. Refused memory is `World(NoMemory)`,
+/// and comes last.
 #[derive(Clone, Copy, Debug, PartialEq, Eq, Error)]
 pub enum CommitFault {
-    /// 1: the decision is another tap's, or the conductor drives a turn.
+    /// 1: the decision is for another tap, or the conductor's event is a turn.
     #[error("WrongTap")]
     WrongTap,
-    /// 2: the segment has accepted another number of events of the seat than the seat knows of.
+    /// 2: the segment has accepted another number of the seat's events than the seat has receipts.
     #[error("Disagree")]
     Disagree,
-    /// 3: the station, its unread marks or the clock are not those that the decision was made on.
+    /// 3: the station, its unread marks or the clock are not those from which the decision was computed.
     #[error("Stale {turns} {now}")]
     Stale {
         /// How many turns of the tap were accepted.
@@ -56,7 +58,7 @@ pub enum CommitFault {
     /// 4: the world refuses the event.
     #[error("World {0}")]
     World(WorldFault),
-    /// 5: the history is full.
+    /// 5: the history has as many events as it may have.
     #[error("HistoryFull")]
     HistoryFull,
 }
@@ -80,11 +82,10 @@ impl From<AllocError> for CommitFault {
 /// Why a segment is not closed: the first fault that applies, in this order.
 #[derive(Clone, Copy, Debug, PartialEq, Eq, Error)]
 pub enum CloseFault {
-    /// 1: there are more or fewer seats of taps than taps.
+    /// 1: there are more or fewer tap seats than taps.
     #[error("MissingSeat")]
     MissingSeat,
-    /// 2: what the seats were told or shown is not what stands in the history, or another world was begun
-    /// with.
+    /// 2: receipts or outlooks of the seats differ from those of the history, or the history began with another world.
     #[error("Disagree")]
     Disagree,
 }

@@ -1,3 +1,5 @@
+//! The history of a segment.
+
 ghost use Rattle.std.specs.Prelude.{◌≡◌};
 
 use crate::blocks::Blocks;
@@ -6,7 +8,7 @@ use std::alloc::Global;
 use std::marker::Model;
 use std::sync::Arc;
 
-/// An event that was accepted, and its reply.
+/// An accepted event and its reply.
 #[derive(Debug, Drop)]
 pub(crate) struct Happened {
     pub(crate) event: Arc<Event, Global>,
@@ -54,14 +56,14 @@ impl History {
         History { happened }
     }
 
-    /// How many events it has.
+    /// The number of events.
     pub fn len(&self) -> usize
         ensures { result ≡ length self.now }
     {
         self.happened.len()
     }
 
-    /// The event at a place, counted from 0, and its reply. None where the history has no more events.
+    /// The event with this index, from 0, and its reply; `None` if there are fewer events.
     pub fn at(&self, place: usize) -> Option<(&Event, &Reply)>
         ensures { MatchOption result (slice_get self.entry.now place ≡ None)
             (λ h. slice_get self.entry.now place

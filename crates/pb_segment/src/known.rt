@@ -1,4 +1,4 @@
-//! What the events of a history share, so that few of them take the room of the longest.
+//! Events and replies that a history shares, so that few of them take the memory of the largest.
 
 ghost use Rattle.std.specs.Arc.{arc_value};
 ghost use Rattle.std.specs.Prelude.{◌≡◌, ◌↔◌, IfOk, IsTrue, None, Some};
@@ -13,23 +13,25 @@ use pb_world::{Event, Reply};
 use std::alloc::{AllocError, Global};
 use std::sync::Arc;
 
-/// How many taps there are places for, and for how many lengths of passes.
+/// How many taps, and how many lengths of passes, have a place in the tables.
 const PLACES: usize = 128;
 
-/// Events and replies that stand in a history, for others that are equal: the turns of a tap, passes of one length, and
-/// what is replied to events of one moment that say nothing.
+/// Events and replies of the history that are shared by equal ones: the turns of a tap, passes of one length, and the
+/// reply to events of one moment that send nothing.
 #[derive(Drop)]
 pub(crate) struct Known {
-    /// By their taps.
+    /// By tap.
     turns: Vec<Option<Arc<Event, Global>>>,
-    /// By their lengths.
+    /// By length.
     passes: Vec<Option<Arc<Event, Global>>>,
-    /// The latest reply that says nothing.
+    /// The last reply without octets.
     silent: Arc<Reply, Global>,
 }
 
 impl Known {
-    /// Nothing stands in the history yet, at a moment. Its fault: memory was refused.
+    /// Nothing is shared yet.
+    ///
+    /// Fault: memory was refused.
     pub(crate) fn new(alloc: Global, now: Moment) -> Result<Known, AllocError> {
         Ok(Known {
             turns: no_events(alloc)?,
@@ -38,7 +40,9 @@ impl Known {
         })
     }
 
-    /// The turn of a tap, as the history keeps it. Its fault: memory was refused.
+    /// The turn of a tap, shared if it is known.
+    ///
+    /// Fault: memory was refused.
     pub(crate) fn turn(
         &mut self,
         alloc: Global,
@@ -54,7 +58,9 @@ impl Known {
         learn_turn(alloc, &mut self.turns, tap)
     }
 
-    /// An event as the history keeps it. Its fault: memory was refused.
+    /// An event, shared if it is a known pass.
+    ///
+    /// Fault: memory was refused.
     pub(crate) fn event(
         &mut self,
         alloc: Global,
@@ -73,7 +79,9 @@ impl Known {
         learn_pass(alloc, &mut self.passes, *bits)
     }
 
-    /// A reply that says nothing at a moment, as the history and a seat keep it. Its fault: memory was refused.
+    /// A reply without octets at `now`, shared by the history and seats.
+    ///
+    /// Fault: memory was refused.
     pub(crate) fn silence(
         &mut self,
         alloc: Global,
@@ -88,7 +96,9 @@ impl Known {
     }
 }
 
-/// A place for each event that may be known.
+/// Empty places for events.
+///
+/// Fault: memory was refused.
 fn no_events(alloc: Global) -> Result<Vec<Option<Arc<Event, Global>>>, AllocError> {
     let mut events = Vec::with_capacity(alloc, PLACES)?;
     for _ in 0..PLACES {
@@ -97,7 +107,9 @@ fn no_events(alloc: Global) -> Result<Vec<Option<Arc<Event, Global>>>, AllocErro
     Ok(events)
 }
 
-/// A reply that says something at a moment, as the history and a seat keep it. Its fault: memory was refused.
+/// A reply with octets at `now`, shared by the history and a seat.
+///
+/// Fault: memory was refused.
 pub(crate) fn spoken(
     alloc: Global,
     now: Moment,
@@ -110,7 +122,7 @@ pub(crate) fn spoken(
     Ok(Arc::new(alloc, Reply { now, spoke })?)
 }
 
-/// An event of a kind that seldom comes.
+/// An event of a rare kind. Kept out of line.
 #[inline(never)]
 fn copied(alloc: Global, event: &Event) -> Result<Arc<Event, Global>, AllocError>
     ensures { IfOk result (λ kept. event_of (arc_value kept) ≡ event_of event.now) }
@@ -118,8 +130,7 @@ fn copied(alloc: Global, event: &Event) -> Result<Arc<Event, Global>, AllocError
     Ok(Arc::new(alloc, event.copy())?)
 }
 
-/// The turn of a tap, which is known from now on. It seldom comes, and stands apart, so that what comes often doesn't
-/// pay for the room of an event.
+/// The turn of a tap, which is known from now on. Kept out of line: it is rare, and its frame has room for an event.
 #[inline(never)]
 fn learn_turn(
     alloc: Global,
@@ -131,7 +142,7 @@ fn learn_turn(
     learn(alloc, turns, tap % PLACES, Event::Turn(tap))
 }
 
-/// A pass of a length, likewise.
+/// A pass of a length, which is known from now on. Kept out of line for the same reason.
 #[inline(never)]
 fn learn_pass(
     alloc: Global,
@@ -143,7 +154,7 @@ fn learn_pass(
     learn(alloc, passes, place_of(bits), Event::Pass(bits))
 }
 
-/// Where a pass of a length is known.
+/// The index at which a pass of a length is stored.
 fn place_of(bits: u64) -> usize {
     (bits % PLACES as u64) as usize
 }

@@ -1,6 +1,6 @@
-//! One bus for many threads: a world under a lock, with the history of all that it has done. What stands
-//! under the lock is the replay of that history, and the seats, one for each tap and one for the conductor,
-//! keep what they were told; at the end all of it is compared.
+//! One bus for many threads: a world under a lock, and the history of its events. The world is the replay of that
+//! history. The seats, one for each tap and one for the conductor, keep receipts of their events; at the end receipts
+//! and history are compared.
 #![tactic(auto)]
 
 mod blocks;

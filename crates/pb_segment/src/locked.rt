@@ -1,4 +1,4 @@
-//! What stands under the lock: a world, and the history that led to it.
+//! The state under the lock: a world, and the history that led to it.
 
 ghost use Rattle.std.specs.Prelude.{◌≡◌, ◌+◌, ◌<◌, ◌++◌, ◌∷◌, [], ℕ, length, slice_index, vec_len, vec_capacity};
 ghost use Rattle.pb_taps.specs.Events.{event_of};
@@ -20,22 +20,22 @@ use std::alloc::Global;
 use std::marker::Model;
 use std::sync::ledger::{Book, Ledger, Share};
 
-/// A world, and the events that have led to it from the new one.
+/// A world, and the events that led to it from the new one.
 #[derive(Drop)]
 pub(crate) struct Locked<L: Ledger> {
     pub(crate) world: World,
-    /// Of what the new one was made.
+    /// The definition of the new world.
     pub(crate) origin: Origin,
-    /// The events that were accepted, in order.
+    /// The accepted events, in order.
     pub(crate) history: Blocks,
-    /// What events of the history share.
+    /// The events and replies that the history shares.
     pub(crate) known: Known,
     /// How many turns of each tap were accepted.
     pub(crate) turns: Vec<usize>,
-    /// How many other events were.
+    /// How many other events were accepted.
     pub(crate) drives: usize,
     pub(crate) outlooks: Vec<Outlook>,
-    /// How many events the history may have.
+    /// The most events of the history.
     pub(crate) limit: usize,
     pub(crate) book: Book<L>,
 }
@@ -66,7 +66,7 @@ impl<L: Ledger> Locked<L> {
     ghost use Rattle.pb_segment.specs.Outlooks.{ShowsWorld};
     ghost use Rattle.pb_segment.specs.Seats.{Answers, CountsTurns, IsSilent, IsTold};
 
-    /// What the tap of a seat shows.
+    /// A glance at the tap of a seat.
     pub(crate) fn glance(&mut self, alloc: Global, seat: &TapSeat<L>) -> Result<Glance, GlanceFault>
         ensures shows { IfOk result (IsGlance self.old.world seat.now.tap) }
         ensures turn { IfOk result CanBeDecided }
@@ -81,7 +81,7 @@ impl<L: Ledger> Locked<L> {
         Ok(glance)
     }
 
-    /// Takes the turn of a decision that was made on the present state.
+    /// Takes a decided turn, if the decision was computed from the present state.
     #[inline(always)]
     pub(crate) fn commit(
         &mut self,
@@ -113,7 +113,7 @@ impl<L: Ledger> Locked<L> {
         self.keep_turn(alloc, decided, &mut seat.receipts, &mut seat.share)
     }
 
-    /// Lets an event happen that is no turn.
+    /// Applies an event that is no turn.
     #[inline(always)]
     pub(crate) fn drive(
         &mut self,
@@ -138,7 +138,7 @@ impl<L: Ledger> Locked<L> {
         self.keep_event(alloc, event, &mut seat.receipts, &mut seat.share)
     }
 
-    /// What the conductor sees, which both keep.
+    /// An outlook, which the segment and the conductor's seat both keep.
     pub(crate) fn outlook(
         &mut self,
         alloc: Global,
@@ -168,8 +168,7 @@ impl<L: Ledger> Locked<L> {
         Ok(shown)
     }
 
-    /// The world takes the turn of a decision that fits, and the event is kept, with a receipt. All room that it takes
-    /// is made before anything changes.
+    /// Takes a decided turn that fits, and keeps event and receipt. All memory is reserved before anything changes.
     #[inline(always)]
     fn keep_turn(
         &mut self,
@@ -206,8 +205,7 @@ impl<L: Ledger> Locked<L> {
         Ok(())
     }
 
-    /// An event happens that is no turn, and is kept, with a receipt. All room that it takes is made before anything
-    /// changes.
+    /// Applies an event that is no turn, and keeps event and receipt. All memory is reserved before anything changes.
     #[inline(always)]
     fn keep_event(
         &mut self,
@@ -245,7 +243,7 @@ impl<L: Ledger> Locked<L> {
     }
 }
 
-/// An event that has happened is kept, for which there is room, and its seat is told of it.
+/// Keeps an applied event in the history, and its receipt at the seat, within the reserved memory.
 #[inline(always)]
 fn keep<L: Ledger>(
     note: Note,
@@ -269,7 +267,7 @@ fn keep<L: Ledger>(
     receipts.push_reserved(kept);
 }
 
-/// Counts what has happened.
+/// Counts an event that has happened.
 fn count(turns: &mut Vec<usize>, drives: &mut usize, happened: &Happened)
     requires turns { (tap : ℕ) → tap < length turns.old.items → slice_index turns.old.items tap < 1000000 }
     requires drives { drives.old < 1000000 }
@@ -279,7 +277,7 @@ fn count(turns: &mut Vec<usize>, drives: &mut usize, happened: &Happened)
     count_event(turns, drives, &happened.event);
 }
 
-/// Counts an event that was accepted.
+/// Counts an accepted event.
 fn count_event(turns: &mut Vec<usize>, drives: &mut usize, event: &Event)
     requires turns { (tap : ℕ) → tap < length turns.old.items → slice_index turns.old.items tap < 1000000 }
     requires drives { drives.old < 1000000 }

@@ -1,3 +1,5 @@
+//! Makes a segment and its seats.
+
 ghost use Rattle.std.specs.Prelude.{◌≡◌, ◌+◌, ◌<◌, ◌≤◌, [], ℕ, IfOk, OnOk, Some, length, replicate, slice_get};
 ghost use Rattle.pb_segment.specs.Locked.{view_of};
 ghost use Rattle.pb_segment.specs.Origins.{IsNew, origin_of};
@@ -8,24 +10,24 @@ use crate::locked::Locked;
 use crate::origins::Origin;
 use crate::seats::{ConductorSeat, TapSeat};
 use crate::segments::SharedSegment;
-use pb_station::NoMemory;
+use pb_refusals::NoMemory;
 use pb_world::World;
 use std::alloc::{AllocError, Global};
 use std::sync::Mutex;
 use std::sync::ledger::{Blank, Book, Ledger, Share};
 
-/// The most events that a history may have.
+/// The most events of a history.
 const MOST_EVENTS: usize = 1_000_000;
 
 impl<L: Ledger> SharedSegment<L> {
     ghost use Rattle.std.specs.Prelude.{◌≡◌, ◌+◌, ◌<◌, ◌≤◌, [], ℕ, IfOk, Some, length, slice_get};
     ghost use Rattle.pb_segment.specs.Origins.{IsNew, origin_of};
 
-    /// A segment round a new world, with an empty history, the conductor's seat, and a seat for each tap, in
-    /// the order of the taps. The world is new, and the blank ledger has a part for each tap and one more, both
-    /// the caller's conditions. Its history may have 1,000,000 events.
+    /// A segment around a new world, with an empty history of at most 1,000,000 events; the conductor's seat; and a
+    /// seat for each tap, in the order of the taps. The caller ensures that the world is new, and that the blank ledger
+    /// has one part for each tap and one more.
     ///
-    /// Fault: `NoMemory` where memory was refused; the world and the blank are dropped.
+    /// Fault: `NoMemory` if memory was refused. World and blank ledger are dropped.
     pub fn new(
         alloc: Global,
         blank: Blank,
@@ -44,7 +46,7 @@ impl<L: Ledger> SharedSegment<L> {
         SharedSegment::with_history(alloc, blank, world, MOST_EVENTS)
     }
 
-    /// The same with a history of so many events at most, 1 to 1,000,000, the caller's condition.
+    /// The same with a history of at most `limit` events. The caller ensures that `limit` is 1 to 1,000,000.
     pub fn with_history(
         alloc: Global,
         blank: Blank,
@@ -73,8 +75,9 @@ impl<L: Ledger> SharedSegment<L> {
     }
 }
 
-/// What stands under the lock at first: a new world, and an empty history that may have so many events. Its fault:
-/// memory was refused.
+/// The first state under the lock: a new world, and an empty history of at most `limit` events.
+///
+/// Fault: memory was refused.
 fn opened<L: Ledger>(
     alloc: Global,
     world: World,
@@ -103,14 +106,16 @@ fn opened<L: Ledger>(
     })
 }
 
-/// No turn of any of so many taps.
+/// No turns of any tap.
+///
+/// Fault: memory was refused.
 fn no_turns(alloc: Global, taps: usize) -> Result<Vec<usize>, AllocError>
     ensures { IfOk result (λ turns. turns.items ≡ replicate taps 0) }
 {
     Ok(vec![in alloc; 0; taps]?)
 }
 
-/// The conductor's seat, with what is left of the ledger's parts.
+/// The conductor's seat, with the last part of the ledger.
 fn conductor_seat<L: Ledger>(alloc: Global, rest: Share<L>) -> ConductorSeat<L>
     requires part { rest.parts ≡ 1 }
     requires empty { rest.amount ≡ 0 }
@@ -123,7 +128,9 @@ fn conductor_seat<L: Ledger>(alloc: Global, rest: Share<L>) -> ConductorSeat<L>
     }
 }
 
-/// The seats of so many taps, each with one of the ledger's parts; one part is left.
+/// The seats of the taps, each with one part of the ledger. One part is left.
+///
+/// Fault: memory was refused.
 fn tap_seats<L: Ledger>(
     alloc: Global,
     rest: &mut Share<L>,

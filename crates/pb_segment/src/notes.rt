@@ -1,4 +1,4 @@
-//! What is kept of an event, which is made before the event happens.
+//! What is kept of an event. It is made before the event is applied.
 
 ghost use Rattle.std.specs.Arc.{arc_value};
 ghost use Rattle.std.specs.Prelude.{◌≡◌, ◌<◌, ◌≤◌, IfOk, IfErr, OnOk, false, length, vec_len, vec_capacity};
@@ -22,17 +22,19 @@ use pb_world::{Event, Reply, World};
 use std::alloc::{AllocError, Global};
 use std::sync::Arc;
 
-/// What is kept of an event that the world does.
+/// What is kept of an event that the world will accept.
 #[derive(Drop)]
 pub(crate) struct Note {
-    /// In the history.
+    /// What the history keeps.
     pub(crate) happened: Happened,
-    /// By its seat.
+    /// What the seat keeps.
     pub(crate) kept: KeptReceipt,
 }
 
-/// What is kept of the turn of a decision, if the world takes it, with room for it in a history that may have so many
-/// events, and among the receipts of a seat. Faults, the first that applies: `HistoryFull`; `World(NoMemory)`.
+/// Makes what is kept of a decided turn, if the world takes it, and reserves memory for it in the history, of at most
+/// `limit` events, and in the seat's receipts.
+///
+/// Faults, the first that applies: `HistoryFull`; `World(NoMemory)`.
 pub(crate) fn note_turn(
     alloc: Global,
     world: &World,
@@ -60,7 +62,7 @@ pub(crate) fn note_turn(
     Ok(note_at(history.len(), event, reply)?)
 }
 
-/// The same of an event that is no turn.
+/// The same for an event that is no turn.
 pub(crate) fn note_event(
     alloc: Global,
     world: &World,
@@ -88,7 +90,7 @@ pub(crate) fn note_event(
     Ok(note_at(history.len(), kept, reply)?)
 }
 
-/// Why a turn isn't taken for which there is no room: the world's fault comes first.
+/// Why a turn is refused for which there is no room: the world's fault comes first.
 #[inline(never)]
 pub(crate) fn turn_refused(world: &World, decided: &Decided<'_>, fault: CommitFault) -> CommitFault
     requires { Fits world.now decided.now }
@@ -98,7 +100,7 @@ pub(crate) fn turn_refused(world: &World, decided: &Decided<'_>, fault: CommitFa
     refused(world, &event, decided.speak.is_some(), fault)
 }
 
-/// Why an event doesn't happen for which there is no room: the world's fault comes first.
+/// Why an event is refused for which there is no room: the world's fault comes first.
 #[inline(never)]
 pub(crate) fn refused(world: &World, event: &Event, speaks: bool, fault: CommitFault) -> CommitFault
     requires { TellsSpeech world.now (event_of event.now) speaks }
@@ -110,7 +112,7 @@ pub(crate) fn refused(world: &World, event: &Event, speaks: bool, fault: CommitF
     }
 }
 
-/// Makes room for one more event of a history that may have so many, and for its receipt.
+/// Reserves memory for one more event, in a history of at most `limit`, and for its receipt.
 #[inline(always)]
 fn make_room(
     alloc: Global,
@@ -135,7 +137,9 @@ fn make_room(
     Ok(())
 }
 
-/// What the turn of a decision is replied, if the world takes it. Its fault: memory was refused.
+/// The reply to a decided turn, if the world takes it.
+///
+/// Fault: memory was refused.
 fn reply_to_turn(
     alloc: Global,
     world: &World,
@@ -152,7 +156,9 @@ fn reply_to_turn(
     }
 }
 
-/// What an event is replied that is no turn, if it happens. Its fault: memory was refused.
+/// The reply to an event that is no turn, if the world accepts it.
+///
+/// Fault: memory was refused.
 fn reply_to_event(
     alloc: Global,
     world: &World,
@@ -166,7 +172,9 @@ fn reply_to_event(
     known.silence(alloc, clock_after(world, event))
 }
 
-/// What is kept of an event with its reply, at a place of the history. Its fault: the reply is shared too often.
+/// What is kept of an event with its reply, at index `place` of the history.
+///
+/// Fault: the reply is shared too often.
 fn note_at(
     place: usize,
     event: Arc<Event, Global>,
@@ -189,7 +197,7 @@ fn note_at(
     })
 }
 
-/// The clock after an event, if the world does it.
+/// The clock after an event, if the world accepts it.
 fn clock_after(world: &World, event: &Event) -> Moment
     ensures { IsClockAfter world.entry.now (event_of event.now) result }
 {

@@ -1,4 +1,4 @@
-//! Of what the new world of a segment is made.
+//! The definition of a segment's new world.
 
 ghost use Rattle.std.specs.Prelude.{◌≡◌, ◌<◌, ◌↔◌, IsTrue, IfOk, Some, length, slice_get};
 ghost use Rattle.pb_theorem.specs.Headline.{specs_of};
@@ -9,7 +9,7 @@ use pb_world::World;
 use std::alloc::{AllocError, Global};
 use std::marker::Model;
 
-/// Of what a new world is made: the parameters of its bus, and what each tap is.
+/// The definition of a new world: the parameters of its bus, and the definition of each tap.
 #[derive(Drop)]
 pub(crate) struct Origin {
     params: BusParams,
@@ -24,12 +24,12 @@ impl Model for Origin {
     ghost view = { λ o. record { params = o.params; specs = o.members.items } };
 }
 
-/// What a tap is.
+/// The definition of a tap.
 #[derive(Drop)]
 struct Member {
     address: u8,
     master: bool,
-    /// The data of its replies.
+    /// The data with which it replies to a request for data.
     reply: Vec<u8>,
 }
 
@@ -45,7 +45,9 @@ impl Origin {
     ghost use Rattle.std.specs.Prelude.{◌≡◌, ◌↔◌, IsTrue, IfOk};
     ghost use Rattle.pb_segment.specs.Origins.{IsMade, origin_of};
 
-    /// Of what a new world is made. Its fault: memory was refused.
+    /// The definition of a new world.
+    ///
+    /// Fault: memory was refused.
     pub(crate) fn of(alloc: Global, world: &World) -> Result<Origin, AllocError>
         requires { IsMade world.now }
         ensures { IfOk result (λ o. o ≡ origin_of world.entry.now) }
@@ -55,7 +57,7 @@ impl Origin {
         Ok(Origin { params, members })
     }
 
-    /// Whether another is equal to it.
+    /// Whether two definitions are equal.
     pub(crate) fn is_same(&self, other: &Origin) -> bool
         ensures { IsTrue result ↔ (self.now ≡ other.now) }
     {
@@ -63,7 +65,7 @@ impl Origin {
     }
 }
 
-/// The parameters of the bus of a new world, as its first station knows them.
+/// The parameters of a new world's bus, as its first station has them.
 fn params_of(world: &World) -> BusParams
     requires { IsMade world.now }
     ensures { result ≡ world.entry.now.params }
@@ -75,7 +77,9 @@ fn params_of(world: &World) -> BusParams
     *first.params()
 }
 
-/// What the taps of a new world are.
+/// The definitions of a new world's taps.
+///
+/// Fault: memory was refused.
 #[tactic(auto, using(crate::proofs::NewWorlds::next_spec))]
 fn members_of(alloc: Global, world: &World) -> Result<Vec<Member>, AllocError>
     requires { IsMade world.now }
@@ -88,14 +92,16 @@ fn members_of(alloc: Global, world: &World) -> Result<Vec<Member>, AllocError>
     Ok(members)
 }
 
-/// What the tap of a new world at a position is.
+/// The definition of a new world's tap with this index.
+///
+/// Fault: memory was refused.
 fn member_at(alloc: Global, world: &World, tap: usize) -> Result<Member, AllocError>
     requires new { IsMade world.now }
     requires inside { tap < length world.now.taps }
     ensures { IfOk result (λ member. slice_get (specs_of world.entry.now) tap ≡ Some member) }
 {
     let Some(station) = world.station(tap) else {
-        // Each tap of a world has a station, and this one is in the list.
+        // Each tap of a world has a station, and this tap exists.
         unreachable!()
     };
     let mut reply = Vec::new(alloc);

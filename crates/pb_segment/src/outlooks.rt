@@ -1,3 +1,5 @@
+//! Outlooks: when each tap is due, and when something else changes.
+
 ghost use Rattle.std.specs.Prelude.{◌≡◌, ◌↔◌, ◌≤◌, IsTrue, IfOk, length};
 ghost use Rattle.pb_runs.specs.Bus.{dues};
 ghost use Rattle.pb_segment.specs.Dues.{moments_in};
@@ -10,10 +12,10 @@ use std::alloc::{AllocError, Global};
 use std::marker::Model;
 use std::sync::Arc;
 
-/// What the conductor is shown of the world after the first `place` events of the history.
+/// The state of the world after the first `place` events of the history, as the conductor sees it.
 #[derive(Debug, Drop)]
 pub struct Outlook {
-    /// How many events stand before it.
+    /// How many events of the history were before it.
     pub place: usize,
     /// The clock, in bit times.
     pub now: Moment,
@@ -24,7 +26,9 @@ pub struct Outlook {
 }
 
 impl Outlook {
-    /// What a world with so many taps shows after so many events. Its fault: memory was refused.
+    /// The outlook of a world with `taps` taps, after `place` events.
+    ///
+    /// Fault: memory was refused.
     pub(crate) fn of(
         alloc: Global,
         world: &World,
@@ -43,7 +47,9 @@ impl Outlook {
         })
     }
 
-    /// An equal outlook, which shares the moments. Its fault: they are shared too often.
+    /// An equal outlook, which shares the moments.
+    ///
+    /// Fault: they are shared too often.
     pub(crate) fn copy(&self) -> Result<Outlook, AllocError>
         ensures { IfOk result (λ o. o ≡ self.entry.now) }
     {
@@ -55,7 +61,7 @@ impl Outlook {
         })
     }
 
-    /// Whether it shows the same as another, after as many events.
+    /// Whether two outlooks are equal.
     pub(crate) fn is_same(&self, other: &Outlook) -> bool
         ensures { IsTrue result ↔ (self.entry.now ≡ other.entry.now) }
     {
@@ -66,7 +72,7 @@ impl Outlook {
     }
 }
 
-/// When each tap is due, in the order of the taps: None for one that doesn't run, or waits for nothing.
+/// When each tap is due, in the order of the taps; `None` for a tap that does not run or waits for nothing.
 #[derive(Debug, Drop)]
 pub struct Dues {
     moments: Moments,
@@ -84,14 +90,16 @@ impl Model for Dues {
 impl Dues {
     ghost use Rattle.std.specs.Prelude.{◌≡◌, ◌↔◌, IsTrue, IfOk};
 
-    /// When each tap is due, in bit times: as many as there are taps.
+    /// When each tap is due, in bit times. There are as many elements as taps.
     pub fn moments(&self) -> &[Option<Moment>]
         ensures { result.now ≡ self.now }
     {
         moments_of(&self.moments)
     }
 
-    /// The same moments, which are shared.
+    /// The same moments, shared.
+    ///
+    /// Fault: they are shared too often.
     fn copy(&self) -> Result<Dues, AllocError>
         ensures { IfOk result (λ d. d ≡ self.now) }
     {
@@ -107,17 +115,17 @@ impl Dues {
     }
 }
 
-/// How many moments are few.
+/// Up to how many moments are stored in place.
 const FEW: usize = 4;
 
-/// The moments of all taps, which are shared. Few of them take one room, and many a room that fits.
+/// The moments of all taps, shared. Up to four take one allocation; more of them also have a list that fits.
 #[derive(Debug, Drop)]
 enum Moments {
     Few(Arc<ArrayVec<Option<Moment>, FEW>, Global>),
     Many(Arc<Vec<Option<Moment>>, Global>),
 }
 
-/// The moments, wherever they stand.
+/// The moments, in either form.
 fn moments_of(moments: &Moments) -> &[Option<Moment>]
     ensures { result.now ≡ moments_in moments.now }
 {
@@ -127,7 +135,9 @@ fn moments_of(moments: &Moments) -> &[Option<Moment>]
     }
 }
 
-/// The same, for one more. Its fault: they are shared too often.
+/// The same moments, shared once more.
+///
+/// Fault: they are shared too often.
 fn shared(moments: &Moments) -> Result<Moments, AllocError>
     ensures { IfOk result (λ same. moments_in same ≡ moments_in moments.now) }
 {
@@ -151,7 +161,9 @@ fn are_same(one: &[Option<Moment>], other: &[Option<Moment>]) -> bool
     true
 }
 
-/// When each tap of a world is due. Its fault: memory was refused.
+/// When each tap of a world is due.
+///
+/// Fault: memory was refused.
 fn due_moments(alloc: Global, world: &World, taps: usize) -> Result<Dues, AllocError>
     requires { taps ≡ length world.now.taps }
     ensures { IfOk result (λ d. d ≡ dues world.entry.now) }
@@ -164,7 +176,7 @@ fn due_moments(alloc: Global, world: &World, taps: usize) -> Result<Dues, AllocE
     Ok(Dues { moments })
 }
 
-/// When each of few taps is due.
+/// When each of at most four taps is due.
 #[tactic(auto, using(crate::proofs::Showing::next_due))]
 fn few_moments(world: &World, taps: usize) -> ArrayVec<Option<Moment>, FEW>
     requires all { taps ≡ length world.now.taps }
@@ -178,7 +190,9 @@ fn few_moments(world: &World, taps: usize) -> ArrayVec<Option<Moment>, FEW>
     moments
 }
 
-/// When each tap is due. Its fault: memory was refused.
+/// When each tap is due.
+///
+/// Fault: memory was refused.
 #[tactic(auto, using(crate::proofs::Showing::next_due))]
 fn many_moments(
     alloc: Global,

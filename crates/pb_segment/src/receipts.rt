@@ -1,3 +1,5 @@
+//! Receipts of accepted events, as seats keep them.
+
 ghost use Rattle.std.specs.Prelude.{◌≡◌, ◌↔◌, IsTrue, None};
 ghost use Rattle.pb_taps.specs.Events.{event_of, reply_of};
 ghost use Rattle.pb_segment.specs.Histories.{is_of, is_turn};
@@ -8,12 +10,12 @@ use std::alloc::{AllocError, Global};
 use std::marker::Model;
 use std::sync::Arc;
 
-/// What a seat is told of an event of its own that was accepted.
+/// The receipt of a seat's event that was accepted.
 #[derive(Debug, Drop)]
 pub struct Receipt {
-    /// How many events stand before it in the history.
+    /// How many events are before it in the history.
     pub place: usize,
-    /// Its reply.
+    /// The reply to the event.
     pub reply: Reply,
 }
 
@@ -43,7 +45,7 @@ impl Model for KeptReceipt {
 }
 
 impl KeptReceipt {
-    /// What its seat is told.
+    /// The receipt as a user gets it.
     #[inline(always)]
     pub(crate) fn told(&self) -> Receipt
         ensures { result ≡ self.now }
@@ -55,11 +57,11 @@ impl KeptReceipt {
     }
 }
 
-/// A reply as a seat keeps it: of one that says nothing, which nearly all are, its moment.
+/// A reply as a seat keeps it. For a reply without octets, as nearly all are, this is only its moment.
 #[derive(Debug, Drop)]
 pub(crate) enum KeptReply {
     Silent(Moment),
-    /// The one that the history keeps.
+    /// A reply with octets, shared with the history.
     Spoken(Arc<Reply, Global>),
 }
 
@@ -69,7 +71,9 @@ impl KeptReply {
     ghost use Rattle.pb_taps.specs.Events.{reply_of};
     ghost use Rattle.pb_segment.specs.Kept.{reply_in};
 
-    /// A reply that the history keeps. Its fault: it is shared too often.
+    /// A reply that the history keeps.
+    ///
+    /// Fault: it is shared too often.
     pub(crate) fn of(reply: &Arc<Reply, Global>) -> Result<KeptReply, AllocError>
         ensures { IfOk result (λ kept. reply_in kept ≡ reply_of (arc_value reply.now)) }
     {
@@ -79,7 +83,7 @@ impl KeptReply {
         }
     }
 
-    /// The reply itself.
+    /// The reply as a user gets it.
     #[inline(always)]
     fn told(&self) -> Reply
         ensures { reply_of result ≡ reply_in self.now }
@@ -93,7 +97,7 @@ impl KeptReply {
         }
     }
 
-    /// Whether it is a reply.
+    /// Whether it is equal to a reply.
     pub(crate) fn is_same(&self, reply: &Reply) -> bool
         ensures { IsTrue result ↔ (reply_of reply.entry.now ≡ reply_in self.entry.now) }
     {
@@ -104,7 +108,7 @@ impl KeptReply {
     }
 }
 
-/// Whose an event is: a turn is its tap's, all else is the conductor's.
+/// The owner of an event: a turn belongs to its tap, any other event to the conductor.
 #[derive(Clone, Copy, Debug, PartialEq, Eq)]
 pub(crate) enum Owner {
     Tap(usize),
@@ -118,7 +122,7 @@ pub(crate) fn is_turn(event: &Event) -> bool
     matches!(event, Event::Turn(_))
 }
 
-/// Whether an event is of an owner.
+/// Whether an event belongs to an owner.
 pub(crate) fn is_of(owner: Owner, event: &Event) -> bool
     ensures { result ≡ is_of owner (event_of event.now) }
 {
@@ -131,7 +135,7 @@ pub(crate) fn is_of(owner: Owner, event: &Event) -> bool
     }
 }
 
-/// Whether a reply says nothing, at a moment.
+/// Whether a reply has this moment and no octets.
 pub(crate) fn is_silent_at(reply: &Reply, now: Moment) -> bool
     ensures { IsTrue result ↔ (reply_of reply.entry.now ≡ record { now = now; spoke = None }) }
 {

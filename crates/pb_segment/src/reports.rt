@@ -1,4 +1,4 @@
-//! What has happened on a segment that is closed.
+//! The report of a closed segment.
 
 use crate::closing::audit;
 use crate::histories::History;
@@ -10,9 +10,9 @@ use pb_world::Entry;
 use std::marker::Model;
 use std::sync::ledger::Ledger;
 
-/// What has happened on a segment that is closed: its history, the trace of the history's replay, how many
-/// turns each tap took, and what the conductor was shown. Only [`close`](crate::SharedSegment::close)
-/// and [`close_beside`](crate::SharedSegment::close_beside) make one.
+/// What has happened on a closed segment: its history, the trace of the history's replay, how many turns each tap took,
+/// and the conductor's outlooks. Only [`close`](crate::SharedSegment::close) and
+/// [`close_beside`](crate::SharedSegment::close_beside) make one.
 #[derive(Drop)]
 pub struct Report {
     origin: Origin,
@@ -40,28 +40,28 @@ impl Report {
     ghost use Rattle.std.specs.Prelude.{◌≡◌, map};
     ghost use Rattle.pb_medium.specs.Entries.{entry_of};
 
-    /// The trace of the bus, as the world shows it after all events.
+    /// The trace of the bus after all events.
     pub fn trace(&self) -> &[Entry]
         ensures { map entry_of result.now ≡ self.now.trace }
     {
         &self.trace
     }
 
-    /// All events that were accepted, each with its reply, in order.
+    /// All accepted events, each with its reply, in order.
     pub fn history(&self) -> &History
         ensures { result.now ≡ self.now.history }
     {
         &self.history
     }
 
-    /// How many turns of each tap are among them.
+    /// How many of them are turns of each tap.
     pub fn turns(&self) -> &[usize]
         ensures { result.now ≡ self.now.turns }
     {
         &self.turns
     }
 
-    /// What the conductor was shown, in order.
+    /// The conductor's outlooks, in order.
     pub fn outlooks(&self) -> &[Outlook]
         ensures { result.now ≡ self.now.outlooks }
     {
@@ -74,7 +74,7 @@ impl<L: Ledger> Locked<L> {
     ghost use Rattle.pb_segment.specs.Reports.{IsReport};
     ghost use Rattle.pb_segment.specs.Seats.{accepted};
 
-    /// What has happened, for one who has all seats. Together they had all events accepted.
+    /// Makes the report, given all seats. Together they had all events accepted.
     pub(crate) fn into_report(self, conductor: ConductorSeat<L>, seats: Vec<TapSeat<L>>) -> Report
         requires { length seats.items ≡ length self.turns }
         ensures report { IsReport result }

@@ -1,9 +1,11 @@
+//! The rights to act on a segment: one seat for each tap, and the conductor's.
+
 use crate::outlooks::Outlook;
 use crate::receipts::KeptReceipt;
 use std::marker::Model;
 use std::sync::ledger::{Ledger, Share};
 
-/// The right to take the turns of one tap, with a receipt of each that was accepted.
+/// The right to take the turns of one tap, with a receipt of each accepted turn.
 #[derive(Drop)]
 pub struct TapSeat<L: Ledger> {
     pub(crate) tap: usize,
@@ -26,7 +28,7 @@ impl<L: Ledger> Model for TapSeat<L> {
 impl<L: Ledger> TapSeat<L> {
     ghost use Rattle.std.specs.Prelude.{◌≡◌};
 
-    /// Whose turns it may take: a position in the list of taps, counted from 0.
+    /// The index of the tap, from 0.
     pub fn tap(&self) -> usize
         ensures { result ≡ self.now.tap }
     {
@@ -34,7 +36,7 @@ impl<L: Ledger> TapSeat<L> {
     }
 }
 
-/// The right to drive all other events, with a receipt of each that was accepted, and what was shown.
+/// The right to drive all other events, with a receipt of each accepted event, and the outlooks.
 #[derive(Drop)]
 pub struct ConductorSeat<L: Ledger> {
     pub(crate) receipts: Vec<KeptReceipt>,

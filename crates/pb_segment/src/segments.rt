@@ -19,28 +19,28 @@ use std::sync::ledger::Ledger;
 use std::sync::{Mutex, MutexGuard, Wait};
 use std::thread::Threads;
 
-/// How often one looks whether the lock is free before it sleeps: some microseconds, as long as a call or two hold it.
+/// How many times the lock is tried before the thread sleeps: some microseconds, as long as one or two calls hold it.
 const LOOKS: u32 = 1000;
 
-/// One bus for many threads: a world and its history under one lock. The seats of another segment don't fit it:
-/// the type parameter names the ledger of all events that its seats had accepted.
+/// One bus for many threads: a world and its history under one lock. The type parameter names the ledger of all events
+/// that its seats had accepted, so seats of another segment have another type.
 #[derive(Drop)]
 pub struct SharedSegment<L: Ledger> {
     pub(crate) state: Mutex<Locked<L>>,
-    /// Of what its first world was made.
+    /// The definition of its first world.
     pub(crate) origin: Origin,
 }
 
-/// A segment that was not closed, with all that was handed in.
+/// A segment that was not closed, and all that was passed in.
 #[derive(Drop)]
 pub struct CloseRefused<L: Ledger> {
-    /// Why.
+    /// Why it was not closed.
     pub fault: CloseFault,
     /// The segment.
     pub segment: SharedSegment<L>,
     /// The conductor's seat.
     pub conductor: ConductorSeat<L>,
-    /// The seats of taps.
+    /// The tap seats.
     pub seats: Vec<TapSeat<L>>,
 }
 
@@ -56,11 +56,11 @@ impl<L: Ledger> SharedSegment<L> {
     ghost use Rattle.pb_segment.specs.Reports.{IsReport};
     ghost use Rattle.pb_segment.specs.Seats.{Agrees, Answers, CountsTurns, IsSilent, IsTold, accepted};
 
-    /// What the tap of a seat shows after all turns that its seat had accepted: its station, its unread marks
-    /// and the clock. It may wait for the lock.
+    /// A glance at the tap of a seat, after all turns that the seat had accepted: its station, its unread marks and the
+    /// clock. It may block on the lock.
     ///
-    /// Faults, the first that applies: `Disagree` where another number of the tap's turns was accepted than the
-    /// seat knows of; `NoMemory`.
+    /// Faults, the first that applies: `Disagree` if the segment has accepted another number of the tap's turns than
+    /// the seat has receipts; `NoMemory`.
     pub fn glance(
         &self,
         rt: &impl Wait,
@@ -73,11 +73,12 @@ impl<L: Ledger> SharedSegment<L> {
         self.locked(rt).glance(alloc, seat)
     }
 
-    /// The tap takes the turn of a decision, if that was made on the tap as it is; the seat is given a receipt, whose reply
-    /// has the decision's clock and octets. It may wait for the lock. A refused turn changes nothing.
+    /// The tap takes a decided turn, if the decision was computed from the present state of the tap. The seat gets a
+    /// receipt, whose reply has the decision's clock and octets. It may block on the lock. A refused turn changes
+    /// nothing.
     ///
-    /// Faults, the first that applies: `WrongTap` where the decision is another tap's; `Disagree` where another
-    /// number of the tap's turns was accepted than the seat knows of; `Stale` where the tap's station, its unread
+    /// Faults, the first that applies: `WrongTap` if the decision is for another tap; `Disagree` if the segment has
+    /// accepted another number of the tap's turns than the seat has receipts; `Stale` if the tap's station, its unread
     /// marks or the clock are not the decision's, with the number of turns that the seat had accepted; `World` with the
     /// world's fault; `HistoryFull`; `World(NoMemory)`.
     #[inline(always)]
@@ -100,9 +101,9 @@ impl<L: Ledger> SharedSegment<L> {
         Ok(last_told(&seat.receipts))
     }
 
-    /// The tap takes the turn that was decided with a buffer, as [`commit`](SharedSegment::commit) has it take its
-    /// decision: with the same receipt, which the seat alone is given, and the same faults in their order. It may wait
-    /// for the lock. A refused turn changes nothing.
+    /// The tap takes a turn that was decided with a borrowed buffer, as in [`commit`](SharedSegment::commit), with the
+    /// same receipt and the same faults in order. Only the seat gets the receipt. It may block on the lock. A refused
+    /// turn changes nothing.
     #[inline(always)]
     pub fn commit_decided(
         &self,
@@ -121,11 +122,11 @@ impl<L: Ledger> SharedSegment<L> {
         self.locked(rt).commit(alloc, seat, decided)
     }
 
-    /// Lets an event happen that is no turn; the conductor's seat is given a receipt, in which nothing is spoken. It may
-    /// wait for the lock. A refused event changes nothing.
+    /// Applies an event that is no turn. The conductor's seat gets a receipt without octets. It may block on the lock.
+    /// A refused event changes nothing.
     ///
-    /// Faults, the first that applies: `WrongTap` for a turn; `Disagree` where another number of such events was
-    /// accepted than the seat knows of; `World` with the world's fault; `HistoryFull`; `World(NoMemory)`.
+    /// Faults, the first that applies: `WrongTap` for a turn; `Disagree` if the segment has accepted another number of
+    /// such events than the seat has receipts; `World` with the world's fault; `HistoryFull`; `World(NoMemory)`.
     #[inline(always)]
     pub fn drive(
         &self,
@@ -144,12 +145,12 @@ impl<L: Ledger> SharedSegment<L> {
         Ok(last_told(&seat.receipts))
     }
 
-    /// What the conductor sees of the world after all events that were accepted so far, all of its own among them:
-    /// the clock, when each tap is due, and when something else changes. The segment and the seat keep it until
-    /// the segment is closed. It may wait for the lock.
+    /// The outlook after all events accepted so far, including all of the conductor's own: the clock, when each tap is
+    /// due, and when something else changes. The segment and the seat keep it until the segment is closed. It may block
+    /// on the lock.
     ///
-    /// Faults, the first that applies: `Disagree` where another number of the conductor's events was accepted than
-    /// the seat knows of; `NoMemory`. A refused call changes nothing.
+    /// Faults, the first that applies: `Disagree` if the segment has accepted another number of the conductor's events
+    /// than the seat has receipts; `NoMemory`. A refused call changes nothing.
     pub fn outlook(
         &self,
         rt: &impl Wait,
@@ -163,14 +164,15 @@ impl<L: Ledger> SharedSegment<L> {
         self.locked(rt).outlook(alloc, seat)
     }
 
-    /// Ends it. The receipts of each seat are then the places of its events in the history, with the replies there,
-    /// and each outlook shows the world after the events before it. The trace is that of a world with one token, where the
-    /// events of the history break no premise, and with no master left in silence for longer than its time-out and the lag,
-    /// where none of them loses a telegram or lets a turn come late. It waits for nobody, and takes no memory.
+    /// Closes the segment. The receipts of each seat are then the indices of its events in the history, with the
+    /// replies there, and each outlook is that of the world after the events before it. The trace is that of a world
+    /// with one token, if the events of the history break no premise; and with no master in silence, as it hears the
+    /// bus, for longer than its time-out and the lag, if none of them loses a telegram or lets a turn be late. It does
+    /// not block, and allocates nothing.
     ///
-    /// Faults, the first that applies, with all that was handed in: `MissingSeat` where there are more or fewer
-    /// seats of taps than taps; `Disagree` where what the seats were told or shown is not what stands in the
-    /// history, or the history began with another world.
+    /// Faults, the first that applies, with all that was passed in: `MissingSeat` if there are more or fewer tap seats
+    /// than taps; `Disagree` if receipts or outlooks of the seats differ from those of the history, or the history
+    /// began with another world.
     pub fn close(
         self,
         conductor: ConductorSeat<L>,
@@ -197,13 +199,12 @@ impl<L: Ledger> SharedSegment<L> {
         }
     }
 
-    /// Ends it as [`close`](SharedSegment::close) does, and tells what a look finds in the draft of the report. The
-    /// look is made once, unless a seat is missing. Where thousands of events have happened, and a crew has some for it,
-    /// up to three threads go over them side by side: this one, and others that end before the call does. It waits for
-    /// no lock, and takes memory for threads alone; where none can be made it does all in this one.
+    /// Closes the segment as [`close`](SharedSegment::close) does, and returns what `look` finds in the draft of the
+    /// report. `look` is called once, unless a seat is missing. For thousands of events and a crew of more than one, up
+    /// to three threads work concurrently: this one, and others that end before the call returns. It takes no lock, and
+    /// allocates memory only for threads. If no thread can be spawned, this thread does all.
     ///
-    /// Faults, the first that applies, with all that was handed in: `MissingSeat` and `Disagree`, where `close` has
-    /// them.
+    /// Faults, the first that applies, with all that was passed in: `MissingSeat` and `Disagree`, as for `close`.
     pub fn close_beside<R: Threads + Sync, T: Send + Drop, F: FnOnce(Draft<'_>) -> T + Send>(
         self,
         rt: &R,
@@ -231,7 +232,7 @@ impl<L: Ledger> SharedSegment<L> {
         }
     }
 
-    /// What is under the lock, for one who holds it.
+    /// Takes the lock.
     #[inline(always)]
     fn locked(&self, rt: &impl Wait) -> MutexGuard<'_, Locked<L>> {
         match self.state.try_lock() {
@@ -240,7 +241,7 @@ impl<L: Ledger> SharedSegment<L> {
         }
     }
 
-    /// The same for one who has found it held, and looks again for a while before it sleeps.
+    /// Slow path of `locked`: the lock is held. It is tried again for a while before the thread sleeps.
     #[inline(never)]
     fn locked_at_last(&self, rt: &impl Wait) -> MutexGuard<'_, Locked<L>> {
         for _ in 0..LOOKS {
@@ -253,7 +254,7 @@ impl<L: Ledger> SharedSegment<L> {
     }
 }
 
-/// The last receipt that a seat was told, where it was told one.
+/// The last receipt of a seat. The caller ensures that there is one.
 #[inline(always)]
 fn last_told(receipts: &Vec<KeptReceipt>) -> Receipt
     requires { 0 < length receipts.now.items }
@@ -263,7 +264,7 @@ fn last_told(receipts: &Vec<KeptReceipt>) -> Receipt
     receipts[receipts.len() - 1].told()
 }
 
-/// A segment that isn't closed, with all that was handed in.
+/// A segment that is not closed, with all that was passed in.
 fn refused<L: Ledger>(
     fault: CloseFault,
     locked: Locked<L>,

@@ -1,4 +1,4 @@
-//! Tests of a segment: what seats are told and shown, how it is closed, and three threads at once.
+//! Tests of a segment: receipts and outlooks, closing, and three threads at once.
 
 mod edges;
 mod idle;
@@ -22,16 +22,16 @@ use std::sync::ledger::{Blank, Ledger};
 use std::thread;
 use std::thread::Threads;
 
-/// Ends the test unless two values are equal. It is a call since the proof of a test that compares in place takes three
-/// times as long.
+/// Ends the test unless two values are equal. A call of its own: comparing in place makes the proof of a test take
+/// three times as long.
 fn equal<T: PartialEq + Debug>(rt: &impl Abort, left: &T, right: &T)
     ensures { T.eq left.now right.now ≡ true }
 {
     assert_eq!(rt; *left, *right);
 }
 
-/// A slot of 100, idle times 37 and 60, reply delay 11, no lag, rotation 10,000, GAP factor 10, highest
-/// address 5, one retry.
+/// Slot time 100, idle times 37 and 60, reply delay 11, lag 0, target rotation time 10,000, GAP factor 10, highest
+/// station address 5, one retry, no cable delay.
 fn usual(rt: &impl Abort) -> BusParams {
     BusParams::new(100, 37, 60, 11, 0, 10_000, 10, 5, 1, 0).expect(rt, "the usual parameters")
 }
@@ -49,7 +49,7 @@ fn due(outlook: &Outlook, tap: usize) -> Option<u64> {
     Some(moment.get())
 }
 
-/// A world with two masters, which don't run yet.
+/// A world with two masters that do not run yet.
 fn two_masters(rt: &(impl AllocGlobal + Abort)) -> World
     ensures new { IsNew result }
     ensures taps { length result.taps ≡ 2 }
@@ -58,7 +58,7 @@ fn two_masters(rt: &(impl AllocGlobal + Abort)) -> World
     World::new(rt.alloc(), usual(rt), &specs).expect(rt, "a world")
 }
 
-/// Of two decisions on one tap the second is stale; seats are asked for at the end.
+/// Of two decisions for one tap the second is stale. A seat is missing at the end.
 fn two_decisions<L: Ledger, R: AllocGlobal + Abort + Wait>(rt: &R, blank: Blank, world: World)
     requires name { blank.name ≡ L.name }
     requires parts { blank.parts ≡ L.parts }
@@ -128,7 +128,7 @@ fn two_decisions<L: Ledger, R: AllocGlobal + Abort + Wait>(rt: &R, blank: Blank,
     closes(rt, segment, conductor, seats, second);
 }
 
-/// A seat is missing; then all are there.
+/// Closing fails while a seat is missing, and succeeds with all seats.
 fn closes<L: Ledger, R: Abort>(
     rt: &R,
     segment: SharedSegment<L>,
@@ -160,7 +160,7 @@ fn of_two_decisions_one_is_stale(rt: HostRuntime) {
     two_decisions::<Brand, HostRuntime>(&rt, blank, world);
 }
 
-/// A history of two events; the world's own fault comes first.
+/// A history of at most two events. The world's own fault comes first.
 fn full_history<L: Ledger, R: AllocGlobal + Abort + Wait>(rt: &R, blank: Blank, world: World)
     requires name { blank.name ≡ L.name }
     requires parts { blank.parts ≡ L.parts }
@@ -198,10 +198,10 @@ fn a_full_history_takes_no_more(rt: HostRuntime) {
     full_history::<Brand, HostRuntime>(&rt, blank, world);
 }
 
-/// One event more than a block of a history has room for.
+/// One event more than a block of a history holds.
 const PASSES: u64 = 1025;
 
-/// Passes of 1, 2, 3 and so on bit times are reported in their order.
+/// Passes of 1, 2, 3 and so on bit times are reported in order.
 fn long_history<L: Ledger, R: AllocGlobal + Abort + Wait>(rt: &R, blank: Blank, world: World)
     requires name { blank.name ≡ L.name }
     requires parts { blank.parts ≡ L.parts }
@@ -242,12 +242,12 @@ fn a_long_history_is_reported_in_order(rt: HostRuntime) {
     long_history::<Brand, HostRuntime>(&rt, blank, world);
 }
 
-/// What is found in a draft.
+/// What `look` finds in a draft.
 #[derive(Clone, Copy, Debug, PartialEq, Eq)]
 struct Found {
     events: usize,
     outlooks: usize,
-    /// The bit times of the last event, if it is a pass.
+    /// The length of the last event in bit times, if it is a pass.
     last: Option<u64>,
 }
 
@@ -264,8 +264,8 @@ fn found_in(draft: Draft<'_>) -> Found {
     }
 }
 
-/// Passes of 1, 2, 3 and so on bit times, and then an outlook, are found in a draft by one of a crew. The first time a seat
-/// is missing.
+/// `look` finds passes of 1, 2, 3 and so on bit times, and an outlook, with a crew of this size. The first attempt to
+/// close misses a seat.
 fn looked_at<L: Ledger, R: AllocGlobal + Abort + Threads + Wait + Sync>(
     rt: &R,
     blank: Blank,
@@ -315,7 +315,7 @@ fn looked_at<L: Ledger, R: AllocGlobal + Abort + Threads + Wait + Sync>(
     equal(rt, &report.outlooks().len(), &1);
 }
 
-/// A draft of some passes is looked at by one of a crew.
+/// `look` reads a draft of some passes, with a crew of this size.
 fn look_at(rt: &(impl AllocGlobal + Abort + Threads + Wait + Sync), passes: u64, crew: usize) {
     let world = two_masters(rt);
     let blank = Blank::new(world.taps() as u64 + 1);
@@ -335,12 +335,12 @@ fn a_draft_of_many_events_is_looked_at(rt: HostRuntime) {
     look_at(&rt, 5000, 3);
 }
 
-/// How many events of each seat are to be accepted, and how often it is tried.
+/// How many events of each seat are to be accepted, and the most attempts.
 const ACCEPTED: usize = 100;
 
 const TRIES: u32 = 1_000_000;
 
-/// Two threads take the turns of a tap each, while time passes in a third.
+/// Two threads each take the turns of a tap, while a third lets time pass.
 fn three_threads<L: Ledger + Send + Sync, R: AllocGlobal + Abort + Threads + Wait + Sync>(
     rt: &R,
     blank: Blank,
@@ -369,7 +369,7 @@ fn three_threads<L: Ledger + Send + Sync, R: AllocGlobal + Abort + Threads + Wai
     equal(rt, &report.history().len(), &(2 + 3 * ACCEPTED));
 }
 
-/// A thread for each seat takes turns, while time passes in this one; the seats come back in their order.
+/// One thread for each seat takes turns, while this one lets time pass. Returns the seats in their order.
 fn race<L: Ledger + Send + Sync, R: AllocGlobal + Abort + Threads + Wait + Sync>(
     rt: &R,
     segment: &SharedSegment<L>,
@@ -393,7 +393,7 @@ fn race<L: Ledger + Send + Sync, R: AllocGlobal + Abort + Threads + Wait + Sync>
     })
 }
 
-/// Takes turns until so many were accepted.
+/// Takes turns until this many were accepted.
 fn takes_turns<L: Ledger, R: AllocGlobal + Abort + Wait>(
     rt: &R,
     segment: &SharedSegment<L>,

@@ -1,4 +1,4 @@
--- The text of an audit, and what is written for one.
+-- The text of an audit, and of a scenario's audit.
 use Rattle.std.specs.Prelude.{ℕ, List, [], ◌++◌, codes, decimal, Option, Some, None, Result, Ok, Err, is_some}
 use Rattle.std.specs.Option.{option_map}
 use Rattle.pb_model.specs.World.{World, Event, NewFault, new_world}
@@ -15,7 +15,7 @@ abbrev pub premise_line : Option Broken → List ℕ
 premise_line None = codes "premises kept\n"
 premise_line (Some b) = codes "premise P" ++ decimal b.number ++ codes " broken at " ++ decimal b.clock ++ codes "\n"
 
--- the first illegal initiator record, by its position in the trace, from 0
+-- the first illegal initiator record, by its index in the trace, from 0
 abbrev pub legality_line : Option ℕ → List ℕ
 legality_line None = codes "trace legal\n"
 legality_line (Some place) = codes "record " ++ decimal place ++ codes " illegal\n"
@@ -23,7 +23,7 @@ legality_line (Some place) = codes "record " ++ decimal place ++ codes " illegal
 abbrev pub audit_text : Option Broken → Option ℕ → List ℕ
 audit_text premise illegal = premise_line premise ++ legality_line illegal
 
--- a broken premise is no refusal, an illegal trace is one
+-- a broken premise is no refusal; an illegal trace is one
 abbrev pub found : Option Broken → Option ℕ → Shown
 found premise illegal = record { text = audit_text premise illegal; is_refused = is_some illegal }
 
@@ -38,7 +38,8 @@ broken_from (Err fault) events = None
 abbrev pub illegal_in : World → Option ℕ
 illegal_in w = first_illegal w.params (specs_of w) w.trace
 
--- of a run: by its events from the new world, and by the trace of its last world; a run never has no outcome (a law of runs)
+-- the audit of a run: by its events from the new world, and by the trace of its last world; a run always has an outcome
+-- (a law of runs)
 abbrev pub audit_of_run : Result World NewFault → Option (Result (World × List Event) RunFault) → Shown
 audit_of_run new None = refusal []
 audit_of_run new (Some (Ok end)) = found (broken_from new end.1) (illegal_in end.0)

@@ -17,7 +17,7 @@ use Rattle.pb_show.specs.Names.{new_name, world_name, key_text, path_text}
 
 -- ---- a file
 
--- the number and the name of a fault of a table, with the path or the number that it carries
+-- the number and the name of a fault of a table, with its path or its number
 abbrev pub fault_words : Fault → List ℕ
 fault_words BadVersion = codes "2 BadVersion"
 fault_words (Missing path) = codes "3 Missing " ++ path_text path
@@ -30,7 +30,7 @@ fault_words (StepOrder path) = codes "9 StepOrder " ++ path_text path
 fault_words (Params f) = codes "10 Params " ++ decimal (params.number_of f)
 fault_words TooMany = codes "11 TooMany"
 
--- a file that is no TOML has no table
+-- a file that is not TOML has no table
 abbrev pub file_words : Option Fault → List ℕ
 file_words None = codes "1 NotToml"
 file_words (Some f) = fault_words f
@@ -38,7 +38,7 @@ file_words (Some f) = fault_words f
 abbrev pub scenario_line : Option Fault → List ℕ
 scenario_line f = codes "scenario fault " ++ file_words f ++ codes "\n"
 
--- the fault of the table, where it is one
+-- the fault of the table, if it is one
 abbrev pub table_fault : ScenarioFault → Option Fault
 table_fault code.NotToml = None
 table_fault code.BadVersion = Some BadVersion
@@ -58,7 +58,7 @@ table_fault code.NoMemory = None
 abbrev pub new_line : NewFault → List ℕ
 new_line f = codes "world fault " ++ decimal (number_of_new f) ++ codes " " ++ new_name f ++ codes "\n"
 
--- of an event, with the clock at which it was refused
+-- the fault of an event, with the clock at which it was refused
 abbrev pub refused_line : WorldFault → ℕ → List ℕ
 refused_line f clock =
     codes "run fault " ++ decimal (number_of f) ++ codes " " ++ world_name f ++ codes " at " ++ decimal clock ++ codes "\n"
@@ -67,12 +67,12 @@ abbrev pub run_line : runs.RunFault → List ℕ
 run_line (runs.New f) = new_line (new_fault f)
 run_line (runs.At clock f) = refused_line (world_fault f) clock
 
--- the same of a fault as code has it
+-- the same for a fault in the code's type
 abbrev pub line_of_run : RunFault → List ℕ
 line_of_run (run.New f) = new_line f
 line_of_run (run.At clock f) = refused_line f clock
 
--- it is another fault than that memory was refused
+-- a fault other than refused memory
 abbrev pub IsTold : RunFault → Type 0
 IsTold (run.New f) = f ≢ new.NoMemory
 IsTold (run.At clock f) = f ≢ fault.NoMemory

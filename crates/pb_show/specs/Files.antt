@@ -1,4 +1,4 @@
--- What a file of bytes says, and what is written for its audit.
+-- The scenario in the bytes of a file, and the text for its audit.
 use Rattle.std.specs.Prelude.{◌≡◌, ◌≢◌, ℕ, List, Option, Some, None, Result, Ok, Err, if◌then◌else◌}
 use Rattle.std.specs.Str.{is_utf8}
 use Rattle.toml.specs.Data.{Members}
@@ -12,11 +12,11 @@ use Rattle.pb_show.specs.Shown.{Shown, refusal}
 use Rattle.pb_show.specs.Faults.{scenario_line, table_fault}
 use Rattle.pb_show.specs.Audits.{audit_of_scenario}
 
--- the table that a file is, where it is TOML in UTF-8
+-- the table of a file, if it is TOML in UTF-8
 abbrev pub table_of : List ℕ → Option Members
 table_of file = if is_utf8 file then parse_document file else None
 
--- why a file describes no scenario: a fault of its table, or none where it has no table
+-- why a file describes no scenario: a fault of its table, or none if it has no table
 abbrev pub in_table : Result ScenarioView Fault → Result ScenarioView (Option Fault)
 in_table (Ok s) = Ok s
 in_table (Err fault) = Err (Some fault)

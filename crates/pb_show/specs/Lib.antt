@@ -4,7 +4,7 @@ pub mod Faults
 pub mod Audits
 pub mod Files
 pub mod Plays
--- of a fleet and a scenario
+-- the faults of a fleet and of a scenario
 pub use Rattle.pb_fleet.specs.Faults as FleetFaults
 pub use Rattle.pb_scenario.specs.Fields
 pub use Rattle.pb_scenario.specs.Scenarios

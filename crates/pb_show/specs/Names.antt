@@ -1,4 +1,4 @@
--- The names of faults, and the paths at which they stand in a file.
+-- The names of faults, and the paths of keys in a file.
 use Rattle.std.specs.Prelude.{ℕ, List, [], ◌++◌, codes, decimal}
 use Rattle.pb_taps.specs.declared.faults.NewFault.{NewFault}
 use Rattle.pb_taps.specs.declared.faults.NewFault.TheVariants as new
@@ -29,11 +29,11 @@ world_name (fault.InboxFull tap) = codes "InboxFull"
 world_name fault.TraceFull = codes "TraceFull"
 world_name fault.NoMemory = codes "NoMemory"
 
--- an item of a list, whose name and bracket are given
+-- an element of a list, given the list's name with the opening bracket
 abbrev pub item_text : List ℕ → ℕ → List ℕ
 item_text list item = list ++ decimal item ++ codes "]"
 
--- a table, as in bus and tap[0]; taps and steps are counted from 0
+-- a table, as in bus and tap[0]; taps and steps have indices from 0
 abbrev pub section_text : Section → List ℕ
 section_text Top = []
 section_text Bus = codes "bus"

@@ -1,4 +1,4 @@
--- What is written for the run of a scenario: its trace, the last lines of it, or the line of a fleet's fault.
+-- The text for the run of a scenario: its trace, the last lines of it, or the line of a fleet's fault.
 use Rattle.std.specs.Prelude.{◌≡◌, ◌≢◌, ℕ, ◌≤◌, ◌⊎◌, false, List, [], ◌++◌, length, min, max, codes, Option, Some, None, Result, Ok, Err}
 use Rattle.std.specs.List.{flat_map}
 use Rattle.bstr.specs.Text.{lines_of}
@@ -22,11 +22,11 @@ use Rattle.pb_show.specs.Files.{scenario_of}
 
 -- ---- the trace
 
--- the last lines of a text, all of them where it has no more
+-- the last lines of a text; the whole text if it has no more lines
 abbrev pub last_lines : ℕ → List ℕ → List ℕ
 last_lines n text = flat_map (λ line. line) (keep_last n (lines_of text))
 
--- all of a text, where no number of lines is asked for
+-- the whole text, if no number of lines is asked for
 abbrev pub wanted_of : Option ℕ → List ℕ → List ℕ
 wanted_of None text = text
 wanted_of (Some n) text = last_lines n text
@@ -36,7 +36,7 @@ trace_shown last names entries = record { text = wanted_of last (entries_text na
 
 -- ---- a fleet's fault
 
--- of an event that a segment refuses, with the clock
+-- the line of an event that a segment refuses, with the clock
 abbrev pub commit_line : CommitFault → ℕ → List ℕ
 commit_line commit.WrongTap clock = codes "wrong tap\n"
 commit_line commit.Disagree clock = codes "disagree\n"
@@ -44,7 +44,7 @@ commit_line (commit.Stale turns now) clock = codes "stale\n"
 commit_line (commit.World f) clock = refused_line f clock
 commit_line commit.HistoryFull clock = codes "history full\n"
 
--- no fleet of a crew refuses its workers, and want of memory has no line
+-- a valid number of workers is not refused, and refused memory has no line
 abbrev pub fleet_line : FleetFault → List ℕ
 fleet_line fleet.BadWorkers = []
 fleet_line (fleet.Commit tap now f) = commit_line f now
@@ -55,7 +55,7 @@ fleet_line (fleet.Closing f) = codes "disagree\n"
 fleet_line fleet.NoMemory = []
 fleet_line (fleet.New f) = new_line f
 
--- it is another fault than that memory was refused
+-- a fault other than refused memory
 abbrev pub IsToldCommit : CommitFault → Type 0
 IsToldCommit commit.WrongTap = Unit {0}
 IsToldCommit commit.Disagree = Unit {0}
@@ -75,12 +75,12 @@ IsToldFleet (fleet.New f) = f ≢ new.NoMemory
 
 -- ---- a file
 
--- so many workers as are asked for; where none are, one for each tap, at least one, and no more than a fleet may have
+-- the number of workers: as asked for, else one for each tap, at least 1 and at most 64
 abbrev pub crew_of : Option ℕ → ℕ → ℕ
 crew_of (Some workers) taps = workers
 crew_of None taps = max 1 (min taps 64)
 
--- the trace of the scenario's run on one thread, or the line of a fault for which a fleet of so many workers gives none
+-- the trace of the scenario's run on one thread, or the line of a fault of a fleet with this many workers
 abbrev pub IsRun : ScenarioView → ℕ → Option ℕ → Shown → Type 0
 IsRun s workers last shown =
     ((entries : List Entry) × (trace_of s.scenario ≡ Some (Ok entries)) × (shown ≡ trace_shown last s.names entries))

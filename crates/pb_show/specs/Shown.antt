@@ -2,7 +2,7 @@
 use Rattle.std.specs.Prelude.{ℕ, Bool, true, List}
 use Rattle.pb_show.specs.declared.shown.Shown as code
 
--- its bytes, and whether they tell of a refusal or of an illegal trace
+-- its bytes, and whether they report a refusal or an illegal trace
 pub record Shown : Type 0 where
   pub text : List ℕ
   pub is_refused : Bool

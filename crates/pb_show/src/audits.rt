@@ -1,3 +1,5 @@
+//! The text of an audit.
+
 ghost use Rattle.std.specs.Prelude.{◌≡◌, ◌++◌, IfOk, OnOk};
 ghost use Rattle.std.specs.Option.{option_map};
 ghost use Rattle.pb_audit.specs.Auditing.{broken_at};
@@ -9,7 +11,7 @@ use pb_scenario::{Audit, push_number};
 use pb_timers::Moment;
 use std::alloc::{AllocError, Global};
 
-/// What is written for what an audit finds.
+/// The text of what an audit finds.
 pub fn findings(alloc: Global, audit: &Audit) -> Result<Shown, AllocError>
     ensures { IfOk result (λ shown. shown_of shown ≡ found (broken_of audit.now) audit.now.illegal) }
 {
@@ -22,7 +24,7 @@ pub fn findings(alloc: Global, audit: &Audit) -> Result<Shown, AllocError>
     })
 }
 
-/// Appends the line of the first premise that broke, by its number, and the clock.
+/// Appends the line for the first premise that broke, with its number and the clock, or the line that none broke.
 fn push_premise(text: &mut Vec<u8>, premise: Option<(u8, Moment)>) -> Result<(), AllocError>
     ensures { OnOk result (text.new.items ≡ text.old.items ++ premise_line (option_map broken_at premise)) }
 {
@@ -38,7 +40,8 @@ fn push_premise(text: &mut Vec<u8>, premise: Option<(u8, Moment)>) -> Result<(),
     }
 }
 
-/// Appends the line of the first illegal initiator record, by its position in the trace.
+/// Appends the line for the first illegal initiator record, with its index in the trace, or the line that none is
+/// illegal.
 fn push_legality(text: &mut Vec<u8>, illegal: Option<usize>) -> Result<(), AllocError>
     ensures { OnOk result (text.new.items ≡ text.old.items ++ legality_line illegal) }
 {

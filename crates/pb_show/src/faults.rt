@@ -1,3 +1,5 @@
+//! The lines of faults of a scenario file, a world or an event.
+
 ghost use Rattle.std.specs.Prelude.{◌≡◌, ◌≢◌, ◌++◌, OnOk, IfOk};
 ghost use Rattle.pb_show.specs.Names.{path_text};
 ghost use Rattle.pb_show.specs.Faults.{IsTold, file_words, line_of_run, new_line, refused_line, scenario_line, table_fault};
@@ -6,7 +8,7 @@ use crate::names::{new_name, push_key, push_path, world_name};
 use pb_scenario::{NewFault, Path, RunFault, ScenarioFault, WorldFault, push_number};
 use std::alloc::{AllocError, Global};
 
-/// The line of a file's fault. Where memory was refused there is none: it is refused here too.
+/// The line of a file's fault. For refused memory there is no line: the result is that fault too.
 pub fn scenario_line(alloc: Global, fault: &ScenarioFault) -> Result<Vec<u8>, AllocError>
     ensures line { IfOk result (λ line. line.items ≡ scenario_line (table_fault fault.now)) }
     ensures told { OnOk result (fault.now ≢ ScenarioFault.NoMemory) }
@@ -18,7 +20,7 @@ pub fn scenario_line(alloc: Global, fault: &ScenarioFault) -> Result<Vec<u8>, Al
     Ok(line)
 }
 
-/// Appends the number and the name of a file's fault, with what it carries.
+/// Appends the number and the name of a file's fault, and its path, key or number.
 fn push_words(text: &mut Vec<u8>, fault: &ScenarioFault) -> Result<(), AllocError>
     ensures words { OnOk result (text.new.items ≡ text.old.items ++ file_words (table_fault fault.now)) }
     ensures told { OnOk result (fault.now ≢ ScenarioFault.NoMemory) }
@@ -45,7 +47,7 @@ fn push_words(text: &mut Vec<u8>, fault: &ScenarioFault) -> Result<(), AllocErro
     }
 }
 
-/// Appends words, and the path to which they apply.
+/// Appends words, followed by a path.
 fn push_at(text: &mut Vec<u8>, words: &[u8], path: Path) -> Result<(), AllocError>
     ensures { OnOk result (text.new.items ≡ text.old.items ++ (words.now ++ path_text path)) }
 {
@@ -53,7 +55,7 @@ fn push_at(text: &mut Vec<u8>, words: &[u8], path: Path) -> Result<(), AllocErro
     push_path(text, path)
 }
 
-/// The line of the fault that ends a run. Where memory was refused there is none: it is refused here too.
+/// The line of the fault that ends a run. For refused memory there is no line: the result is that fault too.
 pub fn run_line(alloc: Global, fault: RunFault) -> Result<Vec<u8>, AllocError>
     ensures line { IfOk result (λ line. line.items ≡ line_of_run fault) }
     ensures told { OnOk result (IsTold fault) }
@@ -64,7 +66,7 @@ pub fn run_line(alloc: Global, fault: RunFault) -> Result<Vec<u8>, AllocError>
     }
 }
 
-/// The line of a refused new world.
+/// The line of the fault of a new world. For refused memory there is none.
 pub fn new_line(alloc: Global, fault: NewFault) -> Result<Vec<u8>, AllocError>
     ensures line { IfOk result (λ line. line.items ≡ new_line fault) }
     ensures told { OnOk result (fault ≢ NewFault.NoMemory) }
@@ -81,7 +83,7 @@ pub fn new_line(alloc: Global, fault: NewFault) -> Result<Vec<u8>, AllocError>
     Ok(line)
 }
 
-/// The line of an event that was refused at a clock.
+/// The line of an event that was refused at a clock. For refused memory there is none.
 pub fn refused_line(alloc: Global, fault: WorldFault, clock: u64) -> Result<Vec<u8>, AllocError>
     ensures line { IfOk result (λ line. line.items ≡ refused_line fault clock) }
     ensures told { OnOk result (fault ≢ WorldFault.NoMemory) }

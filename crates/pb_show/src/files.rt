@@ -1,3 +1,5 @@
+//! The text for the audit of a scenario file.
+
 ghost use Rattle.std.specs.Prelude.{◌≡◌, ◌≢◌, Ok, IfErr, IfOk, OnOk};
 ghost use Rattle.pb_show.specs.Audits.{audit_of_scenario};
 ghost use Rattle.pb_show.specs.Faults.{scenario_line, table_fault};
@@ -31,7 +33,7 @@ pub fn audited(
 
 /// The scenario that a file describes.
 ///
-/// Faults: the first that applies, as [`read`] has them; or `NoMemory`.
+/// Faults: the first that applies, as for [`read`]; or `NoMemory`.
 pub fn described(alloc: Global, file: &[u8]) -> Result<Scenario, ScenarioFault>
     ensures scenario { IfOk result (λ s. scenario_of file.now ≡ Ok s) }
     ensures fault { IfErr result (Refuses file.now) }
@@ -39,9 +41,9 @@ pub fn described(alloc: Global, file: &[u8]) -> Result<Scenario, ScenarioFault>
     read(alloc, file)
 }
 
-/// What is written for a file that is refused. Where memory was refused there is no line: it is refused here too.
+/// The text for a refused file. For refused memory there is no line: the result is that fault too.
 ///
-/// Fault: memory was refused, there or here.
+/// Fault: memory was refused, before or in this call.
 pub fn refused_file(alloc: Global, fault: &ScenarioFault) -> Result<Shown, AllocError>
     ensures shown { IfOk result (λ shown. shown_of shown ≡ refusal (scenario_line (table_fault fault.now))) }
     ensures told { OnOk result (fault.now ≢ ScenarioFault.NoMemory) }

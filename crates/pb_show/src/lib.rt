@@ -1,8 +1,8 @@
 //! What the program writes for a scenario file, as values: the text of an audit, a trace or its last lines, and the
 //! lines of faults. All times are in bit times.
 //!
-//! [`audited`] gives what is written for the audit of a file: a stated function of the bytes of the file. [`traced`],
-//! [`refused_fleet`] and [`refused_file`] give what is written for a run, by what came of it.
+//! [`audited`] returns the text for the audit of a file, a stated function of the bytes of the file. [`traced`],
+//! [`refused_fleet`] and [`refused_file`] return the text for a run, by its result.
 #![tactic(auto)]
 
 mod audits;

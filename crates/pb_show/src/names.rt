@@ -1,3 +1,5 @@
+//! The names of faults, and the paths of keys.
+
 ghost use Rattle.std.specs.Prelude.{◌≡◌, ◌++◌, OnOk};
 ghost use Rattle.pb_show.specs.Names.{item_text, key_text, new_name, path_text, section_text, world_name};
 
@@ -59,7 +61,7 @@ pub fn push_key(text: &mut Vec<u8>, section: Section, key: &str) -> Result<(), A
     }
 }
 
-/// Appends the name of a table; nothing for that of the whole file.
+/// Appends the name of a table; nothing for the table of the whole file.
 fn push_section(text: &mut Vec<u8>, section: Section) -> Result<(), AllocError>
     ensures { OnOk result (text.new.items ≡ text.old.items ++ section_text section) }
 {
@@ -71,7 +73,7 @@ fn push_section(text: &mut Vec<u8>, section: Section) -> Result<(), AllocError>
     }
 }
 
-/// Appends an item of a list, whose name and bracket are given.
+/// Appends an element of a list. `list` is the list's name with the opening bracket.
 fn push_item(text: &mut Vec<u8>, list: &[u8], item: usize) -> Result<(), AllocError>
     ensures { OnOk result (text.new.items ≡ text.old.items ++ item_text list.now item) }
 {

@@ -1,4 +1,4 @@
-//! What is written for a run: its trace, or the line of a fleet's fault.
+//! The text for a run: its trace, or the line of a fleet's fault.
 
 ghost use Rattle.std.specs.Prelude.{◌≡◌, ◌≢◌, ◌≤◌, IfOk, OnOk, map};
 ghost use Rattle.pb_medium.specs.Entries.{entry_of};
@@ -14,7 +14,7 @@ use pb_fleet::{CommitFault, FleetFault};
 use pb_scenario::{Entry, Scenario, push_trace};
 use std::alloc::{AllocError, Global};
 
-/// What is written for the trace of a scenario's run: a line for each entry, or the last lines of them.
+/// The text for the trace of a scenario's run: a line for each entry, or only the last lines.
 ///
 /// Fault: memory was refused.
 pub fn traced(
@@ -38,10 +38,10 @@ pub fn traced(
     })
 }
 
-/// What is written for the fault of a fleet, which is not that its workers were refused. Where memory was refused there
-/// is no line: it is refused here too. Where it was refused for a thread the fault is `NoThread`, which has a line.
+/// The text for a fleet's fault. The caller ensures that it is not `BadWorkers`. For refused memory there is no line:
+/// the result is that fault too. If memory was refused for a thread, the fault is `NoThread`, which has a line.
 ///
-/// Fault: memory was refused, there or here.
+/// Fault: memory was refused, before or in this call.
 pub fn refused_fleet(alloc: Global, fault: FleetFault) -> Result<Shown, AllocError>
     requires { fault ≢ FleetFault.BadWorkers }
     ensures shown { IfOk result (λ shown. shown_of shown ≡ refusal (fleet_line fault)) }
@@ -57,7 +57,7 @@ fn fleet_line(alloc: Global, fault: FleetFault) -> Result<Vec<u8>, AllocError>
     ensures told { OnOk result (IsToldFleet fault) }
 {
     match fault {
-        // Excluded by what is required: the program asks for numbers of workers within the limits.
+        // Excluded by the precondition: the program asks only for numbers of workers within the limits.
         FleetFault::BadWorkers => unreachable!(),
         FleetFault::Commit { now, fault, .. } | FleetFault::Drive { now, fault } => {
             commit_line(alloc, fault, now)
@@ -84,7 +84,7 @@ fn commit_line(alloc: Global, fault: CommitFault, clock: u64) -> Result<Vec<u8>,
     }
 }
 
-/// A line of words.
+/// A line with these words.
 fn words(alloc: Global, words: &[u8]) -> Result<Vec<u8>, AllocError>
     ensures { IfOk result (λ line. line.items ≡ words.now) }
 {

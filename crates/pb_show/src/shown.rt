@@ -1,9 +1,11 @@
+//! A text for a file, and whether it reports a refusal.
+
 /// What is written for a file.
 #[derive(Debug, PartialEq, Eq, Drop)]
 pub struct Shown {
     /// The text.
     pub text: Vec<u8>,
-    /// Whether it tells of a refusal, or of an illegal trace.
+    /// Whether it reports a refusal or an illegal trace.
     pub is_refused: bool,
 }
 

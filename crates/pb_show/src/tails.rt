@@ -1,3 +1,5 @@
+//! The last lines of a text.
+
 ghost use Rattle.std.specs.Prelude.{◌≡◌, IfOk, map};
 ghost use Rattle.std.specs.List.{flat_map};
 ghost use Rattle.bstr.specs.Text.{lines_of};
@@ -8,7 +10,7 @@ use bstr::ByteSlice;
 use circular_buffer::HeapCircularBuffer;
 use std::alloc::{AllocError, Global};
 
-/// The last lines of a text, all of them where it has no more.
+/// The last lines of a text; the whole text if it has no more lines.
 pub fn last_lines(alloc: Global, text: &[u8], lines: usize) -> Result<Vec<u8>, AllocError>
     ensures { IfOk result (λ last. last.items ≡ last_lines lines text.now) }
 {
@@ -20,7 +22,7 @@ pub fn last_lines(alloc: Global, text: &[u8], lines: usize) -> Result<Vec<u8>, A
     Ok(last)
 }
 
-/// The last lines of a text, found from its end.
+/// The last lines of a text, searched from its end.
 fn kept_lines<'a>(
     alloc: Global,
     text: &'a [u8],

@@ -1,9 +1,11 @@
+//! Tests of the texts that no run of the program shows, and of an audit.
+
 //! What is written for an audit, and the lines of faults that no scenario file brings about.
 
 use crate::{audited, refused_fleet};
 use pb_fleet::{CloseFault, CommitFault, FleetFault};
 
-/// Two masters that start in the instants that make up the difference of their time-outs.
+/// Two masters whose starts are as far apart as their time-outs differ.
 const FILE: &[u8] = b"version = 1
 until = 1100
 [bus]
@@ -45,7 +47,7 @@ fn an_audit_names_premise_and_record(rt: HostRuntime) {
     assert!(rt; shown.is_refused);
 }
 
-/// The lines of faults that no scenario file brings about.
+/// The lines of faults that no scenario file causes.
 #[test]
 fn tells_why_a_fleet_stopped(rt: HostRuntime) {
     let alloc = rt.alloc();

@@ -9,7 +9,7 @@ use Rattle.pb_station.specs.declared.decisions.Decided.TheInside as decided
 use Rattle.pb_station.specs.declared.decisions.Decision.TheInside.{Inside}
 use Rattle.pb_station.specs.declared.marks.Mark.{Mark}
 
--- a station after its turn, which changes nothing else of it, and what it says
+-- a station after its turn, which changes nothing else of it, and what it sends
 abbrev pub turned : StationView → List turn.Mark → ℕ → StationView × Option (List ℕ)
 turned before marks now =
     let turn = turn_of before.params before.station marks now in

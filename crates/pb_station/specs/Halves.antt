@@ -14,7 +14,7 @@ abbrev pub has_come : Option ℕ → ℕ → Bool
 has_come None now = false
 has_come (Some moment) now = nat_le moment now
 
--- a station at the clock after it has spoken, if its moment has come, and what it says
+-- a station at the clock after it has spoken, if its moment has come, and what it sends
 abbrev pub spoken : StationView → ℕ → StationView × Option (List ℕ)
 spoken before now =
     let said = speech before.params before.station (speaks_at before.station) now in

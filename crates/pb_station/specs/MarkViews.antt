@@ -10,7 +10,7 @@ abbrev pub mark_of : Mark → turn.Mark
 mark_of (mark.Begin at seen) = turn.Begin at seen
 mark_of (mark.End at seen chars) = turn.End at seen chars.items
 
--- no mark is of a moment later than the clock
+-- no mark has a moment later than the clock
 abbrev pub AreOver : ℕ → List Mark → Type 0
 AreOver now marks = All (λ m. moment_of (mark_of m) ≤ now) marks
 
@@ -18,7 +18,7 @@ abbrev pub AllOver : ℕ → List turn.Mark → Type 0
 AllOver now [] = Unit {0}
 AllOver now (m ∷ ms) = (moment_of m ≤ now) × AllOver now ms
 
--- the characters that a mark brings, and the mark with others in their place
+-- the characters of a mark, and the mark with others in their place
 abbrev pub brought : turn.Mark → List RxChar
 brought (turn.Begin at seen) = []
 brought (turn.End at seen chars) = chars

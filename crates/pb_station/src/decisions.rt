@@ -1,3 +1,5 @@
+//! A turn that is computed outside the world: from a glance, a decision.
+
 ghost use Rattle.std.specs.Prelude.{◌≡◌, ◌≤◌, IfOk, map, option_map};
 ghost use Rattle.pb_station.specs.Decisions.{IsDecision, octets_of};
 ghost use Rattle.pb_turn.specs.Stations as turn;
@@ -5,18 +7,19 @@ ghost use Rattle.pb_core.specs.Clocks.{last_turn};
 ghost use Rattle.pb_station.specs.MarkViews.{mark_of, AreOver};
 
 use crate::marks::Mark;
-use crate::stations::{NoMemory, Station};
+use crate::stations::Station;
 use arrayvec::ArrayVec;
 use pb_core::SendBuffer;
+use pb_refusals::NoMemory;
 use pb_telegram::copy_octets;
 use pb_timers::Moment;
 use std::alloc::Global;
 use std::marker::Model;
 
-/// What a worker sees of one station.
+/// The state of one station, as a worker sees it.
 #[derive(Debug, Drop)]
 pub struct Glance {
-    /// The tap of the station, counted from 0.
+    /// The index of the station's tap, from 0.
     pub tap: usize,
     /// The station.
     pub station: Station,
@@ -26,11 +29,11 @@ pub struct Glance {
     pub now: Moment,
 }
 
-/// A turn of a station. Each value of this type is one: `after` is the station after its turn at `now`, with
-/// `marks` unread before, and `speak` the octets that it says.
+/// A turn of a station: `after` is the station `before` after its turn at `now`, with the unread marks `marks`; it
+/// sends the octets `speak`. Every value of this type is such a turn.
 #[derive(Debug, Drop)]
 pub struct Decision {
-    /// The tap of the station, counted from 0.
+    /// The index of the station's tap, from 0.
     pub tap: usize,
     /// The station before its turn.
     pub before: Station,
@@ -40,7 +43,7 @@ pub struct Decision {
     pub now: Moment,
     /// The station after its turn.
     pub after: Station,
-    /// The octets that it says.
+    /// The octets that it sends, if any.
     pub speak: Option<ArrayVec<u8, 255>>,
 }
 
@@ -57,7 +60,7 @@ impl Model for Decision {
 impl Decision {
     ghost use Rattle.std.specs.Prelude.{◌≡◌};
 
-    /// The same turn, whose octets stand where the caller has a place for them.
+    /// The same turn, with its octets moved to `octets`.
     pub fn lend<'a>(self, octets: &'a mut Option<ArrayVec<u8, 255>>) -> Decided<'a>
         ensures { result ≡ self }
     {
@@ -81,11 +84,11 @@ impl Decision {
     }
 }
 
-/// A turn of a station, as a [`Decision`] is one, whose octets stand in the buffer that it was decided with, so that a
-/// turn in which nothing is said has no room for any.
+/// A turn of a station, as in a [`Decision`], with its octets in the buffer with which it was decided. A turn in which
+/// nothing is sent thus needs no memory for octets.
 #[derive(Debug, Drop)]
 pub struct Decided<'a> {
-    /// The tap of the station, counted from 0.
+    /// The index of the station's tap, from 0.
     pub tap: usize,
     /// The station before its turn.
     pub before: Station,
@@ -95,7 +98,7 @@ pub struct Decided<'a> {
     pub now: Moment,
     /// The station after its turn.
     pub after: Station,
-    /// The octets that it says.
+    /// The octets that it sends, if any.
     pub speak: Option<&'a ArrayVec<u8, 255>>,
 }
 
@@ -109,12 +112,12 @@ impl<'a> Model for Decided<'a> {
     ghost invariant = { λ d. IsDecision (decided_view d) };
 }
 
-/// The turn of a station, as a glance shows it: it reads its unread marks and the timers between them in order
-/// of time, a mark first at a tie, and then speaks if its moment has come (EN 50170-2, states of the data link
-/// layer). It changes nothing. `now` is at most 2^61, and no moment of a mark is later than `now`, both the
-/// caller's conditions.
+/// Computes the turn of the station in a glance: it reads its unread marks, and the timers between them, in order of
+/// time (a mark first at equal moments), and then speaks if its moment has come (EN 50170-2, states of the data link
+/// layer). It changes nothing. The caller ensures that `now` is at most 2^61, and that no moment of a mark is later
+/// than `now`.
 ///
-/// Fault: `NoMemory` where memory was refused, for the station before and after.
+/// Fault: `NoMemory` if memory was refused, for the station before and after.
 #[inline(always)]
 pub fn decide(alloc: Global, glance: Glance) -> Result<Decision, NoMemory>
     requires clock { glance.now ≤ last_turn }
@@ -142,7 +145,7 @@ pub fn decide(alloc: Global, glance: Glance) -> Result<Decision, NoMemory>
     })
 }
 
-/// A copy of what is said.
+/// A copy of the octets.
 fn copied(speak: Option<&ArrayVec<u8, 255>>) -> Option<ArrayVec<u8, 255>>
     ensures { octets_of result ≡ option_map (λ o. o.now.items) speak.entry }
 {
@@ -152,10 +155,10 @@ fn copied(speak: Option<&ArrayVec<u8, 255>>) -> Option<ArrayVec<u8, 255>>
     }
 }
 
-/// The turn that [`decide`] gives, whose octets stay in a buffer that may be used for many turns, one after another.
-/// What the buffer had before is forgotten. The caller's conditions are the same.
+/// Computes the same turn as [`decide`], with its octets in a buffer that can be reused for the next turn. The old
+/// content of the buffer is discarded. The caller's conditions are the same.
 ///
-/// Fault: `NoMemory` where memory was refused, for the station before and after.
+/// Fault: `NoMemory` if memory was refused, for the station before and after.
 #[inline(always)]
 pub fn decide_in<'a>(
     alloc: Global,
@@ -186,9 +189,8 @@ pub fn decide_in<'a>(
     })
 }
 
-/// When a station has to take its turn, with some unread marks: the least of the moment at which the first of
-/// them was delivered, its timer, which waits while it is busy, and its speaking moment. None where it has
-/// nothing to wait for.
+/// When a station has to take its turn: the earliest of the delivery of its first unread mark, its timer, which waits
+/// while the station is busy, and its speaking moment. `None` if it waits for nothing.
 pub fn due(station: &Station, marks: &[Mark]) -> Option<Moment>
     ensures { result ≡ turn.due_of station.now.params station.now.station (map mark_of marks.now) }
 {

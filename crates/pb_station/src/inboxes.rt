@@ -1,3 +1,5 @@
+//! The unread marks of a tap, in memory that is reserved once.
+
 ghost use Rattle.std.specs.Prelude.{◌≡◌, ◌+◌, ◌≤◌, ◌<◌, ◌++◌, ◌∷◌, [], ℕ, List, IsTrue, ◌↔◌, IfOk, length, map};
 ghost use Rattle.std.specs.Vec.{vec_capacity};
 ghost use Rattle.pb_telegram.specs.declared.chars.RxChar.{RxChar};
@@ -14,15 +16,15 @@ use pb_timers::Moment;
 use std::alloc::{AllocError, Global};
 use std::marker::Model;
 
-/// How many unread marks a tap may have.
+/// The most unread marks that a tap may have.
 pub const MARK_LIMIT: usize = 64;
 
-/// How many characters they bring at most, 255 each.
+/// The most characters of all unread marks, 255 each.
 const CHAR_LIMIT: usize = 16_320;
 
-/// The unread marks of a tap, with room for as many as there may be: a list of marks in every clause. The characters of
-/// all marks stand behind one another, so that nothing is moved but what a mark brings, and apart from those the octets
-/// of marks whose characters all came good, which are most. A token's octets stand in its note, and noise needs none.
+/// The unread marks of a tap, with memory reserved for all of them. In contracts it is a list of marks. The characters
+/// of all marks are in one list, so only the characters that a mark brings are copied. The octets of undamaged marks,
+/// which are most, are in a second list. A token's octets are in its note, and noise needs none.
 #[derive(Debug, Drop)]
 pub struct Inbox {
     notes: Vec<Note>,
@@ -45,7 +47,7 @@ impl Model for Inbox {
         × AreOf b.notes.items b.chars.items b.octets.items };
 }
 
-/// Notes of marks, with the characters and the octets of them all.
+/// Notes of marks, with all their characters and octets.
 #[derive(Clone, Copy, Debug)]
 pub(crate) struct Unread<'a> {
     pub(crate) notes: &'a [Note],
@@ -61,7 +63,9 @@ impl Inbox {
     ghost use Rattle.pb_station.specs.MarkViews.{mark_of};
     ghost use Rattle.pb_station.specs.Notes.{AreOf, chars_of, octets_of, mark_with, marks_in};
 
-    /// An inbox without marks, with room for all that it may have. Its fault: memory was refused.
+    /// An empty inbox with memory for all that it may have.
+    ///
+    /// Fault: memory was refused.
     pub fn new(alloc: Global) -> Result<Inbox, AllocError>
         ensures { IfOk result (λ b. b ≡ []) }
     {
@@ -75,7 +79,7 @@ impl Inbox {
         })
     }
 
-    /// Activity has begun at a moment, which a mark says behind the others.
+    /// Appends a mark: activity has begun at `at`. The caller ensures that fewer than 64 marks are unread.
     pub fn push_begin(&mut self, at: Moment, seen: Moment)
         requires { length self.old < 64 }
         ensures { self.new ≡ self.old ++ model.Begin at seen ∷ [] }
@@ -83,7 +87,8 @@ impl Inbox {
         self.push_note(Note::Begin { at, seen });
     }
 
-    /// Activity has ended at a moment, and brought characters, which a mark says behind the others.
+    /// Appends a mark: activity has ended at `at` and brought these characters. The caller ensures that fewer than 64
+    /// marks are unread, and that there are at most 255 characters.
     pub fn push_end(&mut self, at: Moment, seen: Moment, chars: &[RxChar])
         requires room { length self.old < 64 }
         requires fits { length chars.now ≤ 255 }
@@ -97,8 +102,8 @@ impl Inbox {
         });
     }
 
-    /// Activity has ended at a moment, and brought one damaged character, as noise does, which a mark says behind the
-    /// others.
+    /// Appends a mark: activity has ended at `at` and brought one damaged character, as noise does. The caller ensures
+    /// that fewer than 64 marks are unread.
     #[inline(always)]
     pub fn push_noise(&mut self, at: Moment, seen: Moment)
         requires { length self.old < 64 }
@@ -107,8 +112,9 @@ impl Inbox {
         self.push_note(Note::Noise { at, seen });
     }
 
-    /// Activity has ended at a moment, and brought octets that all came good, which a mark says behind the others.
-    /// Three of them, as many as a token has, stand in the note itself.
+    /// Appends a mark: activity has ended at `at` and brought these undamaged octets. Three octets, the length of a
+    /// token, are stored in the note. The caller ensures that fewer than 64 marks are unread, and that there are at
+    /// most 255 octets.
     #[inline(always)]
     pub fn push_good_end(&mut self, at: Moment, seen: Moment, octets: &[u8])
         requires room { length self.old < 64 }
@@ -125,7 +131,7 @@ impl Inbox {
         }
     }
 
-    /// A mark stands behind the others, of which all that it brings stands in its note.
+    /// Appends a mark whose characters are all in its note.
     #[inline(always)]
     fn push_note(&mut self, note: Note)
         requires room { length self.old < 64 }
@@ -136,8 +142,8 @@ impl Inbox {
         self.notes.push_reserved(note);
     }
 
-    /// Activity has ended and brought any octets that all came good, which stand behind those of other marks. It stands
-    /// apart, so that a token's mark does no more than note it.
+    /// Appends a mark with any number of undamaged octets, which go into the second list. Kept out of line: a token's
+    /// mark needs only its note.
     #[inline(never)]
     fn push_octets(&mut self, at: Moment, seen: Moment, octets: &[u8])
         requires room { length self.old < 64 }
@@ -152,7 +158,7 @@ impl Inbox {
         });
     }
 
-    /// All marks have been read.
+    /// Removes all marks, which have been read.
     pub fn clear(&mut self)
         ensures { self.new ≡ [] }
     {
@@ -161,7 +167,7 @@ impl Inbox {
         self.octets.clear();
     }
 
-    /// How many marks have not been read.
+    /// How many marks are unread, 0 to 64.
     pub fn len(&self) -> usize
         ensures value { result ≡ length self.now }
         ensures few { result ≤ 64 }
@@ -169,7 +175,9 @@ impl Inbox {
         self.notes.len()
     }
 
-    /// Equal marks, in the same order, the oldest first. The fault: memory was refused.
+    /// Copies of all marks, the oldest first.
+    ///
+    /// Fault: memory was refused.
     pub fn copy_marks(&self, alloc: Global) -> Result<Vec<Mark>, AllocError>
         ensures { IfOk result (λ v. map mark_of v.items ≡ self.now) }
     {
@@ -179,21 +187,21 @@ impl Inbox {
         copy_all(alloc, &self.notes, &self.chars, &self.octets)
     }
 
-    /// Whether these are its marks.
+    /// Whether the unread marks equal these, in the same order.
     pub fn are(&self, marks: &[Mark]) -> bool
         ensures { IsTrue result ↔ (map mark_of marks.now ≡ self.now) }
     {
         are_noted(&self.notes, &self.chars, &self.octets, marks)
     }
 
-    /// When the first mark was delivered.
+    /// When the first mark was delivered; `None` if there is none.
     pub(crate) fn first_seen(&self) -> Option<Moment>
         ensures { result ≡ first_seen self.now }
     {
         first_seen(&self.notes)
     }
 
-    /// The marks that have not been read, the oldest first.
+    /// The unread marks, the oldest first.
     pub(crate) fn unread(&self) -> Unread<'_>
         ensures marks { marks_in result.notes.now result.chars.now result.octets.now ≡ self.now }
         ensures of { AreOf result.notes.now result.chars.now result.octets.now }
@@ -206,7 +214,7 @@ impl Inbox {
     }
 }
 
-/// When the first of some marks was delivered.
+/// When the first of some marks was delivered; `None` if there is none.
 fn first_seen(notes: &[Note]) -> Option<Moment>
     ensures { (chars : List RxChar) (octets : List ℕ)
         → result ≡ first_seen (marks_in notes.now chars octets) }
@@ -217,7 +225,7 @@ fn first_seen(notes: &[Note]) -> Option<Moment>
     }
 }
 
-/// What a mark brings stands behind what others brought, with room for it.
+/// Appends what a mark brings, within the reserved memory.
 fn push_all<T: Copy>(brought: &mut Vec<T>, more: &[T])
     requires { length brought.old.items + length more.now ≤ vec_capacity brought.old }
     ensures items { brought.new.items ≡ brought.old.items ++ more.now }
@@ -226,7 +234,9 @@ fn push_all<T: Copy>(brought: &mut Vec<T>, more: &[T])
     brought.extend_from_slice(more).unwrap();
 }
 
-/// The marks themselves. The fault: memory was refused.
+/// Copies of the marks.
+///
+/// Fault: memory was refused.
 fn copy_all(
     alloc: Global,
     notes: &[Note],
@@ -249,8 +259,8 @@ fn copy_all(
     Ok(copies)
 }
 
-/// A mark with its characters, or its octets, stands behind others, with room for it. The beginning of activity, which
-/// brings none, is not moved with the room for them.
+/// Appends a copy of a mark with its characters or octets, within the reserved memory. Inlined per kind: the mark of a
+/// begin, which has no characters, is then copied without them.
 #[inline(always)]
 fn push_copy(copies: &mut Vec<Mark>, note: &Note, chars: &[RxChar], octets: &[u8])
     requires chars { length chars.now ≤ 255 }
@@ -277,8 +287,8 @@ fn push_copy(copies: &mut Vec<Mark>, note: &Note, chars: &[RxChar], octets: &[u8
     }
 }
 
-/// The end of activity that brought characters stands behind other marks, with room for it: it is made in its place,
-/// and then told what it brings.
+/// Appends a mark of an end with characters, within the reserved memory. The mark is built in place, and its characters
+/// are added afterwards.
 #[inline(always)]
 fn push_ended(copies: &mut Vec<Mark>, at: Moment, seen: Moment, chars: &[RxChar])
     requires chars { length chars.now ≤ 255 }
@@ -293,7 +303,7 @@ fn push_ended(copies: &mut Vec<Mark>, at: Moment, seen: Moment, chars: &[RxChar]
     copies[place].bring(chars);
 }
 
-/// The end of activity that brought octets which all came good, likewise.
+/// Appends a mark of an end with undamaged octets, in the same way.
 #[inline(always)]
 fn push_good_ended(copies: &mut Vec<Mark>, at: Moment, seen: Moment, octets: &[u8])
     requires octets { length octets.now ≤ 255 }
@@ -308,7 +318,7 @@ fn push_good_ended(copies: &mut Vec<Mark>, at: Moment, seen: Moment, octets: &[u
     copies[place].bring_good(octets);
 }
 
-/// Whether marks are those that are noted.
+/// Whether these marks equal the noted ones.
 fn are_noted(notes: &[Note], chars: &[RxChar], octets: &[u8], marks: &[Mark]) -> bool
     requires { AreOf notes.now chars.now octets.now }
     ensures { IsTrue result ↔ (map mark_of marks.now ≡ marks_in notes.now chars.now octets.now) }

@@ -1,8 +1,8 @@
 //! One turn of a station.
 //!
-//! A [`Station`] is told by marks what it hears of the bus. When it is [`due`], it takes its turn: it reads
-//! the marks and its timers in order of time, and speaks if its moment has come. [`decide`] gives that turn
-//! as a [`Decision`], and changes nothing.
+//! A [`Station`] hears the bus through marks. When it is [`due`], it takes its turn: it reads the marks and its timers
+//! in order of time, and speaks if its moment has come. [`decide`] computes that turn as a [`Decision`], and changes
+//! nothing.
 #![tactic(auto)]
 
 mod decisions;
@@ -18,5 +18,6 @@ pub use decisions::{Decided, Decision, Glance, decide, decide_in, due};
 pub use inboxes::{Inbox, MARK_LIMIT};
 pub use marks::Mark;
 pub use pb_core::SendBuffer;
+pub use pb_refusals::NoMemory;
 pub use spares::Spares;
-pub use stations::{NoMemory, Station};
+pub use stations::Station;

@@ -1,3 +1,5 @@
+//! Marks: how a station hears that activity begins and ends.
+
 ghost use Rattle.std.specs.Prelude.{◌≡◌, ◌≤◌, ◌+◌, ◌++◌, [], length, map};
 ghost use Rattle.pb_telegram.specs.declared.chars.RxChar.TheVariants.{Good};
 ghost use Rattle.pb_turn.specs.Marks.{End, moment_of, seen_at};
@@ -7,11 +9,11 @@ use arrayvec::ArrayVec;
 use pb_telegram::RxChar;
 use pb_timers::Moment;
 
-/// How many octets are many.
+/// From this many octets on, characters are made in a list of their own first.
 const MANY: usize = 16;
 
-/// What a station is told of the bus: activity of others begins or ends at a moment. The mark is
-/// delivered at the moment `seen`.
+/// A mark: activity of others begins or ends at a moment, as a station hears it. The mark is delivered at the moment
+/// `seen`.
 #[derive(Debug, PartialEq, Eq, Drop)]
 pub enum Mark {
     /// Activity has begun.
@@ -21,13 +23,13 @@ pub enum Mark {
         /// When the mark was delivered.
         seen: Moment,
     },
-    /// Activity has ended, and brought characters.
+    /// Activity has ended, and has brought characters.
     End {
         /// When it ended.
         at: Moment,
         /// When the mark was delivered.
         seen: Moment,
-        /// The characters.
+        /// The characters that it brought.
         chars: ArrayVec<RxChar, 255>,
     },
 }
@@ -50,7 +52,7 @@ impl Mark {
         }
     }
 
-    /// The end of activity at a moment, of which no character is told yet.
+    /// A mark of an end at a moment, without characters so far.
     #[inline(always)]
     pub(crate) fn ended(at: Moment, seen: Moment) -> Mark
         ensures { mark_of result ≡ End at seen [] }
@@ -62,7 +64,7 @@ impl Mark {
         }
     }
 
-    /// The end of activity is told to have brought characters.
+    /// Adds characters to the mark of an end that has none.
     #[inline(always)]
     pub(crate) fn bring(&mut self, more: &[RxChar])
         requires none { brought (mark_of self.old) ≡ [] }
@@ -74,7 +76,7 @@ impl Mark {
         }
     }
 
-    /// It is told to have brought octets that all came good.
+    /// Adds undamaged octets to the mark of an end that has no characters.
     #[inline(always)]
     pub(crate) fn bring_good(&mut self, octets: &[u8])
         requires none { brought (mark_of self.old) ≡ [] }
@@ -86,7 +88,7 @@ impl Mark {
         }
     }
 
-    /// The mark's own moment.
+    /// The moment of the begin or end.
     pub(crate) fn moment(&self) -> Moment
         ensures { result ≡ moment_of (mark_of self.now) }
     {
@@ -95,7 +97,7 @@ impl Mark {
         }
     }
 
-    /// When it was delivered.
+    /// When the mark was delivered.
     pub(crate) fn seen(&self) -> Moment
         ensures { result ≡ seen_at (mark_of self.now) }
     {
@@ -105,7 +107,7 @@ impl Mark {
     }
 }
 
-/// A copy of the characters that a mark brings.
+/// A copy of characters. The caller ensures that there are at most 255.
 pub fn copy_chars(chars: &[RxChar]) -> ArrayVec<RxChar, 255>
     requires { length chars.now ≤ 255 }
     ensures { result.items ≡ chars.now }
@@ -115,7 +117,7 @@ pub fn copy_chars(chars: &[RxChar]) -> ArrayVec<RxChar, 255>
     copy
 }
 
-/// The characters of octets that came good take their place behind others.
+/// Appends undamaged octets as characters.
 fn push_good(chars: &mut ArrayVec<RxChar, 255>, octets: &[u8])
     requires { length chars.old.items + length octets.now ≤ 255 }
     ensures { chars.new.items ≡ chars.old.items ++ map Good octets.now }
@@ -129,8 +131,8 @@ fn push_good(chars: &mut ArrayVec<RxChar, 255>, octets: &[u8])
     }
 }
 
-/// Those of many octets are made in a room of their own first, which the compiler makes faster. It stands apart, so
-/// that nobody else clears that room.
+/// Slow path of `push_good` for many octets. They are converted in a list of their own, which the compiler makes
+/// faster. Kept out of line: its frame has room for that list.
 #[inline(never)]
 fn push_many(chars: &mut ArrayVec<RxChar, 255>, octets: &[u8])
     requires { length chars.old.items + length octets.now ≤ 255 }
@@ -139,7 +141,7 @@ fn push_many(chars: &mut ArrayVec<RxChar, 255>, octets: &[u8])
     chars.try_extend_from_slice(&good_chars(octets)).unwrap();
 }
 
-/// The characters of octets that came good.
+/// Undamaged octets as characters.
 fn good_chars(octets: &[u8]) -> ArrayVec<RxChar, 255>
     requires { length octets.now ≤ 255 }
     ensures { result.items ≡ map Good octets.now }

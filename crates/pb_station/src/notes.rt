@@ -1,4 +1,4 @@
-//! What is noted of marks whose characters stand apart.
+//! Notes of marks, whose characters are stored elsewhere.
 
 ghost use Rattle.std.specs.Prelude.{◌≡◌, ◌≤◌, [], ◌∷◌, IsTrue, ◌↔◌, length, map, take, drop};
 ghost use Rattle.pb_telegram.specs.declared.chars.RxChar.TheVariants.{Good, Bad};
@@ -10,7 +10,7 @@ use crate::marks::Mark;
 use pb_telegram::RxChar;
 use pb_timers::Moment;
 
-/// A mark, but for its characters.
+/// A mark without its characters.
 #[derive(Clone, Copy, Debug, PartialEq, Eq)]
 pub(crate) enum Note {
     /// Activity has begun.
@@ -20,34 +20,34 @@ pub(crate) enum Note {
         /// When the mark was delivered.
         seen: Moment,
     },
-    /// Activity has ended.
+    /// Activity has ended, and has brought characters.
     End {
         /// When it ended.
         at: Moment,
         /// When the mark was delivered.
         seen: Moment,
-        /// How many characters it has brought.
+        /// How many characters it brought.
         count: usize,
     },
-    /// Activity has ended, and all characters that it has brought came good.
+    /// Activity has ended, and has brought undamaged octets.
     GoodEnd {
         /// When it ended.
         at: Moment,
         /// When the mark was delivered.
         seen: Moment,
-        /// How many octets it has brought.
+        /// How many octets it brought.
         count: usize,
     },
-    /// Activity has ended, and brought three octets that came good, as many as a token has: they stand here.
+    /// Activity has ended, and has brought three undamaged octets, the length of a token. They are stored here.
     Three {
         /// When it ended.
         at: Moment,
         /// When the mark was delivered.
         seen: Moment,
-        /// What it has brought.
+        /// The octets that it brought.
         octets: [u8; 3],
     },
-    /// Activity has ended, and brought one damaged character, as noise does.
+    /// Activity has ended, and has brought one damaged character, as noise does.
     Noise {
         /// When it ended.
         at: Moment,
@@ -57,7 +57,7 @@ pub(crate) enum Note {
 }
 
 impl Note {
-    /// The characters that the mark brings, of those that are left, and those behind them.
+    /// Splits the remaining characters into those of this mark and the rest.
     #[inline(always)]
     pub(crate) fn split_chars<'a>(&self, left: &'a [RxChar]) -> (&'a [RxChar], &'a [RxChar])
         requires { chars_of self.now ≤ length left.now }
@@ -67,7 +67,7 @@ impl Note {
         left.split_at(self.chars())
     }
 
-    /// The octets that it brings, of those that are left, and those behind them.
+    /// Splits the remaining octets into those of this mark and the rest.
     #[inline(always)]
     pub(crate) fn split_octets<'a>(&self, left: &'a [u8]) -> (&'a [u8], &'a [u8])
         requires { octets_of self.now ≤ length left.now }
@@ -77,7 +77,7 @@ impl Note {
         left.split_at(self.octets())
     }
 
-    /// How many characters it brings that stand apart, as such.
+    /// How many characters of this mark are in the list of characters.
     fn chars(&self) -> usize
         ensures { result ≡ chars_of self.now }
     {
@@ -87,7 +87,7 @@ impl Note {
         }
     }
 
-    /// How many octets it brings that stand apart, which all came good.
+    /// How many octets of this mark are in the list of octets.
     fn octets(&self) -> usize
         ensures { result ≡ octets_of self.now }
     {
@@ -97,7 +97,7 @@ impl Note {
         }
     }
 
-    /// The mark's own moment.
+    /// The moment of the begin or end.
     pub(crate) fn moment(&self) -> Moment
         ensures { result ≡ moment_of (mark_with self.now [] []) }
     {
@@ -123,7 +123,7 @@ impl Note {
         }
     }
 
-    /// Whether a mark is this one with some characters, and with some octets.
+    /// Whether `mark` is this note with these characters and octets.
     pub(crate) fn is_noted(&self, chars: &[RxChar], octets: &[u8], mark: &Mark) -> bool
         ensures { IsTrue result ↔ (mark_of mark.now ≡ mark_with self.now chars.now octets.now) }
     {
@@ -149,7 +149,7 @@ impl Note {
         }
     }
 
-    /// Whether activity has ended and brought characters, by some that stand apart and by some octets.
+    /// Whether this is the note of an end that brought `brought`, given its characters and octets.
     fn brings(&self, chars: &[RxChar], octets: &[u8], brought: &[RxChar]) -> bool
         ensures { IsTrue result ↔ (mark_with self.now chars.now octets.now
             ≡ End (moment_of (mark_with self.now [] [])) (seen_at (mark_with self.now [] [])) brought.now) }
@@ -164,14 +164,14 @@ impl Note {
     }
 }
 
-/// Whether two lists are the same characters in the same order.
+/// Whether two lists have the same characters in the same order.
 fn are_same(one: &[RxChar], other: &[RxChar]) -> bool
     ensures { IsTrue result ↔ (one.now ≡ other.now) }
 {
     one == other
 }
 
-/// Whether characters are those of octets that came good.
+/// Whether characters are those of undamaged octets.
 fn are_good(octets: &[u8], chars: &[RxChar]) -> bool
     ensures { IsTrue result ↔ (chars.now ≡ map Good octets.now) }
 {
@@ -192,7 +192,7 @@ fn is_noise(chars: &[RxChar]) -> bool
     matches!(chars, [RxChar::Bad])
 }
 
-/// Whether a character is that of an octet that came good.
+/// Whether a character is that of an undamaged octet.
 fn is_good(char: RxChar, octet: u8) -> bool
     ensures { IsTrue result ↔ (char ≡ Good octet) }
 {

@@ -1,4 +1,4 @@
-//! A station that reads its marks.
+//! How a station reads its unread marks.
 
 ghost use Rattle.std.specs.Prelude.{◌≡◌, ◌≤◌, ℕ, [], ◌∷◌, length, map, take, drop};
 ghost use Rattle.pb_timers.specs.Timers.{Params};
@@ -24,14 +24,14 @@ use pb_telegram::RxChar;
 use pb_timers::{BusParams, Moment};
 use pb_tokenfsm::Phase;
 
-/// The characters and the octets of marks that are not read yet.
+/// The characters and octets of marks that are not read yet.
 #[derive(Clone, Copy, Debug)]
 struct Left<'a> {
     chars: &'a [RxChar],
     octets: &'a [u8],
 }
 
-/// The station after marks that are noted, and the timers that end before each.
+/// Reads noted marks, and the timers that end before each.
 pub(crate) fn after_notes(
     phase: &mut Phase,
     kept: &mut Kept,
@@ -54,7 +54,7 @@ pub(crate) fn after_notes(
     }
 }
 
-/// The station after its unread marks, and the timers that end before each.
+/// Reads marks, and the timers that end before each.
 pub(crate) fn after_marks(
     phase: &mut Phase,
     kept: &mut Kept,
@@ -73,7 +73,7 @@ pub(crate) fn after_marks(
     }
 }
 
-/// The station after a mark.
+/// Reads a mark.
 fn after_mark(phase: &mut Phase, kept: &mut Kept, params: &BusParams, mark: &Mark)
     requires { moment_of (mark_of mark.now) ≤ last_turn }
     ensures { Becomes (λ s. after_mark params.now s (mark_of mark.now))
@@ -85,8 +85,7 @@ fn after_mark(phase: &mut Phase, kept: &mut Kept, params: &BusParams, mark: &Mar
     }
 }
 
-/// The station after a mark that is noted, which brings the first of the characters, or of the octets, that are left. It
-/// answers what is left behind them.
+/// Reads a noted mark, which has the first of the remaining characters or octets. Returns those that remain after it.
 #[inline(always)]
 fn after_note<'a>(
     phase: &mut Phase,
@@ -142,7 +141,7 @@ fn after_note<'a>(
     }
 }
 
-/// The station after activity has begun at a moment; one that is offline notices nothing.
+/// Activity has begun at `at`. An offline station ignores it.
 fn after_begin(phase: &mut Phase, kept: &mut Kept, at: Moment)
     ensures { (p : Params) (seen : ℕ) → Becomes (λ s. after_mark p s (Begin at seen))
         kept.old (phase_of phase.old) kept.new (phase_of phase.new) }
@@ -153,7 +152,7 @@ fn after_begin(phase: &mut Phase, kept: &mut Kept, at: Moment)
     begun(phase, kept, at);
 }
 
-/// The station after activity has ended at a moment and brought characters; one that is offline notices nothing.
+/// Activity has ended at `at` and brought characters. An offline station ignores it.
 fn after_end(phase: &mut Phase, kept: &mut Kept, params: &BusParams, at: Moment, chars: &[RxChar])
     requires { at ≤ last_turn }
     ensures { (seen : ℕ) → Becomes (λ s. after_mark params.now s (End at seen chars.now))
@@ -171,8 +170,7 @@ fn after_end(phase: &mut Phase, kept: &mut Kept, params: &BusParams, at: Moment,
     }
 }
 
-/// The station after activity has ended at a moment and brought octets that all came good; one that is offline notices
-/// nothing.
+/// Activity has ended at `at` and brought undamaged octets. An offline station ignores it.
 fn after_good_end(phase: &mut Phase, kept: &mut Kept, params: &BusParams, at: Moment, octets: &[u8])
     requires { at ≤ last_turn }
     ensures { (seen : ℕ) → Becomes (λ s. after_mark params.now s (End at seen (map Good octets.now)))
@@ -190,8 +188,7 @@ fn after_good_end(phase: &mut Phase, kept: &mut Kept, params: &BusParams, at: Mo
     }
 }
 
-/// The station after activity has ended at a moment and brought one damaged character, as noise does; one that is offline
-/// notices nothing.
+/// Activity has ended at `at` and brought one damaged character, as noise does. An offline station ignores it.
 fn after_noise(phase: &mut Phase, kept: &mut Kept, params: &BusParams, at: Moment)
     requires { at ≤ last_turn }
     ensures { (seen : ℕ) → Becomes (λ s. after_mark params.now s (End at seen (Bad ∷ [])))
@@ -202,8 +199,8 @@ fn after_noise(phase: &mut Phase, kept: &mut Kept, params: &BusParams, at: Momen
     }
 }
 
-/// The station after activity has ended at a moment and brought any characters. It is a call of its own since the room
-/// of the longest telegram is cleared for it.
+/// Activity has ended at `at` and brought any characters. Kept out of line: its frame has room for the longest
+/// telegram.
 #[inline(never)]
 fn after_others(
     phase: &mut Phase,
@@ -219,7 +216,7 @@ fn after_others(
     ended(phase, kept, params, at, &whole_telegram(chars));
 }
 
-/// The station after activity has ended at a moment and brought any octets that all came good, likewise.
+/// Activity has ended at `at` and brought any undamaged octets. Kept out of line for the same reason.
 #[inline(never)]
 fn after_other_octets(
     phase: &mut Phase,

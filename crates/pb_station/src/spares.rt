@@ -1,32 +1,33 @@
-//! Stations that are no longer wanted: others are copied in their room.
+//! Boxes of discarded stations, in which others are copied.
 
 ghost use Rattle.std.specs.Prelude.{◌≡◌, IfOk};
 
-use crate::stations::{NoMemory, Parts, Station};
+use crate::stations::{Parts, Station};
+use pb_refusals::NoMemory;
 use std::alloc::Global;
 
-/// How many rooms are kept at most.
+/// The most boxes that are kept.
 const LIMIT: usize = 16;
 
-/// The rooms of stations that are no longer wanted. A copy that is made in one takes no memory, and moves what the
-/// station has, not all that it may have.
+/// Boxes of discarded stations. A copy that is made in one of them allocates nothing, and copies only what the station
+/// has, not its capacity.
 #[derive(Debug, Drop)]
 pub struct Spares {
     rooms: Vec<Box<Parts>>,
 }
 
 impl Spares {
-    /// There are none yet.
+    /// No boxes.
     pub fn new(alloc: Global) -> Spares {
         Spares {
             rooms: Vec::new(alloc),
         }
     }
 
-    /// An equal station, with room for a further copy where there is some. Where there is none for the copy itself, it
-    /// takes memory.
+    /// An equal station, copied into a kept box, or into new memory if none is kept. If another box is kept, it is
+    /// attached to the copy for a further copy.
     ///
-    /// Fault: `NoMemory` where that was refused.
+    /// Fault: `NoMemory` if memory was refused.
     pub fn copy_of(&mut self, alloc: Global, station: &Station) -> Result<Station, NoMemory>
         ensures { IfOk result (λ s. s ≡ station.now) }
     {
@@ -37,8 +38,8 @@ impl Spares {
         Ok(copy.with_room(self.rooms.pop()))
     }
 
-    /// The rooms of two stations that are no longer wanted are kept, if there is place for both among 16, and memory
-    /// for them is not refused.
+    /// Keeps the boxes of two discarded stations, if there is place for both among 16 and memory for them is not
+    /// refused. Otherwise both are freed.
     pub fn keep(&mut self, one: Station, other: Station) {
         if self.rooms.len() + 2 <= LIMIT && self.rooms.reserve(2).is_ok() {
             self.rooms.push_reserved(one.into_parts());

@@ -1,3 +1,5 @@
+//! A station at a tap: its state, and what is done to it.
+
 ghost use Rattle.std.specs.Prelude.{◌≡◌, ◌≤◌, [], length};
 ghost use Rattle.pb_turn.specs.Stations as turn;
 ghost use Rattle.pb_core.specs.Clocks.{last_turn};
@@ -11,42 +13,25 @@ use crate::turns::{due_of, due_on, is_overdue, read_on, speak_on, take_turn, wou
 use arrayvec::ArrayVec;
 use pb_core::{Address, Core, Cycles, Kept, Past, SendBuffer, Waiting, beginning, copy_outcome};
 use pb_cycles::{Outcome, Queue, Request};
+use pb_refusals::NoMemory;
 use pb_ring::{Gap, Las};
 use pb_rotation::Rotation;
 use pb_telegram::{copy_octets, put_octets};
 use pb_timers::{BusParams, Moment};
 use pb_tokenfsm::{Listening, Offline, PassiveIdle, Phase};
-use std::alloc::{AllocError, AllocFailed, Global};
+use std::alloc::Global;
 use std::marker::Model;
-use thiserror::Error;
-
-/// Memory was refused.
-#[derive(Clone, Copy, Debug, PartialEq, Eq, Error)]
-#[error("NoMemory")]
-pub struct NoMemory;
-
-impl From<AllocError> for NoMemory {
-    fn from(_: AllocError) -> NoMemory {
-        NoMemory
-    }
-}
-
-impl From<AllocFailed<Parts>> for NoMemory {
-    fn from(_: AllocFailed<Parts>) -> NoMemory {
-        NoMemory
-    }
-}
 
 /// A station at a tap of the bus.
 #[derive(Debug, Drop)]
 pub struct Station {
-    /// In a box, so that to move a station moves little.
+    /// In a box, so that moving a station moves a pointer.
     parts: Box<Parts>,
-    /// Where a copy of the station is made, if it has such room.
+    /// A box for a copy of the station, if there is one.
     room: Option<Box<Parts>>,
 }
 
-/// What a station is made of.
+/// The state of a station.
 #[derive(Debug, Drop)]
 pub(crate) struct Parts {
     tap: usize,
@@ -68,7 +53,7 @@ impl Model for Station {
 }
 
 impl Parts {
-    /// Becomes what another is, in the room that it has.
+    /// Overwrites this state by another, in place.
     fn copy_from(&mut self, other: &Parts)
         ensures { self.new ≡ other.now }
     {
@@ -90,10 +75,10 @@ impl Station {
     ghost use Rattle.pb_station.specs.Halves.{at_clock, has_come, spoken};
     ghost use Rattle.pb_station.specs.MarkViews.{mark_of, AllOver, AreOver};
 
-    /// A station that doesn't run, at a tap, counted from 0: a master or a passive station, with an address,
-    /// 0 to 126, the caller's condition, and the data that it replies to a request for data.
+    /// A station that does not run, at the tap with this index, from 0. It is a master or a passive station, with the
+    /// data with which it replies to a request for data. The caller ensures that the address is 0 to 126.
     ///
-    /// Fault: `NoMemory` where memory was refused, for what it keeps or the requests that wait.
+    /// Fault: `NoMemory` if memory was refused, for its state or its waiting requests.
     pub fn new(
         alloc: Global,
         tap: usize,
@@ -131,7 +116,7 @@ impl Station {
         })
     }
 
-    /// The tap's position in the list, counted from 0.
+    /// The index of the tap, from 0.
     pub fn tap(&self) -> usize
         ensures { result ≡ self.now.tap }
     {
@@ -146,14 +131,14 @@ impl Station {
         self.parts.core.kept.address.get()
     }
 
-    /// Whether it is a master, and takes part in the passing of the token.
+    /// Whether the station is a master, which takes part in passing the token.
     pub fn is_master(&self) -> bool
         ensures { result ≡ self.now.master }
     {
         self.parts.master
     }
 
-    /// The data that it replies to a request for data.
+    /// The data with which it replies to a request for data.
     pub fn reply_data(&self) -> &[u8]
         ensures { result.now ≡ self.now.reply_data }
     {
@@ -188,30 +173,30 @@ impl Station {
         self.parts.core.waiting.queue()
     }
 
-    /// Whether 16 requests of a request's priority wait, so that it would be handed back.
+    /// Whether 16 requests of the request's priority wait. [`Station::push`] would return the request.
     pub fn is_full_for(&self, request: &Request) -> bool
         ensures { result ≡ nat_le 16 (length (turn.list_for self.now.station.cycles.queue request.now)) }
     {
         self.parts.core.waiting.is_full_for(request)
     }
 
-    /// How many requests of others it has executed since its start: those that are no repeats. The count stays
-    /// at 2^64 - 1.
+    /// How many requests of others it has executed since its start: those that are no repeats. The count saturates at
+    /// 2^64 - 1.
     pub fn executed(&self) -> u64
         ensures { result ≡ self.now.station.cycles.responder.executed }
     {
         self.parts.core.kept.cycles.responder.executed()
     }
 
-    /// The station of its last message cycle that had an outcome, and that outcome, since its start.
+    /// The last outcome of a message cycle since its start, with the station to which that request was sent.
     pub fn last_outcome(&self) -> Option<(u8, Outcome)>
         ensures { result ≡ self.now.station.cycles.last_outcome }
     {
         copy_outcome(&self.parts.core.kept.cycles.last_outcome)
     }
 
-    /// The station starts at a moment, at most 2^61, the caller's condition: a master listens for the ring,
-    /// a passive station waits for requests. All that it knew is forgotten.
+    /// The station starts at `now`: a master listens for the ring, a passive station waits for requests. All that it
+    /// knew is discarded. The caller ensures that `now` is at most 2^61.
     pub fn start(&mut self, now: Moment)
         requires { now ≤ last_turn }
         ensures { self.new ≡ record
@@ -226,15 +211,14 @@ impl Station {
         start_core(core, params, *master, now);
     }
 
-    /// The station stops: it is offline, and a reply that is not sent yet is dropped. All else stays.
+    /// The station stops: it is offline, and a reply that is not sent yet is dropped. All else is unchanged.
     pub fn stop(&mut self)
         ensures { self.new ≡ record self.old { station = turn.stopped self.old.station } }
     {
         stop_core(&mut self.parts.core);
     }
 
-    /// A request waits behind the others of its priority. It is handed back where 16 of them wait, and
-    /// nothing changes then.
+    /// Appends a request to those of its priority. If 16 of them wait, it is returned and nothing changes.
     pub fn push(&mut self, request: Request) -> Result<(), Request>
         ensures outcome { MatchResult result (λ _. self.new ≡ record
             self.old { station = turn.pushed self.old.station request })
@@ -247,7 +231,7 @@ impl Station {
 
     /// An equal station.
     ///
-    /// Fault: `NoMemory` where memory was refused, for what it keeps or the requests that wait.
+    /// Fault: `NoMemory` if memory was refused, for its state or its waiting requests.
     pub fn copy(&self, alloc: Global) -> Result<Station, NoMemory>
         ensures { IfOk result (λ s. s ≡ self.now) }
     {
@@ -264,9 +248,9 @@ impl Station {
         Ok(copy)
     }
 
-    /// An equal station, made in the room that this one has for it, or else in memory that it takes.
+    /// An equal station, copied into this station's spare box, or into new memory.
     ///
-    /// Fault: `NoMemory` where memory was refused.
+    /// Fault: `NoMemory` if memory was refused.
     pub(crate) fn copy_in_room(&mut self, alloc: Global) -> Result<Station, NoMemory>
         ensures copy { IfOk result (λ s. s ≡ self.old) }
         ensures same { self.new ≡ self.old }
@@ -277,7 +261,7 @@ impl Station {
         }
     }
 
-    /// An equal station, in the room of another.
+    /// An equal station, copied into the box of another.
     pub(crate) fn copy_to(&self, mut room: Box<Parts>) -> Station
         ensures { result ≡ self.now }
     {
@@ -288,7 +272,7 @@ impl Station {
         }
     }
 
-    /// The same station, with the room of others for a copy.
+    /// The same station, with a spare box for a copy.
     pub(crate) fn with_room(self, room: Option<Box<Parts>>) -> Station
         ensures { result ≡ self }
     {
@@ -298,12 +282,12 @@ impl Station {
         }
     }
 
-    /// The room of a station that is no longer wanted.
+    /// The box of a discarded station.
     pub(crate) fn into_parts(self) -> Box<Parts> {
         self.parts
     }
 
-    /// Whether another station is equal to it.
+    /// Whether two stations are equal.
     pub fn is_same(&self, other: &Station) -> bool
         ensures { IsTrue result ↔ (self.now ≡ other.now) }
     {
@@ -314,9 +298,9 @@ impl Station {
             && other.parts.core.is_same(&self.parts.core)
     }
 
-    /// The station takes its turn at a moment, at most 2^61, with the unread marks of an inbox, none of them of a later
-    /// moment, both the caller's conditions, and sends what it says. It is the turn of [`decide`](crate::decide), for
-    /// one who keeps the station and its marks where they are.
+    /// The station takes its turn at `now`, with the unread marks of an inbox, and sends into `out`. It is the turn of
+    /// [`decide`](crate::decide), done in place. The caller ensures that `now` is at most 2^61, and that no mark has a
+    /// later moment.
     pub fn take_turn(&mut self, inbox: &Inbox, now: Moment, out: &mut SendBuffer)
         requires clock { now ≤ last_turn }
         requires over { AllOver now inbox.now }
@@ -326,7 +310,7 @@ impl Station {
         take_turn(core, params, inbox, now, out);
     }
 
-    /// The same turn, with marks that are in no inbox.
+    /// Takes the same turn with a list of marks.
     #[tactic(auto, using(crate::proofs::Silence::silent_turn))]
     #[inline(always)]
     pub(crate) fn turn_on(&mut self, marks: &[Mark], now: Moment, out: &mut SendBuffer)
@@ -341,8 +325,8 @@ impl Station {
         }
     }
 
-    /// The first half of a turn, with marks that are in no inbox: the station reads them, and its timers. It answers
-    /// whether its speaking moment has come.
+    /// The first half of a turn with a list of marks: the station reads them and its timers. Returns whether its
+    /// speaking moment has come.
     pub(crate) fn read(&mut self, marks: &[Mark], now: Moment) -> bool
         requires clock { now ≤ last_turn }
         requires over { AreOver now marks.now }
@@ -353,7 +337,7 @@ impl Station {
         read_on(core, params, marks, now)
     }
 
-    /// The second half: the station at the clock speaks, if its moment has come.
+    /// The second half of a turn: the station speaks at `now`, if its moment has come.
     pub(crate) fn speak(&mut self, now: Moment, out: &mut SendBuffer)
         requires clock { now ≤ last_turn }
         ensures { (self.new, out.new) ≡ spoken self.old now }
@@ -362,8 +346,8 @@ impl Station {
         speak_on(core, params, now, out);
     }
 
-    /// Whether the station would say anything in a turn at a moment, at most 2^61, with the unread marks of an inbox,
-    /// none of them of a later moment, both the caller's conditions. It changes nothing.
+    /// Whether the station would send anything in a turn at `now` with the unread marks of an inbox. It changes
+    /// nothing. The caller ensures that `now` is at most 2^61, and that no mark has a later moment.
     pub fn would_speak(&self, inbox: &Inbox, now: Moment) -> bool
         requires clock { now ≤ last_turn }
         requires over { AllOver now inbox.now }
@@ -372,16 +356,16 @@ impl Station {
         would_speak(&self.parts.core, &self.parts.params, inbox, now)
     }
 
-    /// When the station has to take its turn, with the unread marks of an inbox: what [`due`](crate::due) answers of
-    /// those.
+    /// When the station has to take its turn, with the unread marks of an inbox: what [`due`](crate::due) returns for
+    /// them.
     pub fn due(&self, inbox: &Inbox) -> Option<Moment>
         ensures { result ≡ turn.due_of self.now.params self.now.station inbox.now }
     {
         due_of(&self.parts.core, &self.parts.params, inbox)
     }
 
-    /// Whether the station's turn, with the unread marks of an inbox, will have been due for longer than a lag, in bit
-    /// times, once some bit times have gone by since the clock.
+    /// Whether the station's turn, with the unread marks of an inbox, will have been due for more than `lag` bit times
+    /// when the clock, now at `now`, is `bits` bit times later.
     #[inline(always)]
     pub fn is_overdue(&self, inbox: &Inbox, lag: u32, now: Moment, bits: u64) -> bool
         ensures { result
@@ -390,7 +374,7 @@ impl Station {
         is_overdue(&self.parts.core, &self.parts.params, inbox, lag, now, bits)
     }
 
-    /// The same with marks that are in no inbox.
+    /// When the station has to take its turn, with a list of marks.
     pub(crate) fn due_on(&self, marks: &[Mark]) -> Option<Moment>
         ensures { result ≡ turn.due_of self.now.params self.now.station (map mark_of marks.now) }
     {
@@ -398,7 +382,7 @@ impl Station {
     }
 }
 
-/// What a station keeps that has neither heard nor said anything since a moment.
+/// The state of a station that has heard and sent nothing since `now`.
 fn new_kept(address: Address, params: &BusParams, reply: ArrayVec<u8, 246>, now: Moment) -> Kept
     requires { now ≤ last_turn }
     ensures { station_with result (record { high = []; low = [] }) phases.Offline
@@ -417,7 +401,7 @@ fn new_kept(address: Address, params: &BusParams, reply: ArrayVec<u8, 246>, now:
     }
 }
 
-/// A core as its station starts: a master listens for the ring, a passive station waits for requests.
+/// Starts a station: a master listens for the ring, a passive station waits for requests.
 fn start_core(core: &mut Core, params: &BusParams, master: bool, now: Moment)
     requires { now ≤ last_turn }
     ensures { station_of core.new ≡ turn.started params.now (station_of core.old) master now }
@@ -432,7 +416,7 @@ fn start_core(core: &mut Core, params: &BusParams, master: bool, now: Moment)
     };
 }
 
-/// A core whose station stops: it says nothing more.
+/// Stops a station: it sends nothing more.
 fn stop_core(core: &mut Core)
     ensures { station_of core.new ≡ turn.stopped (station_of core.old) }
 {

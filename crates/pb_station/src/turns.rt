@@ -17,7 +17,7 @@ use pb_phases::{after_timer, speak, speaks_at, timer, would_say};
 use pb_timers::{BusParams, Moment};
 use pb_tokenfsm::Phase;
 
-/// The station takes its turn, and sends what it says.
+/// The station takes its turn, and sends into `out`.
 pub(crate) fn take_turn(
     core: &mut Core,
     params: &BusParams,
@@ -41,8 +41,8 @@ pub(crate) fn take_turn(
     speak(phase, kept, waiting, params, now, out);
 }
 
-/// The first half of a turn, with marks that are in no inbox: the station reads them, and its timers between them and
-/// up to the clock. It answers whether its speaking moment has come.
+/// The first half of a turn with a list of marks: the station reads them, and its timers between them and up to the
+/// clock. Returns whether its speaking moment has come.
 pub(crate) fn read_on(core: &mut Core, params: &BusParams, marks: &[Mark], now: Moment) -> bool
     requires clock { now ≤ last_turn }
     requires over { AreOver now marks.now }
@@ -57,7 +57,7 @@ pub(crate) fn read_on(core: &mut Core, params: &BusParams, marks: &[Mark], now: 
     has_come(speaks_at(phase, kept), now)
 }
 
-/// The second half: the station at the clock speaks, if its moment has come.
+/// The second half of a turn: the station speaks at `now`, if its moment has come.
 pub(crate) fn speak_on(core: &mut Core, params: &BusParams, now: Moment, out: &mut SendBuffer)
     requires clock { now ≤ last_turn }
     requires received { HasReceived (station_of core.old) }
@@ -73,7 +73,7 @@ pub(crate) fn speak_on(core: &mut Core, params: &BusParams, now: Moment, out: &m
     speak(phase, kept, waiting, params, now, out);
 }
 
-/// Whether the station would speak in its turn, which it does not take.
+/// Whether the station would send anything in its turn, which it does not take.
 #[inline(never)]
 pub(crate) fn would_speak(core: &Core, params: &BusParams, inbox: &Inbox, now: Moment) -> bool
     requires clock { now ≤ last_turn }
@@ -86,22 +86,22 @@ pub(crate) fn would_speak(core: &Core, params: &BusParams, inbox: &Inbox, now: M
     would_say(&phase, &kept, now)
 }
 
-/// When the station has to take its turn, with some unread marks.
+/// When the station has to take its turn, with a list of unread marks.
 pub(crate) fn due_on(core: &Core, params: &BusParams, marks: &[Mark]) -> Option<Moment>
     ensures { result ≡ due_of params.now (station_of core.now) (map mark_of marks.now) }
 {
     earlier(first_seen(marks), acts(core, params))
 }
 
-/// The same with those of an inbox.
+/// When the station has to take its turn, with the unread marks of an inbox.
 pub(crate) fn due_of(core: &Core, params: &BusParams, inbox: &Inbox) -> Option<Moment>
     ensures { result ≡ due_of params.now (station_of core.now) inbox.now }
 {
     earlier(inbox.first_seen(), acts(core, params))
 }
 
-/// Whether the station's turn, with the unread marks of an inbox, will have been due for longer than a lag once some
-/// bit times have gone by since the clock. Each of what it may wait for is asked alone.
+/// Whether the station's turn, with the unread marks of an inbox, will have been due for more than `lag` bit times when
+/// the clock, now at `now`, is `bits` bit times later. Each moment that it may wait for is compared separately.
 #[inline(always)]
 pub(crate) fn is_overdue(
     core: &Core,
@@ -116,7 +116,7 @@ pub(crate) fn is_overdue(
     is_past(inbox.first_seen(), lag, now, bits) || is_act_overdue(core, params, lag, now, bits)
 }
 
-/// The same, if it has nothing to read.
+/// The same for a station without unread marks.
 #[inline(always)]
 fn is_act_overdue(core: &Core, params: &BusParams, lag: u32, now: Moment, bits: u64) -> bool
     ensures { let s = station_of core.now in result
@@ -126,7 +126,7 @@ fn is_act_overdue(core: &Core, params: &BusParams, lag: u32, now: Moment, bits: 
         || is_past(speaks_at(&core.phase, &core.kept), lag, now, bits)
 }
 
-/// When the station acts, if it has nothing to read: at its timer, or its speaking moment.
+/// When a station without unread marks acts: at its timer or its speaking moment.
 fn acts(core: &Core, params: &BusParams) -> Option<Moment>
     ensures { result ≡ earlier (timer_of params.now (station_of core.now)) (speaks_at (station_of core.now)) }
 {
@@ -134,8 +134,7 @@ fn acts(core: &Core, params: &BusParams) -> Option<Moment>
     earlier(timer, speaks_at(&core.phase, &core.kept))
 }
 
-/// The station at the clock, before it speaks: it has read its unread marks, and the timers between them and up to
-/// the clock.
+/// Lets the station read its unread marks, and its timers between them and up to the clock. It is then ready to speak.
 fn settle(phase: &mut Phase, kept: &mut Kept, params: &BusParams, inbox: &Inbox, now: Moment)
     requires clock { now ≤ last_turn }
     requires over { AllOver now inbox.now }
@@ -151,7 +150,7 @@ fn settle(phase: &mut Phase, kept: &mut Kept, params: &BusParams, inbox: &Inbox,
     after_timer(phase, kept, params, after(now, 1));
 }
 
-/// The same with marks that are in no inbox.
+/// The same with a list of marks.
 fn settle_on(phase: &mut Phase, kept: &mut Kept, params: &BusParams, marks: &[Mark], now: Moment)
     requires clock { now ≤ last_turn }
     requires over { AreOver now marks.now }
@@ -162,7 +161,7 @@ fn settle_on(phase: &mut Phase, kept: &mut Kept, params: &BusParams, marks: &[Ma
     after_timer(phase, kept, params, after(now, 1));
 }
 
-/// Whether a moment has come.
+/// Whether a moment has come; `None` never does.
 fn has_come(moment: Option<Moment>, now: Moment) -> bool
     ensures { result ≡ has_come moment now }
 {
@@ -172,7 +171,7 @@ fn has_come(moment: Option<Moment>, now: Moment) -> bool
     }
 }
 
-/// When the first mark was delivered.
+/// When the first mark was delivered; `None` if there is none.
 fn first_seen(marks: &[Mark]) -> Option<Moment>
     ensures { result ≡ first_seen (map mark_of marks.now) }
 {

@@ -1,4 +1,4 @@
--- Events and replies as the model says them.
+-- Events and replies as the model's plain data.
 use Rattle.std.specs.Option.{option_map}
 use Rattle.pb_model.specs.World as model
 use Rattle.pb_taps.specs.declared.events.Event.{Event}

@@ -1,4 +1,4 @@
--- The faults of a world, as numbers and as the model says them.
+-- The faults of a world, as numbers and as those of the model.
 use Rattle.std.specs.Prelude.{◌≡◌, ℕ, Bool, true, false, Result, Ok, Err, is_some, not}
 use Rattle.pb_model.specs.World as model
 use Rattle.pb_model.specs.Step.{is_noisy}
@@ -43,7 +43,7 @@ world_fault model.QueueFull = fault.QueueFull
 world_fault (model.InboxFull tap) = fault.InboxFull tap
 world_fault model.TraceFull = fault.TraceFull
 
--- whether an event takes memory, with the reply that it would have: what a turn says, damage, and new noise are kept
+-- whether an event needs memory, given its reply: what a turn sends, damage, and new noise are stored
 abbrev pub takes_memory : model.World → model.Event → model.Reply → Bool
 takes_memory w (model.Turn tap) reply = is_some reply.spoke
 takes_memory w (model.Pass bits) reply = false
@@ -54,12 +54,12 @@ takes_memory w (model.Queue tap request) reply = false
 takes_memory w (model.Noise bits) reply = not (is_noisy w)
 takes_memory w (model.Unheard tap speaker) reply = false
 
--- why an event is refused, by what its step is: by its own fault; where it has none, for want of the memory that it takes
+-- why an event is refused, by its step: its own fault, or if it has none, refused memory if it needs memory
 abbrev pub Refuses : model.World → model.Event → Result (model.World × model.Reply) model.Fault → WorldFault → Type 0
 Refuses w event (Err f) reason = reason ≡ world_fault f
 Refuses w event (Ok next) reason = (takes_memory w event next.1 ≡ true) × (reason ≡ fault.NoMemory)
 
--- why there is no new world
+-- why a new world is refused
 abbrev pub RefusesNew : {X : Type 0} → Result X model.NewFault → NewFault → Type 0
 RefusesNew (Err f) reason = reason ≡ new_fault f
 RefusesNew (Ok next) reason = reason ≡ new.NoMemory

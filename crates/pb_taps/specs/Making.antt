@@ -5,7 +5,7 @@ use Rattle.pb_taps.specs.declared.faults.NewFault.{NewFault}
 use Rattle.pb_taps.specs.declared.faults.NewFault.TheVariants as new
 use Rattle.pb_taps.specs.declared.taps.TapSpec.{TapSpec}
 
--- not too many, and each has the address of a station
+-- at most 127 taps, each with the address of a station
 abbrev pub AreStations : List TapSpec → Type 0
 AreStations specs = (length specs ≤ tap_limit) × All (λ s. s.address ≤ 126) specs
 

@@ -1,4 +1,4 @@
--- A tap as the model says it.
+-- A tap as the model's plain data.
 use Rattle.std.specs.Prelude.{◌≡◌, ℕ, ◌+◌, Bool, true, false, List, [], ◌∷◌}
 use Rattle.pb_model.specs.Medium as model
 use Rattle.pb_taps.specs.declared.taps.Kind.{Kind}
@@ -15,7 +15,7 @@ is_master Passive = false
 abbrev pub spec_of : TapSpec → model.TapSpec
 spec_of s = record { address = s.address; master = is_master s.kind; reply = s.reply.items }
 
--- what a station is to its tap
+-- the definition of a station's tap
 abbrev pub spec_at : StationView → model.TapSpec
 spec_at s = record { address = s.station.address; master = s.master; reply = s.reply_data }
 
@@ -29,7 +29,7 @@ tap_of t = record {
   marks = t.marks;
 }
 
--- where a station is: its tap, and the parameters of its bus
+-- the position of a station: its tap, and the parameters of its bus
 pub record Seat : Type 0 where
   pub tap : ℕ
   pub params : Params
@@ -37,7 +37,7 @@ pub record Seat : Type 0 where
 abbrev pub seat_of : Tap → Seat
 seat_of t = record { tap = t.station.tap; params = t.station.params }
 
--- each of some stations is at its tap, the first of them at a position, on a bus with these parameters
+-- each of some stations is at its tap, the first of them at an index, on a bus with these parameters
 abbrev pub AreSeated : Params → ℕ → List Seat → Type 0
 AreSeated p tap [] = Unit {0}
 AreSeated p tap (s ∷ ss) = (s ≡ record { tap = tap; params = p }) × AreSeated p (tap + 1) ss

@@ -5,7 +5,7 @@ use Rattle.pb_taps.specs.declared.faults.WorldFault.{WorldFault}
 use Rattle.pb_taps.specs.declared.faults.WorldFault.TheVariants as fault
 use Rattle.pb_taps.specs.declared.taps.Tap.{Tap}
 
--- what the station at a tap says in its turn
+-- what the station at a tap sends in its turn
 abbrev pub says : Tap → ℕ → Option (List ℕ)
 says t now = (turn_of t.station.params t.station.station t.marks now).1
 
@@ -13,15 +13,15 @@ says t now = (turn_of t.station.params t.station.station t.marks now).1
 abbrev pub turned_tap : Tap → ℕ → Tap
 turned_tap t now = record t { station = record t.station { station = (turn_of t.station.params t.station.station t.marks now).0 }; marks = [] }
 
--- a tap at a position runs
+-- the tap at an index runs
 abbrev pub Runs : List Tap → ℕ → Type 0
 Runs taps tap = (t : Tap) × (slice_get taps tap ≡ Some t) × (t.running ≡ true)
 
--- the taps after the turn of the one at a position, and what its station said
+-- the taps after the turn of the one at an index, and what its station sent
 abbrev pub TakesTurn : List Tap → ℕ → ℕ → List Tap → Option (List ℕ) → Type 0
 TakesTurn taps tap now next said = (t : Tap) × (slice_get taps tap ≡ Some t) × (next ≡ slice_set taps tap (turned_tap t now)) × (said ≡ says t now)
 
--- why what only a running tap does is refused: no tap is at the position, or it doesn't run
+-- why an event that needs a running tap is refused: there is no such tap, or it does not run
 abbrev pub RefusesStopped : List Tap → ℕ → WorldFault → Type 0
 RefusesStopped taps tap fault.NoSuchTap = slice_get taps tap ≡ None
 RefusesStopped taps tap fault.NotRunning = (t : Tap) × (slice_get taps tap ≡ Some t) × (t.running ≡ false)

@@ -1,3 +1,5 @@
+//! Events of a bus, and the results of accepted ones.
+
 ghost use Rattle.std.specs.Prelude.{◌≡◌};
 ghost use Rattle.pb_taps.specs.Events.{event_of, reply_of};
 
@@ -6,38 +8,38 @@ use pb_cycles::Request;
 use pb_telegram::copy_octets;
 use pb_timers::Moment;
 
-/// What happens on the bus. A tap is a position in the list of taps, counted from 0.
+/// What happens on the bus. A tap is an index in the list of taps, from 0.
 #[derive(Debug, PartialEq, Eq, Drop)]
 pub enum Event {
     /// The station at a tap takes its turn.
     Turn(usize),
-    /// Time passes, in bit times.
+    /// Time passes, by this many bit times.
     Pass(u64),
-    /// What a tap hears of a telegram in the air is damaged.
+    /// A tap hears a telegram on the bus damaged.
     Damage {
         /// The tap that hears it.
         tap: usize,
         /// The tap that sends it.
         speaker: usize,
-        /// The place of the damaged character, from 0; without one all characters are damaged.
+        /// The index of the damaged character, from 0; `None` damages all characters.
         place: Option<u8>,
     },
     /// The station at a tap starts.
     Start(usize),
-    /// The station at a tap stops: a telegram that it sends ends with the character that is on its way.
+    /// The station at a tap stops. A telegram that it is sending ends with the character being sent.
     Stop(usize),
-    /// Noise reaches every tap for some time, in bit times; noise that is in the air lasts so long at least.
+    /// Noise reaches every tap for this many bit times. Noise on the bus is extended to last at least as long.
     Noise(u32),
-    /// A request waits at the station of a tap.
+    /// A request is appended to those that wait at the station of a tap.
     Queue {
         /// The tap.
         tap: usize,
         /// The request.
         request: Request,
     },
-    /// The telegram that a speaker has begun at the clock never comes to a tap.
+    /// The telegram that a speaker has begun at the clock is lost at a tap.
     Unheard {
-        /// The tap that doesn't hear it.
+        /// The tap at which it is lost.
         tap: usize,
         /// The tap that sends it.
         speaker: usize,
@@ -76,12 +78,12 @@ impl Event {
     }
 }
 
-/// What comes of an event.
+/// The result of an accepted event.
 #[derive(Debug, PartialEq, Eq, Drop)]
 pub struct Reply {
-    /// The clock, in bit times.
+    /// The clock after the event.
     pub now: Moment,
-    /// The octets that a turn sent, if it did.
+    /// The octets that a turn sent, if any.
     pub spoke: Option<ArrayVec<u8, 255>>,
 }
 

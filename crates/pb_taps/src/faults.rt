@@ -1,13 +1,15 @@
+//! Why a world or an event is refused.
+
 ghost use Rattle.std.specs.Prelude.{◌≡◌};
 ghost use Rattle.pb_taps.specs.Faults.{number_of, number_of_new};
 ghost use Rattle.pb_taps.specs.declared.faults.NewFault.TheVariants as new;
 ghost use Rattle.pb_taps.specs.declared.faults.WorldFault.TheVariants as world;
 
-use pb_station::NoMemory;
+use pb_refusals::NoMemory;
 use std::alloc::{AllocError, AllocFailed};
 use thiserror::Error;
 
-/// Why there is no new world: the first fault that applies, in the order of the numbers.
+/// Why a new world is refused: the first fault that applies, in the order of the numbers.
 #[derive(Clone, Copy, Debug, PartialEq, Eq, Error)]
 pub enum NewFault {
     /// 1: there is no tap.
@@ -16,8 +18,8 @@ pub enum NewFault {
     /// 2: there are more than 127 taps.
     #[error("TooManyTaps")]
     TooManyTaps,
-    /// 3: a master's address is over the highest station address, or a passive station's over 126; the
-    /// least such tap.
+    /// 3: a master's address is over the highest station address, or a passive station's is over 126. The number is the
+    /// lowest index of such a tap.
     #[error("BadAddress {0}")]
     BadAddress(usize),
     /// 4: memory was refused.
@@ -26,7 +28,7 @@ pub enum NewFault {
 }
 
 impl NewFault {
-    /// The fault's number, 1 to 4: its place in the order in which faults are looked for.
+    /// The fault's number, 1 to 4: its position in the order in which faults are tested.
     pub fn number(&self) -> u8
         ensures { result ≡ number_of_new self.now }
     {
@@ -58,31 +60,31 @@ impl From<NoMemory> for NewFault {
 /// Why a world refuses an event: the first fault that applies, in the order of the numbers.
 #[derive(Clone, Copy, Debug, PartialEq, Eq, Error)]
 pub enum WorldFault {
-    /// 1: there is no such tap.
+    /// 1: there is no tap with this index.
     #[error("NoSuchTap")]
     NoSuchTap,
-    /// 2: the tap runs, or a telegram of its own is in the air.
+    /// 2: the tap runs, or a telegram of its own is still on the bus.
     #[error("Running")]
     Running,
-    /// 3: the tap doesn't run, or a request is to wait at a passive one.
+    /// 3: the tap does not run, or the station for a request is passive.
     #[error("NotRunning")]
     NotRunning,
-    /// 4: nothing that could be damaged is in the air, or that could be lost still wholly to come.
+    /// 4: no telegram on the bus can be damaged in this way, or none has just begun that can be lost.
     #[error("NothingInAir")]
     NothingInAir,
-    /// 5: a stretch of time without a bit time.
+    /// 5: a pass of time or noise of 0 bit times.
     #[error("ZeroTime")]
     ZeroTime,
-    /// 6: the new clock would be past the next end in the air, which is given, in bit times.
+    /// 6: the new clock would be past the next end on the bus. The number is the moment of that end, in bit times.
     #[error("TooFar {0}")]
     TooFar(u64),
     /// 7: the new clock would be over 1,000,000,000,000 bit times.
     #[error("ClockFull")]
     ClockFull,
-    /// 8: the queue of the station is full.
+    /// 8: 16 requests of this priority wait at the station.
     #[error("QueueFull")]
     QueueFull,
-    /// 9: a tap would have more than 64 unread marks; the least such tap.
+    /// 9: a tap would have more than 64 unread marks. The number is the lowest index of such a tap.
     #[error("InboxFull {0}")]
     InboxFull(usize),
     /// 10: the trace has 100,000 entries.
@@ -94,7 +96,7 @@ pub enum WorldFault {
 }
 
 impl WorldFault {
-    /// The fault's number, 1 to 11: its place in the order in which faults are looked for.
+    /// The fault's number, 1 to 11: its position in the order in which faults are tested.
     pub fn number(&self) -> u8
         ensures { result ≡ number_of self.now }
     {

@@ -1,15 +1,19 @@
+//! Glances at a tap, and whether a decision still fits it.
+
 ghost use Rattle.std.specs.Prelude.{◌≡◌, ◌<◌, IsTrue, ◌↔◌, IfOk, Some, slice_get, length, map};
 ghost use Rattle.pb_station.specs.MarkViews.{mark_of};
 ghost use Rattle.pb_taps.specs.Glancing.{Shows, FitsTap};
 ghost use Rattle.pb_taps.specs.declared.taps.Tap as declared;
 
 use crate::taps::Tap;
-use pb_station::{Decided, Decision, Glance, Mark, NoMemory, Spares, Station};
+use pb_refusals::NoMemory;
+use pb_station::{Decided, Decision, Glance, Mark, Spares, Station};
 use pb_timers::Moment;
 use std::alloc::Global;
 
-/// What the tap at a position shows, its station in the room of one that is no longer wanted. Its fault: memory was
-/// refused.
+/// A glance at the tap with this index. Its station is copied into a spare box, if there is one.
+///
+/// Fault: memory was refused.
 pub fn glance(
     alloc: Global,
     taps: &[Tap],
@@ -24,7 +28,7 @@ pub fn glance(
     show(alloc, &taps[position], position, now, spares)
 }
 
-/// Whether a decision was made on the tap at its position, as that is now.
+/// Whether a decision was computed from the present state of its tap, at this clock.
 pub fn fits(taps: &[Tap], decision: &Decision, now: Moment) -> bool
     ensures { IsTrue result ↔ FitsTap taps.now now decision.entry.now }
 {
@@ -34,7 +38,7 @@ pub fn fits(taps: &[Tap], decision: &Decision, now: Moment) -> bool
     }
 }
 
-/// Whether a turn that was decided with a buffer was decided on the tap at its position, as that is now.
+/// Whether a decision with a borrowed buffer was computed from the present state of its tap, at this clock.
 pub fn fits_decided(taps: &[Tap], decided: &Decided<'_>, now: Moment) -> bool
     ensures { IsTrue result ↔ FitsTap taps.now now decided.entry.now }
 {
@@ -61,7 +65,7 @@ fn show(
     })
 }
 
-/// Whether a tap has a station and unread marks.
+/// Whether a tap has this station and these unread marks.
 fn is_as(tap: &Tap, station: &Station, marks: &[Mark]) -> bool
     ensures { IsTrue result ↔ ((station.now ≡ tap.now.station) × (map mark_of marks.now ≡ tap.now.marks)) }
 {

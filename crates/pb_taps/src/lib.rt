@@ -1,5 +1,5 @@
-//! The taps of one bus: what each is, its station with the marks that it has not read, what may happen, and
-//! why that is refused. All times are in bit times.
+//! The taps of one bus: what each is, its station with the unread marks, events, and why they are refused. All times
+//! are in bit times.
 #![tactic(auto)]
 
 mod events;

@@ -1,3 +1,5 @@
+//! Checks a list of taps, and makes it.
+
 ghost use Rattle.std.specs.Prelude.{◌≡◌, ◌≤◌, ◌<◌, ◌+◌, false, None, Some, IfOk, IfErr, OnOk, MatchResult, All, map};
 ghost use Rattle.std.specs.Option.{option_map};
 ghost use Rattle.pb_refusals.specs.FirstFault.{first_fault};
@@ -19,14 +21,16 @@ use pb_telegram::copy_octets;
 use pb_timers::BusParams;
 use std::alloc::Global;
 
-/// How many taps a bus may have.
+/// The most taps that a bus may have.
 pub const TAP_LIMIT: usize = 127;
 
 /// The highest address of a station.
 const HIGHEST_ADDRESS: u32 = 126;
 
-/// The first fault of some taps: `NoTaps`; `TooManyTaps` over 127; `BadAddress` with the least tap whose address is
-/// too high for its kind.
+/// Checks a list of taps.
+///
+/// Faults, the first that applies: `NoTaps`; `TooManyTaps` if there are more than 127; `BadAddress` with the lowest
+/// index of a tap whose address is too high for its kind.
 pub fn check_taps(params: &BusParams, specs: &[TapSpec]) -> Result<(), NewFault>
     ensures ok { OnOk result (first_fault (new_faults params.now (map spec_of specs.now)) ≡ None) }
     ensures stations { OnOk result (AreStations specs.now) }
@@ -48,7 +52,9 @@ pub fn check_taps(params: &BusParams, specs: &[TapSpec]) -> Result<(), NewFault>
     }
 }
 
-/// The taps of a new world: none of them runs. Its fault: `NoMemory`.
+/// Makes the taps of a new world. None of them runs.
+///
+/// Fault: `NoMemory`.
 pub fn new_taps(alloc: Global, params: &BusParams, specs: &[TapSpec]) -> Result<Vec<Tap>, NewFault>
     requires { AreStations specs.now }
     ensures taps { IfOk result

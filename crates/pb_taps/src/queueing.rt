@@ -1,3 +1,5 @@
+//! Appends a request to those that wait at a tap's station.
+
 ghost use Rattle.std.specs.Prelude.{◌≡◌, IfErr, OnErr, OnOk};
 ghost use Rattle.pb_turn.specs.Laws.{IsRequest};
 ghost use Rattle.pb_taps.specs.Queueing.{has_no_room, takes_requests, CanQueue, IsQueued, RefusesQueue};
@@ -6,8 +8,9 @@ use crate::faults::WorldFault;
 use crate::taps::Tap;
 use pb_cycles::Request;
 
-/// Has a request wait at the station of a tap. Faults, the first that applies: `NoSuchTap`; `NotRunning` for a tap
-/// that is stopped, or passive; `QueueFull`.
+/// Appends a request to those that wait at the station of a tap.
+///
+/// Faults, the first that applies: `NoSuchTap`; `NotRunning` if the tap is stopped or passive; `QueueFull`.
 pub fn queue(taps: &mut [Tap], tap: usize, request: Request) -> Result<(), WorldFault>
     ensures ok { OnOk result (IsQueued taps.old tap request taps.new) }
     ensures err { OnErr result (taps.new ≡ taps.old) }
@@ -27,7 +30,9 @@ pub fn queue(taps: &mut [Tap], tap: usize, request: Request) -> Result<(), World
     }
 }
 
-/// Whether a request may wait at the station of a tap. Faults, the first that applies: as [`queue`]'s.
+/// Checks whether a request may be appended.
+///
+/// Faults, the first that applies: those of [`queue`].
 pub fn check_queue(taps: &[Tap], tap: usize, request: &Request) -> Result<(), WorldFault>
     ensures ok { OnOk result (CanQueue taps.now tap request.now) }
     ensures fault { IfErr result (RefusesQueue taps.now tap request.now) }
@@ -44,21 +49,21 @@ pub fn check_queue(taps: &[Tap], tap: usize, request: &Request) -> Result<(), Wo
     Ok(())
 }
 
-/// Whether a tap takes requests: a master that runs.
+/// Whether a tap takes requests: it is a master and runs.
 fn takes_requests(tap: &Tap) -> bool
     ensures { result ≡ takes_requests tap.now }
 {
     tap.running && tap.station.is_master()
 }
 
-/// Whether as many requests of its priority wait at a tap as may wait.
+/// Whether the tap's list for the request's priority is full.
 fn has_no_room(tap: &Tap, request: &Request) -> bool
     ensures { result ≡ has_no_room tap.now request.now }
 {
     tap.station.is_full_for(request)
 }
 
-/// A request has the address and the data of one, by its type.
+/// The address and data of a request are valid, by its type.
 fn check_request(request: &Request)
     ensures { IsRequest request.now }
 {

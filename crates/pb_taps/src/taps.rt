@@ -1,3 +1,5 @@
+//! What a tap is, and its state.
+
 ghost use Rattle.std.specs.Prelude.{◌≡◌, ℕ, List};
 ghost use Rattle.pb_model.specs.Medium.{hears_from};
 ghost use Rattle.pb_taps.specs.Taps.{is_master, tap_of};
@@ -8,13 +10,13 @@ use pb_station::{Inbox, Station};
 /// Whether a tap is a master or a passive station.
 #[derive(Clone, Copy, Debug, PartialEq, Eq)]
 pub enum Kind {
-    /// It takes part in the passing of the token.
+    /// A station that takes part in passing the token.
     Master,
-    /// It only answers.
+    /// A station that only answers.
     Passive,
 }
 
-/// Whether a tap of a kind is a master.
+/// Whether the kind is a master.
 pub fn is_master(kind: Kind) -> bool
     ensures { result ≡ is_master kind }
 {
@@ -24,31 +26,32 @@ pub fn is_master(kind: Kind) -> bool
     }
 }
 
-/// What a tap of the bus is.
+/// The definition of a tap of the bus.
 #[derive(Debug, Drop)]
 pub struct TapSpec {
-    /// Its address: of a master at most the highest station address, of a passive station at most 126.
+    /// Its address: for a master 0 to the highest station address, for a passive station 0 to 126.
     pub address: u8,
     /// Whether it is a master.
     pub kind: Kind,
-    /// The data of its replies.
+    /// The data with which it replies to a request for data.
     pub reply: ArrayVec<u8, 246>,
 }
 
-/// A tap of the bus: its station, and what that has not read yet.
+/// A tap of the bus: its station and the unread marks.
 #[derive(Debug, Drop)]
 pub struct Tap {
     pub running: bool,
-    /// The moment of its last start, also of a tap that has stopped.
+    /// The moment of its last start, also if it has stopped since, in bit times.
     pub since: u64,
-    /// Whether something was reaching it when it started.
+    /// Whether something was reaching it at its start.
     pub amid: bool,
     pub station: Station,
     pub marks: Inbox,
 }
 
 impl Tap {
-    /// Whether the tap ran when a telegram began that begins at a moment, and heard it from there.
+    /// Whether the tap hears a telegram that begins at `moment` from its begin: it started before, or at that moment
+    /// with nothing reaching it.
     pub fn hears_from(&self, moment: u64) -> bool
         ensures { result ≡ hears_from (tap_of self.now) moment }
     {

@@ -1,3 +1,5 @@
+//! Turns of the stations at the taps.
+
 ghost use Rattle.std.specs.Prelude.{◌≡◌, ◌≤◌, ◌<◌, [], is_some, option_map, OnOk, IfErr, Some, slice_get, length, map};
 ghost use Rattle.pb_model.specs.Laws.{AllInOrder, InOrder};
 ghost use Rattle.pb_model.specs.World.{clock_limit};
@@ -13,7 +15,9 @@ use pb_station::{Decided, SendBuffer, Station};
 use pb_timers::Moment;
 use std::mem::replace;
 
-/// Whether a tap runs. Faults, the first that applies: `NoSuchTap`; `NotRunning`.
+/// Checks whether a tap runs.
+///
+/// Faults, the first that applies: `NoSuchTap`; `NotRunning`.
 pub fn check_running(taps: &[Tap], tap: usize) -> Result<(), WorldFault>
     ensures ok { OnOk result (Runs taps.now tap) }
     ensures fault { IfErr result (RefusesStopped taps.now tap) }
@@ -27,7 +31,7 @@ pub fn check_running(taps: &[Tap], tap: usize) -> Result<(), WorldFault>
     Ok(())
 }
 
-/// Whether the station at a tap would say anything in its turn, which it does not take.
+/// Whether the station at a tap would send anything in its turn, which it does not take.
 pub fn would_speak(taps: &[Tap], tap: usize, now: Moment) -> bool
     requires place { tap < length taps.now }
     requires clock { now ≤ clock_limit }
@@ -37,7 +41,7 @@ pub fn would_speak(taps: &[Tap], tap: usize, now: Moment) -> bool
     would_say(&taps[tap], now)
 }
 
-/// The station at a tap takes its turn, in which it reads all its marks, and sends what it says.
+/// The station at a tap takes its turn: it reads all its marks, and sends into `out`.
 pub fn take_turn(taps: &mut [Tap], tap: usize, now: Moment, out: &mut SendBuffer)
     requires place { tap < length taps.old }
     requires clock { now ≤ clock_limit }
@@ -47,17 +51,17 @@ pub fn take_turn(taps: &mut [Tap], tap: usize, now: Moment, out: &mut SendBuffer
     turn(&mut taps[tap], now, out);
 }
 
-/// Stations that another has taken the place of.
+/// Stations that were replaced by a decided turn.
 #[derive(Debug, Drop)]
 pub struct Replaced {
-    /// The one that was at the tap.
+    /// The station that was at the tap.
     pub was: Station,
-    /// The one on which the turn was decided.
+    /// The station from which the turn was decided.
     pub before: Station,
 }
 
-/// The station at the tap of a decision that fits takes the turn that was decided, and sends what it says. Both
-/// stations before it are handed back.
+/// The station at a tap takes a decided turn, and sends into `out`. The caller ensures that the decision fits. Both
+/// replaced stations are returned.
 #[inline(always)]
 pub fn take_decided(
     taps: &mut [Tap],
@@ -99,7 +103,7 @@ fn turn(tap: &mut Tap, now: Moment, out: &mut SendBuffer)
     tap.marks.clear();
 }
 
-/// A tap has a station that has read all its marks. It answers the one that it had.
+/// Replaces the station of a tap by one that has read all its marks, and returns the old one.
 fn become_turned(tap: &mut Tap, after: Station) -> Station
     ensures tap { tap.new ≡ record tap.old { station = after; marks = [] } }
     ensures was { result ≡ tap.old.station }
@@ -108,7 +112,7 @@ fn become_turned(tap: &mut Tap, after: Station) -> Station
     replace(&mut tap.station, after)
 }
 
-/// Sends what was said, if anything.
+/// Sends these octets, if any.
 fn send(out: &mut SendBuffer, said: Option<&ArrayVec<u8, 255>>)
     ensures { out.new ≡ option_map (λ o. o.now.items) said.entry }
 {

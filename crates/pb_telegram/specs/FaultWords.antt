@@ -3,7 +3,7 @@ use Rattle.std.specs.Prelude.{ℕ, List, codes}
 use Rattle.pb_telegram.specs.declared.faults.TelegramFault.{TelegramFault}
 use Rattle.pb_telegram.specs.declared.faults.TelegramFault.TheVariants.{Empty, Faulty, BadStart, Truncated, BadLength, LengthsDiffer, BadSecondStart, BadAddress, BadFc, BadFcs, BadEnd, Trailing}
 
--- the place of a fault in the order in which faults are looked for
+-- the position of a fault in the order in which faults are tested
 abbrev pub number_of : TelegramFault → ℕ
 number_of Empty = 1
 number_of (Faulty place) = 2

@@ -12,11 +12,11 @@ abbrev pub is_bad : RxChar → Bool
 is_bad (Good octet) = false
 is_bad Bad = true
 
--- the place of the first damaged character
+-- the index of the first damaged character
 abbrev pub place_of_bad : List RxChar → Option ℕ
 place_of_bad chars = position_from is_bad 0 chars
 
--- the octet of a character; the tests on octets are asked only where no character is damaged
+-- the octet of a character; octets are tested only if no character is damaged
 abbrev pub octet_of : RxChar → ℕ
 octet_of (Good octet) = octet
 octet_of Bad = 0
@@ -24,7 +24,7 @@ octet_of Bad = 0
 abbrev pub octets : List RxChar → List ℕ
 octets chars = map octet_of chars
 
--- the first octet tells the form of the telegram
+-- the first octet decides the form of the telegram
 abbrev pub is_short : List ℕ → Bool
 is_short xs = slice_index xs 0 == sd1
 
@@ -40,11 +40,11 @@ is_token xs = slice_index xs 0 == sd4
 abbrev pub is_ack : List ℕ → Bool
 is_ack xs = slice_index xs 0 == sc
 
--- the length octet counts two addresses, the control octet and a unit of 1 to 246 octets
+-- the length octet is the number of octets of two addresses, the control octet and a unit of 1 to 246 octets
 abbrev pub has_length : List ℕ → Bool
 has_length xs = nat_le 4 (slice_index xs 1) && nat_le (slice_index xs 1) 249
 
--- how many octets a telegram that starts so needs
+-- how many octets a telegram needs that begins with these
 abbrev pub need : List ℕ → ℕ
 need xs =
     if is_short xs then 6
@@ -57,11 +57,11 @@ need xs =
 abbrev pub has_control : List ℕ → Bool
 has_control xs = is_short xs || is_var xs || is_fixed xs
 
--- the place of the destination address; the source address and the control octet follow it, and then the unit
+-- the index of the destination address; the source address, the control octet and the unit follow it
 abbrev pub da_place : List ℕ → ℕ
 da_place xs = if is_var xs then 4 else 1
 
--- the place of the check octet, which the end delimiter follows
+-- the index of the check octet; the end delimiter follows it
 abbrev pub fcs_place : List ℕ → ℕ
 fcs_place xs = need xs - 2
 
@@ -80,7 +80,7 @@ has_two_lengths xs = is_var xs && not (slice_index xs 2 == slice_index xs 1)
 abbrev pub has_bad_second_start : List ℕ → Bool
 has_bad_second_start xs = is_var xs && not (slice_index xs 3 == sd2)
 
--- a token's addresses are stations', and so is the source address of a telegram of another form
+-- a token has an address that is no station's, or a telegram of another form has such a source address
 abbrev pub has_bad_address : List ℕ → Bool
 has_bad_address xs = (is_token xs && (nat_lt 126 (slice_index xs 1) || nat_lt 126 (slice_index xs 2)))
     || (has_control xs && slice_index xs (da_place xs + 1) % 128 == 127)
@@ -110,7 +110,7 @@ octet_faults xs =
     ∷ (nat_lt (need xs) (length xs), Trailing)
     ∷ []
 
--- the faults of octets from a place on, where the check octet and the end delimiter have to be the last ones
+-- the faults of octets from an index on: the check octet and the end delimiter must be the last ones
 abbrev pub end_faults : List ℕ → ℕ → ℕ → List (Bool × TelegramFault)
 end_faults xs place check =
     (not (slice_index xs place == check), BadFcs)

@@ -4,7 +4,7 @@ use Rattle.pb_telegram.specs.declared.heads.Head.{Head}
 use Rattle.pb_telegram.specs.declared.telegrams.Telegram.{Telegram}
 use Rattle.pb_telegram.specs.declared.telegrams.Telegram.TheVariants as telegram
 
--- the addresses and the control octet, which a token and the short acknowledgement have not
+-- the addresses and the control octet; a token and the short acknowledgement have no control octet
 abbrev pub head_of : Telegram → Option Head
 head_of (telegram.Short t) = Some (record { da = t.da; sa = t.sa; fc = t.fc })
 head_of (telegram.Var t) = Some (record { da = t.da; sa = t.sa; fc = t.fc })

@@ -1,4 +1,4 @@
--- What a receiver keeps of the characters that came, and how one more changes it.
+-- What a receiver keeps of the characters that it was fed, and how one more changes it.
 use Rattle.std.specs.Prelude.{◌≡◌, ℕ, ◌+◌, ◌-◌, ◌%◌, Bool, true, ◌==◌, nat_lt, nat_le, not, ◌||◌, ◌&&◌, if◌then◌else◌, List, [], ◌∷◌, ◌++◌, length, slice_index, slice_range, sum, Option, Some, None, Result, Ok, Err}
 use Rattle.pb_refusals.specs.FirstFault.{first_fault}
 use Rattle.pb_telegram.specs.Grammar.{sd1, sd2, sd3, sd4, sc, ed}
@@ -10,8 +10,8 @@ use Rattle.pb_telegram.specs.declared.telegrams.Telegram.TheVariants.{Short, Var
 use Rattle.pb_telegram.specs.declared.faults.TelegramFault.{TelegramFault}
 use Rattle.pb_telegram.specs.declared.faults.TelegramFault.TheVariants.{BadStart, Truncated, BadLength, LengthsDiffer, BadSecondStart, BadAddress, BadFc, BadFcs, BadEnd, Trailing}
 
--- how many characters came, the place of the first damaged one, and the octets by what they are in a telegram: 0 for one
--- that has not come; the sum is that of the octets from the destination address to the last of the unit, modulo 256
+-- how many characters were fed, the index of the first damaged one, and the octets by their meaning, 0 for one that was
+-- not fed yet; the sum is that of the octets from the destination address to the last of the unit, modulo 256
 pub record Received : Type 0 where
   pub fed : ℕ
   pub bad : Option ℕ
@@ -44,14 +44,14 @@ nothing_received = record {
   last = 0;
 }
 
--- the place of the destination address, by the start delimiter
+-- the index of the destination address, by the start delimiter
 abbrev pub da_from : ℕ → ℕ
 da_from start = if start == sd2 then 4 else 1
 
 abbrev pub is_length : ℕ → Bool
 is_length n = nat_le 4 n && nat_le n 249
 
--- the place of the check octet, by the start delimiter and the length octet; where that is no length, there is no unit
+-- the index of the check octet, by the start delimiter and the length octet; an invalid length means no unit
 abbrev pub check_at : ℕ → ℕ → ℕ
 check_at start n = if start == sd2 then (if is_length n then n + 4 else 7) else if start == sd3 then 12 else 4
 
@@ -59,7 +59,7 @@ check_at start n = if start == sd2 then (if is_length n then n + 4 else 7) else 
 abbrev pub var_octet : List ℕ → ℕ → ℕ
 var_octet xs place = if slice_index xs 0 == sd2 then slice_index xs place else 0
 
--- what a receiver has of the octets that came
+-- what a receiver keeps of the octets that it was fed
 pub record Keeps (r : Received) (xs : List ℕ) : Type 0 where
   pub fed : r.fed ≡ length xs
   pub start : r.start ≡ slice_index xs 0
@@ -74,7 +74,7 @@ pub record Keeps (r : Received) (xs : List ℕ) : Type 0 where
   pub check : r.check ≡ slice_index xs (check_at r.start r.length_octet)
   pub last : r.last ≡ slice_index xs (check_at r.start r.length_octet + 1)
 
--- it stands for the characters that came: it has what they make of it
+-- it represents the characters that were fed: it keeps what follows from them
 pub record StandsFor (r : Received) (chars : List RxChar) : Type 0 where
   pub bad : r.bad ≡ place_of_bad chars
   pub octets : Keeps r (octets chars)
@@ -87,11 +87,11 @@ with_length r octet =
     else if r.fed == 2 then record r { fed = r.fed + 1; again = octet }
     else record r { fed = r.fed + 1; second = octet }
 
--- an octet that counts for the check octet
+-- the sum after one more octet
 abbrev pub sum_with : Received → ℕ → ℕ
 sum_with r octet = (r.sum_octet + octet) % 256
 
--- an address or the control octet, by how far behind the place of the destination address it is
+-- an address or the control octet, by its distance from the destination address
 abbrev pub with_head : Received → ℕ → ℕ → Received
 with_head r behind octet =
     if behind == 0 then record r { fed = r.fed + 1; sum_octet = sum_with r octet; da = octet }
@@ -123,9 +123,9 @@ abbrev pub received_more : Received → RxChar → Received
 received_more r (Good octet) = taken r octet
 received_more r Bad = taken (record r { bad = bad_at r.bad r.fed }) 0
 
--- ---- what is found in the end
+-- ---- the result
 
--- the faults of a telegram with a check octet at a place, from its addresses on
+-- the faults of a telegram with a check octet at an index, from its addresses on
 abbrev pub framed_faults : (place fed sa fc check total last : ℕ) → List (Bool × TelegramFault)
 framed_faults place fed sa fc check total last =
     (sa % 128 == 127, BadAddress)
@@ -157,7 +157,7 @@ token_faults r =
     ∷ (nat_lt 3 r.fed, Trailing)
     ∷ []
 
--- the faults of octets that came, of which there is at least one
+-- the faults of the octets that were fed, of which there is at least one
 abbrev pub form_faults : Received → List (Bool × TelegramFault)
 form_faults r =
     if r.start == sd1 then plain_faults r 4
@@ -167,7 +167,7 @@ form_faults r =
     else if r.start == sc then (nat_lt 1 r.fed, Trailing) ∷ []
     else (true, BadStart) ∷ []
 
--- the telegram is made of what came
+-- the telegram is made of the octets that were fed
 abbrev pub HasParts : Received → Telegram → Type 0
 HasParts r (Short t) = (r.start ≡ sd1) × (t.da ≡ r.da) × (t.sa ≡ r.sa) × (t.fc ≡ r.fc)
 HasParts r (Var t) = (r.start ≡ sd2) × (t.da ≡ r.da) × (t.sa ≡ r.sa) × (t.fc ≡ r.fc) × (t.unit.items ≡ r.unit)
@@ -175,7 +175,7 @@ HasParts r (Fixed8 t) = (r.start ≡ sd3) × (t.da ≡ r.da) × (t.sa ≡ r.sa) 
 HasParts r (Token t) = (r.start ≡ sd4) × (t.da ≡ r.da) × (t.sa ≡ r.sa)
 HasParts r Ack = r.start ≡ sc
 
--- a telegram that is made of what came, where none of these faults is found, or else the first of them
+-- a telegram made of the octets that were fed, if there is none of these faults, else the first of them
 abbrev pub Finds : {T : Type 0} → Received → List (Bool × TelegramFault) → (T → Telegram) → Result T TelegramFault → Type 0
 Finds r faults telegram (Ok t) = (first_fault faults ≡ None) × HasParts r (telegram t)
 Finds r faults telegram (Err fault) = first_fault faults ≡ Some fault

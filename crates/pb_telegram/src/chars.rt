@@ -1,9 +1,11 @@
-/// One character as a receiver took it off the bus: an octet, or damage that it noticed.
+//! One received character: an octet, or damage.
+
+/// One character as a receiver took it off the bus: an octet, or damage that the receiver noticed.
 #[derive(Clone, Copy, Debug, Default, PartialEq, Eq)]
 pub enum RxChar {
     /// An octet whose start, parity and stop bits were right.
     Good(u8),
-    /// A damaged character: its octet is not known.
+    /// A damaged character. Its octet is unknown.
     #[default]
     Bad,
 }

@@ -1,15 +1,17 @@
+//! The frame control octet (FC) and the check octet (FCS).
+
 ghost use Rattle.std.specs.Prelude.{◌≡◌, ◌↔◌, ◌+◌, ◌*◌, ◌/◌, ◌%◌, IsTrue, IsBitSet};
 ghost use Rattle.pb_telegram.specs.Grammar.{fcs_of};
 
 /// A frame control octet (IEC 61158-4-3, frame control field).
 ///
-/// Bit 6 tells a request from a reply. A request has the frame count bit (bit 5) and says by bit 4
-/// whether that bit counts; a reply has the station type in these two bits.
+/// Bit 6 is set in a request and clear in a reply. In a request, bit 5 is the frame count bit, and bit 4 says whether
+/// it is valid. In a reply, bits 5 and 4 are the station type.
 #[derive(Clone, Copy, Debug, PartialEq, Eq)]
 pub struct Fc(pub u8);
 
 impl Fc {
-    /// Whether the telegram is a request (bit 6 set), and no reply.
+    /// Whether the telegram is a request: bit 6 is set. If it is clear, the telegram is a reply.
     pub fn is_request(self) -> bool
         ensures { IsTrue result ↔ IsBitSet self.0 6 }
     {
@@ -23,7 +25,7 @@ impl Fc {
         self.0 & 0x20 != 0
     }
 
-    /// Whether the frame count bit of a request counts, bit 4.
+    /// Whether the frame count bit of a request is valid: bit 4.
     pub fn fcv(self) -> bool
         ensures { IsTrue result ↔ IsBitSet self.0 4 }
     {
@@ -37,8 +39,8 @@ impl Fc {
         self.0 % 16
     }
 
-    /// The station type of a reply, bits 5 and 4: 0 passive, 1 master not ready, 2 master ready to
-    /// enter the ring, 3 master in the ring.
+    /// The station type of a reply, bits 5 and 4: 0 passive, 1 master not ready, 2 master ready to enter the ring, 3
+    /// master in the ring.
     pub fn station_type(self) -> u8
         ensures { result ≡ self.0 / 16 % 4 }
     {
@@ -46,8 +48,8 @@ impl Fc {
     }
 }
 
-/// The check octet FCS: the sum modulo 256 of the octets from the destination address to the last
-/// octet of the unit (IEC 61158-4-3, frame check sequence).
+/// The check octet FCS: the sum modulo 256 of the octets from the destination address to the last octet of the unit
+/// (IEC 61158-4-3, frame check sequence).
 pub fn fcs(da: u8, sa: u8, fc: u8, unit: &[u8]) -> u8
     ensures { result ≡ fcs_of da sa fc unit.now }
 {

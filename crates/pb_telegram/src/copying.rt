@@ -1,8 +1,10 @@
+//! Copies octets into lists of fixed capacity.
+
 ghost use Rattle.std.specs.Prelude.{◌≡◌, ◌≤◌, length};
 
 use arrayvec::ArrayVec;
 
-/// A copy of some octets, at most as many as its room has places, the caller's condition.
+/// A copy of some octets. The caller ensures that there are at most `ROOM` of them.
 pub fn copy_octets<const ROOM: usize>(octets: &[u8]) -> ArrayVec<u8, ROOM>
     requires { length octets.now ≤ ROOM }
     ensures { result.items ≡ octets.now }
@@ -12,8 +14,8 @@ pub fn copy_octets<const ROOM: usize>(octets: &[u8]) -> ArrayVec<u8, ROOM>
     copy
 }
 
-/// Some octets take the place of others, at most as many as the room has places, the caller's condition. Where there
-/// are none, none is moved, and where there are as many, those that stood there aren't cleared.
+/// Replaces the content of `room` by some octets. The caller ensures that there are at most `ROOM` of them. An empty
+/// list copies nothing, and a list of equal length is copied over the old octets without clearing them.
 #[inline(always)]
 pub fn put_octets<const ROOM: usize>(room: &mut ArrayVec<u8, ROOM>, octets: &[u8])
     requires { length octets.now ≤ ROOM }

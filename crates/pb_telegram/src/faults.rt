@@ -1,3 +1,5 @@
+//! Why characters are no telegram.
+
 ghost use Rattle.std.specs.Prelude.{◌≡◌};
 
 use thiserror::Error;
@@ -8,7 +10,7 @@ pub enum TelegramFault {
     /// 1: there is no character.
     #[error("Empty")]
     Empty,
-    /// 2: a character is damaged; the place of the first one, from 0.
+    /// 2: a character is damaged. The number is the index of the first one, from 0.
     #[error("Faulty {0}")]
     Faulty(usize),
     /// 3: the first octet starts no telegram.
@@ -23,7 +25,7 @@ pub enum TelegramFault {
     /// 6: the length and its repetition differ.
     #[error("LengthsDiffer")]
     LengthsDiffer,
-    /// 7: the start delimiter is not repeated behind the lengths.
+    /// 7: the start delimiter is not repeated after the lengths.
     #[error("BadSecondStart")]
     BadSecondStart,
     /// 8: a token's address octet is over 126, or another telegram's source address is 127.
@@ -38,7 +40,7 @@ pub enum TelegramFault {
     /// 11: the end delimiter is missing.
     #[error("BadEnd")]
     BadEnd,
-    /// 12: octets stand after the end.
+    /// 12: octets follow the end.
     #[error("Trailing")]
     Trailing,
 }
@@ -46,7 +48,7 @@ pub enum TelegramFault {
 impl TelegramFault {
     ghost use Rattle.pb_telegram.specs.FaultWords.{number_of, name_of};
 
-    /// The fault's number, 1 to 12: its place in the order in which faults are looked for.
+    /// The fault's number, 1 to 12: its position in the order in which faults are tested.
     pub fn number(&self) -> u8
         ensures { result ≡ number_of self.now }
     {
@@ -66,7 +68,7 @@ impl TelegramFault {
         }
     }
 
-    /// The fault's name, without the place that `Faulty` has.
+    /// The fault's name, without the index that `Faulty` has.
     pub fn name(&self) -> &'static str
         ensures { result.now ≡ name_of self.now }
     {

@@ -1,6 +1,8 @@
+//! What telegrams with a control octet have in common: addresses, control octet and data.
+
 use crate::telegrams::Telegram;
 
-/// What a telegram with a control octet begins with, whatever its form: the octets are as in a
+/// The addresses and the control octet of a telegram, whatever its form. The octets are as in a
 /// [`ShortTelegram`](crate::ShortTelegram).
 #[derive(Clone, Copy, Debug, PartialEq, Eq)]
 pub struct Head {
@@ -16,8 +18,8 @@ impl Telegram {
     ghost use Rattle.std.specs.Prelude.{◌≡◌, ◌≤◌, length};
     ghost use Rattle.pb_telegram.specs.Heads.{head_of, unit_of};
 
-    /// The addresses and the control octet, as sent. A token and the short acknowledgement have no control
-    /// octet, and give none (IEC 61158-4-3, telegram formats).
+    /// The addresses and the control octet, as sent; `None` for a token and for the short acknowledgement, which have
+    /// no control octet (IEC 61158-4-3, telegram formats).
     pub fn head(&self) -> Option<Head>
         ensures { result ≡ head_of self.now }
     {
@@ -30,7 +32,7 @@ impl Telegram {
         Some(Head { da, sa, fc })
     }
 
-    /// The data, at most 246 octets; none in a form without data (IEC 61158-4-3, telegram formats).
+    /// The data, at most 246 octets; empty in a form without data (IEC 61158-4-3, telegram formats).
     pub fn unit(&self) -> &[u8]
         ensures data { result.now ≡ unit_of self.now }
         ensures bound { length result.now ≤ 246 }

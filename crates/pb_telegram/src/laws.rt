@@ -1,3 +1,5 @@
+//! Laws of spellings and faults: each telegram has one spelling, and the fault of characters is the first of the table.
+
 ghost use Rattle.std.specs.Prelude.{◌≡◌, ℕ, List, [], ◌++◌, Some, None};
 ghost use Rattle.pb_refusals.specs.FirstFault.{IsFirst};
 ghost use Rattle.pb_telegram.specs.Grammar.{spelling, Spells};
@@ -38,7 +40,7 @@ pub fn what_is_spelled_has_no_fault()
     ensures octets { (chars : List RxChar) (t : Telegram) → Spells chars t → octets chars ≡ spelling t }
 {}
 
-/// The unit of octets that spell a telegram with data is the telegram's.
+/// For octets that spell a telegram with data, `unit_of` is the data of that telegram.
 pub fn spelled_unit_is_the_telegrams()
     ensures var { (t : VarTelegram) → unit_of (spelling (Var t)) ≡ t.unit.items }
     ensures fixed { (t : Fixed8Telegram) → unit_of (spelling (Fixed8 t)) ≡ t.unit }

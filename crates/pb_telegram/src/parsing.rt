@@ -1,3 +1,5 @@
+//! Parses a list of characters.
+
 ghost use Rattle.std.specs.Prelude.{◌≡◌, Ok, Some, None, IfOk, IfErr, OnOk};
 ghost use Rattle.pb_telegram.specs.Grammar.{Spells};
 ghost use Rattle.pb_telegram.specs.Faults.{fault_of};
@@ -8,14 +10,12 @@ use crate::faults::TelegramFault;
 use crate::receiving::Receiver;
 use crate::telegrams::Telegram;
 
-/// The telegram that the characters spell, or the first fault that applies, in the order of the
-/// faults' numbers (IEC 61158-4-3, telegram formats).
+/// Returns the telegram that the characters spell, or the first fault that applies (IEC 61158-4-3, telegram formats).
 ///
-/// It is `Ok` exactly where the characters spell a telegram. Faults: `Empty`; `Faulty` with the
-/// place of the first damaged character; `BadStart`; `Truncated`; of a telegram with data of
-/// variable length `BadLength` for a length octet that isn't 4 to 249, `LengthsDiffer` and
-/// `BadSecondStart`; `BadAddress` for a token with an address octet over 126, or a telegram with
-/// the source address 127; `BadFc`; `BadFcs`; `BadEnd`; `Trailing`.
+/// The result is `Ok` exactly if the characters spell a telegram. Faults, in order: `Empty`; `Faulty` with the index of
+/// the first damaged character; `BadStart`; `Truncated`; for a telegram with data of variable length, `BadLength` if
+/// the length octet is not 4 to 249, `LengthsDiffer` and `BadSecondStart`; `BadAddress` for a token with an address
+/// octet over 126, or another telegram with the source address 127; `BadFc`; `BadFcs`; `BadEnd`; `Trailing`.
 pub fn parse(chars: &[RxChar]) -> Result<Telegram, TelegramFault>
     ensures telegram { IfOk result (Spells chars.now) }
     ensures sound { OnOk result (fault_of chars.now ≡ None) }

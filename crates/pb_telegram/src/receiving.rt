@@ -1,3 +1,5 @@
+//! A receiver: takes characters one at a time, and gives the telegram or the first fault.
+
 ghost use Rattle.std.specs.Prelude.{◌≡◌, ◌+◌, ◌-◌, ◌%◌, ◌^◌, ◌<◌, ◌≤◌, ◌⊎◌, List, [], ◌∷◌, ◌++◌, IsTrue, ◌↔◌, Ok, Some, None, IfOk, IfErr, OnOk, length};
 ghost use Rattle.pb_refusals.specs.FirstFault.{first_fault};
 ghost use Rattle.pb_telegram.specs.Grammar.{sd1, sd2, sd3, sd4, Spells};
@@ -17,42 +19,40 @@ use crate::telegrams::{
 use arrayvec::ArrayVec;
 use std::marker::Model;
 
-/// How many octets of a telegram with data of variable length tell how long it is.
+/// How many octets a telegram with data of variable length has before the destination address.
 const VAR_HEAD: u64 = 4;
 
-/// How many octets stand between what tells the length and the unit: both addresses and the control
-/// octet.
+/// How many octets are between the start or the lengths and the unit: both addresses and the control octet.
 const HEAD: u64 = 3;
 
 const TOKEN_LENGTH: u64 = 3;
 
-/// Takes the characters of a telegram one at a time, as a receiver takes them off the bus, and keeps
-/// no list of them (IEC 61158-4-3, telegram formats).
+/// Takes the characters of a telegram one at a time, without storing a list of them (IEC 61158-4-3, telegram formats).
 ///
-/// What most octets and each answer pass through is put in its place where it is called, so that a telegram is
-/// made where it is wanted and not moved there.
+/// Calls on the path of most octets and of each answer are inlined: the telegram is then built in the caller's memory
+/// and not moved there.
 #[derive(Drop)]
 pub struct Receiver {
-    /// How many characters came.
+    /// How many characters were fed.
     fed: u64,
-    /// The place of the first damaged one.
+    /// The index of the first damaged character, from 0.
     bad: Option<usize>,
     start: u8,
-    /// The length octet and its repetition, and the start delimiter behind them.
+    /// The length octet, its repetition, and the start delimiter that follows them.
     length_octet: u8,
     again: u8,
     second: u8,
     da: u8,
     sa: u8,
     fc: u8,
-    /// The sum of the octets from the destination address to the last of the unit.
+    /// The sum, modulo 256, of the octets from the destination address to the last octet of the unit.
     sum_octet: u8,
     check: u8,
     last: u8,
     unit: ArrayVec<u8, 246>,
-    /// The place of the destination address.
+    /// The index of the destination address.
     from: u64,
-    /// The place of the check octet.
+    /// The index of the check octet.
     end: u64,
 }
 
@@ -89,7 +89,7 @@ impl Model for Receiver {
 }
 
 impl Receiver {
-    /// A receiver to which no character has come.
+    /// A receiver that has been fed no character.
     pub fn new() -> Receiver
         ensures fresh { result ≡ nothing_received }
         ensures stands { StandsFor result [] }
@@ -113,7 +113,7 @@ impl Receiver {
         }
     }
 
-    /// Forgets what came: the receiver is as a new one.
+    /// Discards all characters: the receiver equals a new one.
     pub fn restart(&mut self)
         ensures fresh { self.new ≡ nothing_received }
         ensures stands { StandsFor self.new [] }
@@ -126,7 +126,7 @@ impl Receiver {
         (self.from, self.end) = (1, 4);
     }
 
-    /// Takes the next character; fewer than 2^64 - 1 came before it, the caller's condition.
+    /// Feeds the next character. The caller ensures that fewer than 2^64 - 1 were fed before.
     #[inline(always)]
     pub fn feed(&mut self, char: RxChar)
         requires { self.old.fed < 2 ^ 64 - 1 }
@@ -145,7 +145,7 @@ impl Receiver {
         }
     }
 
-    /// How many characters came.
+    /// How many characters were fed.
     pub fn fed(&self) -> u64
         ensures fed { result ≡ self.now.fed }
         ensures stands { (chars : List RxChar) → StandsFor self.now chars → result ≡ length chars }
@@ -153,17 +153,16 @@ impl Receiver {
         self.fed
     }
 
-    /// The telegram that the characters spell, or the first fault that applies: what [`crate::parse`]
-    /// answers for the list of them (IEC 61158-4-3, telegram formats).
+    /// Returns the telegram that the characters spell, or the first fault that applies: the result of [`crate::parse`]
+    /// for the list of them (IEC 61158-4-3, telegram formats).
     ///
-    /// Faults, in order: `Empty` where no character came; `Faulty` with the place of the first damaged
-    /// one, counted from 0; `BadStart` where the first octet begins no telegram; `Truncated` for fewer
-    /// octets than the telegram has, or fewer than 4 where its length octet has not come or is out of
-    /// range; of a telegram with data of variable length `BadLength` for a length octet that isn't 4 to
-    /// 249, `LengthsDiffer` where its repetition is another, and `BadSecondStart` where the start
-    /// delimiter isn't repeated; `BadAddress` for a token with an address octet over 126, or a telegram
-    /// with the source address 127; `BadFc` for a control octet with bit 7 set; `BadFcs` for a check
-    /// octet that isn't the sum; `BadEnd` for another end delimiter; `Trailing` for octets behind the end.
+    /// Faults, in order: `Empty` if no character was fed; `Faulty` with the index of the first damaged one, from 0;
+    /// `BadStart` if the first octet starts no telegram; `Truncated` if the telegram needs more octets, and for fewer
+    /// than 4 octets of one with data of variable length; for such a telegram `BadLength` if the length octet is not 4
+    /// to 249, `LengthsDiffer` if its repetition differs, and `BadSecondStart` if the start delimiter is not repeated;
+    /// `BadAddress` for a token with an address octet over 126, or another telegram with the source address 127;
+    /// `BadFc` for a control octet with bit 7 set; `BadFcs` for a check octet that is not the sum; `BadEnd` for another
+    /// end delimiter; `Trailing` for octets after the end.
     pub fn end(self) -> Result<Telegram, TelegramFault>
         ensures telegram { (chars : List RxChar) → StandsFor self chars → IfOk result (Spells chars) }
         ensures sound { (chars : List RxChar) → StandsFor self chars → OnOk result (fault_of chars ≡ None) }
@@ -175,7 +174,7 @@ impl Receiver {
         self.answer()
     }
 
-    /// What [`Receiver::end`] would answer now, with the same faults.
+    /// What [`Receiver::end`] would return now, with the same faults. The receiver is unchanged.
     #[inline(always)]
     pub fn answer(&self) -> Result<Telegram, TelegramFault>
         ensures telegram { (chars : List RxChar) → StandsFor self.now chars → IfOk result (Spells chars) }
@@ -195,8 +194,8 @@ impl Receiver {
         }
     }
 
-    /// Whether the characters spell a short acknowledgement: [`Receiver::answer`] tells that too, but for one who asks
-    /// this first no room for a unit is made (IEC 61158-4-3, telegram formats).
+    /// Whether the characters spell a short acknowledgement (IEC 61158-4-3, telegram formats). [`Receiver::answer`]
+    /// says so too, but its frame has room for a unit.
     #[inline(always)]
     pub fn is_acknowledgement(&self) -> bool
         ensures { (chars : List RxChar) → StandsFor self.now chars → IsTrue result ↔ Spells chars Ack }
@@ -204,7 +203,7 @@ impl Receiver {
         self.fed == 1 && self.bad.is_none() && self.start == ACKNOWLEDGEMENT
     }
 
-    /// What octets spell, of which there is at least one.
+    /// The telegram that the octets spell, or the first fault. There is at least one octet.
     #[inline(always)]
     fn telegram(&self) -> Result<Telegram, TelegramFault>
         requires { 0 < self.now.fed }
@@ -311,7 +310,7 @@ impl Receiver {
         })
     }
 
-    /// The first fault of a telegram with a control octet, from its addresses on.
+    /// The first fault from the addresses on, of a telegram with a control octet.
     #[inline(always)]
     fn framed_fault(&self) -> Option<TelegramFault>
         requires { check_at self.now.start self.now.length_octet + 2 ≤ self.now.fed }
@@ -335,8 +334,8 @@ impl Receiver {
         None
     }
 
-    /// Takes the octet of the next character, or 0 for a damaged one. Most octets are a start or of a
-    /// unit: what else is around a unit stands in a call of its own, for speed.
+    /// Takes the octet of the next character, or 0 for a damaged one. Most octets are a start or data; the others are
+    /// taken out of line, for speed.
     #[inline(always)]
     fn take(&mut self, octet: u8)
         requires { self.old.fed < 2 ^ 64 - 1 }
@@ -361,7 +360,7 @@ impl Receiver {
         self.fed += 1;
     }
 
-    /// An octet behind the start that is none of the unit.
+    /// Takes an octet after the start that is not part of the unit.
     #[inline(never)]
     fn take_around(&mut self, octet: u8)
         requires room { self.old.fed < 2 ^ 64 - 1 }
@@ -394,7 +393,7 @@ impl Receiver {
         self.fed = 1;
     }
 
-    /// An octet of the head of a telegram with data of variable length.
+    /// Takes a length octet, or the repeated start delimiter, of a telegram with data of variable length.
     fn take_length(&mut self, octet: u8)
         requires some { 0 < self.old.fed }
         requires place { self.old.fed < da_from self.old.start }
@@ -415,7 +414,7 @@ impl Receiver {
         self.fed += 1;
     }
 
-    /// An address, or the control octet.
+    /// Takes an address or the control octet.
     fn take_head(&mut self, octet: u8)
         requires behind { da_from self.old.start ≤ self.old.fed }
         requires place { self.old.fed < da_from self.old.start + 3 }
@@ -430,7 +429,7 @@ impl Receiver {
         self.fed += 1;
     }
 
-    /// An octet from the place of the check octet on.
+    /// Takes an octet at or after the index of the check octet.
     fn take_end(&mut self, octet: u8)
         requires room { self.old.fed < 2 ^ 64 - 1 }
         requires place { check_at self.old.start self.old.length_octet ≤ self.old.fed }

@@ -1,3 +1,5 @@
+//! The five forms of a telegram, and their delimiters.
+
 ghost use Rattle.std.specs.Prelude.{◌≡◌, ◌≤◌, ◌<◌, ◌%◌, length};
 ghost use Rattle.std.specs.List.{All};
 
@@ -38,14 +40,13 @@ pub enum Telegram {
 
 /// A telegram of fixed length without data.
 ///
-/// An address is the low seven bits of its octet: 0 to 126 are stations, and 127 as `da` is all
-/// stations. Bit 7 says that an address extension follows, which a telegram without data has no
-/// room for: the bit is only kept.
+/// An address is the low seven bits of its octet: 0 to 126 are stations, and 127 as `da` addresses all stations. Bit 7
+/// announces an address extension. A telegram without data has no octets for one, so the bit is kept and has no effect.
 #[derive(Clone, Copy, Debug, PartialEq, Eq)]
 pub struct ShortTelegram {
     /// The destination address octet, as sent.
     pub da: u8,
-    /// The source address octet, as sent: a station's.
+    /// The source address octet, as sent. Its low seven bits are 0 to 126.
     pub sa: u8,
     /// The frame control octet, whose bit 7 is clear ([`crate::Fc`] reads the others).
     pub fc: u8,
@@ -57,13 +58,13 @@ pub struct ShortTelegram {
 
 /// A telegram with data of variable length.
 ///
-/// The octets of the head are as in a [`ShortTelegram`]; bit 7 of an address says that an address
-/// extension stands at the front of the unit, where it stays.
+/// The octets before the data are as in a [`ShortTelegram`]. Bit 7 of an address announces an address extension at the
+/// front of the data; it is left there.
 #[derive(Debug, PartialEq, Eq, Drop)]
 pub struct VarTelegram {
     /// The destination address octet, as sent.
     pub da: u8,
-    /// The source address octet, as sent: a station's.
+    /// The source address octet, as sent. Its low seven bits are 0 to 126.
     pub sa: u8,
     /// The frame control octet, whose bit 7 is clear.
     pub fc: u8,
@@ -80,12 +81,12 @@ pub struct VarTelegram {
 
 /// A telegram of fixed length with eight octets of data.
 ///
-/// The octets of the head are as in a [`VarTelegram`].
+/// The octets before the data are as in a [`VarTelegram`].
 #[derive(Clone, Copy, Debug, PartialEq, Eq)]
 pub struct Fixed8Telegram {
     /// The destination address octet, as sent.
     pub da: u8,
-    /// The source address octet, as sent: a station's.
+    /// The source address octet, as sent. Its low seven bits are 0 to 126.
     pub sa: u8,
     /// The frame control octet, whose bit 7 is clear.
     pub fc: u8,
@@ -102,9 +103,9 @@ pub struct Fixed8Telegram {
 /// A token telegram.
 #[derive(Clone, Copy, Debug, PartialEq, Eq)]
 pub struct TokenTelegram {
-    /// The address of the station that gets the token, 0 to 126.
+    /// The address of the station that receives the token, 0 to 126.
     pub da: u8,
-    /// The address of the station that passes it, 0 to 126.
+    /// The address of the station that passes the token, 0 to 126.
     pub sa: u8,
     ghost da_station: { da ≤ 126 },
     ghost sa_station: { sa ≤ 126 },

@@ -1,3 +1,5 @@
+//! Encodes a telegram as octets.
+
 ghost use Rattle.std.specs.Prelude.{◌≡◌};
 ghost use Rattle.pb_telegram.specs.Grammar.{spelling};
 
@@ -8,7 +10,7 @@ use crate::telegrams::{
 };
 use arrayvec::ArrayVec;
 
-/// The octets of a telegram, at most 255: its one spelling (IEC 61158-4-3, telegram formats).
+/// The octets of a telegram, at most 255: its only spelling (IEC 61158-4-3, telegram formats).
 #[inline(always)]
 pub fn write(telegram: &Telegram) -> ArrayVec<u8, 255>
     ensures { result.items ≡ spelling telegram.now }
@@ -18,7 +20,7 @@ pub fn write(telegram: &Telegram) -> ArrayVec<u8, 255>
     octets
 }
 
-/// The octets of a telegram, as [`write`] gives them, in the place of others that are no longer wanted.
+/// Replaces the content of `octets` by the octets of a telegram, as [`write`] returns them.
 #[inline(always)]
 pub fn write_in(telegram: &Telegram, octets: &mut ArrayVec<u8, 255>)
     ensures { octets.new.items ≡ spelling telegram.now }

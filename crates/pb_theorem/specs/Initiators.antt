@@ -5,7 +5,7 @@ use Rattle.pb_messages.specs.Messages.{has_bit}
 use Rattle.pb_turn.specs.Arrivals.{Arrival, Token, Framed, Acknowledgement, NoTelegram, arrival_of}
 use Rattle.pb_model.specs.Trace.{Record, Entry, Sent, Noise}
 
--- the telegram that was meant, also where it was cut
+-- the telegram that was to be sent, also if it was cut
 abbrev pub telegram_of : Record → Arrival
 telegram_of r = arrival_of (map Good r.octets)
 
@@ -19,7 +19,7 @@ initiates NoTelegram = false
 abbrev pub is_initiator : Record → Bool
 is_initiator r = initiates (telegram_of r)
 
--- the station that a token goes to, where that is another than its source
+-- the station to which a token goes, if that is not its source
 abbrev pub offered_by : Arrival → Option ℕ
 offered_by (Token da sa) = if da == sa then None else Some da
 offered_by (Framed f) = None
@@ -29,7 +29,7 @@ offered_by NoTelegram = None
 abbrev pub offered_to : Record → Option ℕ
 offered_to r = offered_by (telegram_of r)
 
--- a token of a station to itself
+-- a token from a station to itself
 abbrev pub claims_for : ℕ → Arrival → Bool
 claims_for address (Token da sa) = da == address && sa == address
 claims_for address (Framed f) = false
@@ -39,7 +39,7 @@ claims_for address NoTelegram = false
 abbrev pub later_record : Option Record → Record → Option Record
 later_record last r = if is_initiator r then Some r else last
 
--- the last initiator record that has begun by a moment, behind one
+-- the last initiator record that has begun by a moment, after a given one
 abbrev pub last_from : Option Record → ℕ → List Entry → Option Record
 last_from last t [] = last
 last_from last t (Noise span ∷ es) = last_from last t es

@@ -1,4 +1,5 @@
--- The first illegal initiator record in one pass over a trace that stands by begin: each record is judged by the entries before it.
+-- The first illegal initiator record, in one pass over a trace in order of begin: each record is judged by the entries
+-- before it.
 use Rattle.std.specs.Prelude.{ℕ, ◌+◌, ◌-◌, ◌≤◌, ◌<◌, Bool, true, if◌then◌else◌, ◌==◌, nat_lt, nat_le, ◌&&◌, ◌||◌, not, max, List, [], ◌∷◌, ◌++◌, slice_get, Option, Some, None}
 use Rattle.pb_timers.specs.Timers.{Params, tto}
 use Rattle.pb_model.specs.Trace.{Record, Entry, Sent, Noise, entry_begin, entry_end}
@@ -8,7 +9,8 @@ use Rattle.pb_theorem.specs.Activity.{active_at, is_within, is_silent}
 use Rattle.pb_theorem.specs.Initiators.{telegram_of, is_initiator, offered_to, claims_for}
 use Rattle.pb_theorem.specs.Legality.{is_whole, address_at}
 
--- each entry lasts for some time, and begins with the one before it or later, the first one not before a moment
+-- each entry has a duration, and begins no earlier than the one before it; the first one begins no earlier than a
+-- moment
 abbrev pub IsOrderedFrom : ℕ → List Entry → Type 0
 IsOrderedFrom from [] = Unit {0}
 IsOrderedFrom from (e ∷ es) = (from ≤ entry_begin e) × (entry_begin e < entry_end e) × IsOrderedFrom (entry_begin e) es
@@ -16,12 +18,12 @@ IsOrderedFrom from (e ∷ es) = (from ≤ entry_begin e) × (entry_begin e < ent
 abbrev pub IsOrdered : List Entry → Type 0
 IsOrdered trace = IsOrderedFrom 0 trace
 
--- entries stand by begin, the first of them not before a moment
+-- entries are in order of begin, the first of them no earlier than a moment
 abbrev pub StandsFrom : ℕ → List Entry → Type 0
 StandsFrom from [] = Unit {0}
 StandsFrom from (e ∷ es) = (from ≤ entry_begin e) × StandsFrom (entry_begin e) es
 
--- the trace of a world stands by begin
+-- the trace of a world is in order of begin
 abbrev pub Stands : World → Type 0
 Stands w = StandsFrom 0 w.trace
 
@@ -35,21 +37,21 @@ abbrev pub AllReached : (delay moment : ℕ) → List Entry → Type 0
 AllReached delay moment [] = Unit {0}
 AllReached delay moment (e ∷ es) = ((reaches_taps delay e).begin < moment) × AllReached delay moment es
 
--- the last initiator record, and whether nothing was active at its speaker in the slot behind it so far
+-- the last initiator record, and whether nothing was active at its speaker so far in the slot after it
 pub record LastInitiator : Type 0 where
   pub telegram : Record
   pub silent : Bool
 
--- an entry is active at the speaker of a telegram in the slot behind it
+-- an entry is active at the speaker of a telegram in the slot after it
 abbrev pub is_in_slot : (delay tsl : ℕ) → Record → Entry → Bool
 is_in_slot delay tsl r e = is_within r.end (r.end + tsl) (active_at delay r.tap e)
 
--- the last initiator record behind an entry that is none
+-- the last initiator record after an entry that is none
 abbrev pub slot_after : (delay tsl : ℕ) → Entry → Option LastInitiator → Option LastInitiator
 slot_after delay tsl e None = None
 slot_after delay tsl e (Some last) = Some (record last { silent = last.silent && not (is_in_slot delay tsl last.telegram e) })
 
--- the last initiator record behind an entry, which has those before it
+-- the last initiator record after an entry that follows the earlier ones
 abbrev pub last_after : (delay tsl : ℕ) → List Entry → Option LastInitiator → Entry → Option LastInitiator
 last_after delay tsl earlier last (Noise span) = slot_after delay tsl (Noise span) last
 last_after delay tsl earlier last (Sent r) =
@@ -75,12 +77,12 @@ may_follow p specs earlier None r = claims_after p specs earlier r
 may_follow p specs earlier (Some last) r =
     nat_le last.telegram.end r.begin && (goes_on_after p specs last (offered_to last.telegram) r || claims_after p specs earlier r)
 
--- whether an entry is no illegal initiator record
+-- whether an entry is not an illegal initiator record
 abbrev pub may_come : Params → List TapSpec → List Entry → Option LastInitiator → Entry → Bool
 may_come p specs earlier last (Noise span) = true
 may_come p specs earlier last (Sent r) = not (is_initiator r) || may_follow p specs earlier last r
 
--- the position of the first entry that may not come behind some, the first of them at a position
+-- the index of the first entry that is illegal after some others, the first of them at an index
 abbrev pub judged_from : Params → List TapSpec → List Entry → Option LastInitiator → ℕ → List Entry → Option ℕ
 judged_from p specs earlier last place [] = None
 judged_from p specs earlier last place (e ∷ es) =

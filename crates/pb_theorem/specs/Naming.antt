@@ -7,12 +7,13 @@ use Rattle.pb_theorem.specs.Activity.{is_silent}
 use Rattle.pb_theorem.specs.Initiators.{offered_to, last_initiator}
 use Rattle.pb_theorem.specs.Legality.{is_whole}
 
--- the first of some taps with an address that heard a telegram whole, the first of them at a position
+-- the first of some taps with an address that received a telegram whole, the first of them at an index
 abbrev pub first_that_heard : List Heard → ℕ → ℕ → List TapSpec → Option ℕ
 first_that_heard heard to tap [] = None
 first_that_heard heard to tap (spec ∷ specs) = if spec.address == to && is_whole (slice_get heard tap) then Some tap else first_that_heard heard to (tap + 1) specs
 
--- after a token to another: within the slot the station that heard it, and after a slot in silence its speaker again
+-- after a token to another station: within the slot the station that heard it, and after a slot in silence its speaker
+-- again
 abbrev pub named_after_token : Params → List TapSpec → List Entry → Record → ℕ → ℕ → Option ℕ
 named_after_token p specs trace r to t =
     if nat_lt t (r.end + p.tsl) then first_that_heard r.heard to 0 specs

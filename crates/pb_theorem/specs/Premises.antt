@@ -1,4 +1,4 @@
--- The premises on a list of accepted events, and the first that breaks.
+-- The premises on a list of accepted events, and the first one that breaks.
 use Rattle.std.specs.Prelude.{ℕ, ◌+◌, ◌-◌, Bool, true, false, if◌then◌else◌, not, ◌==◌, nat_lt, nat_le, ◌&&◌, ◌||◌, List, [], ◌∷◌, ◌++◌, Option, Some, None, Result, Ok, Err}
 use Rattle.std.specs.List.{list_any}
 use Rattle.pb_timers.specs.Timers.{Params, tto}
@@ -17,7 +17,7 @@ abbrev pub has_namesakes : List Tap → Bool
 has_namesakes [] = false
 has_namesakes (t ∷ ts) = (t.running && list_any (runs_at t.spec.address) ts) || has_namesakes ts
 
--- ---- 2: no telegram is lost at a tap but by damage
+-- ---- 2: no telegram is lost at a tap except by damage
 
 abbrev pub loses : Event → Bool
 loses (Turn tap) = false
@@ -35,7 +35,7 @@ abbrev pub is_overdue : ℕ → ℕ → Option ℕ → Bool
 is_overdue lag now None = false
 is_overdue lag now (Some due) = nat_lt (due + lag) now
 
--- a running tap whose turn is due, and will have been for longer than the lag
+-- a running tap whose turn has been due for longer than the lag
 abbrev pub is_late : Params → ℕ → Tap → Bool
 is_late p now t = t.running && is_overdue p.lag now (due_of p t.station t.marks)
 
@@ -51,7 +51,7 @@ comes_late w (Unheard tap speaker) = false
 
 -- ---- 4: no two masters have waited out their time-outs
 
--- a master at a position has run for its time-out, in which there was no activity
+-- a master at an index has run for its time-out, without activity in that time
 abbrev pub has_waited : World → ℕ → Tap → Bool
 has_waited w tap t =
     let timeout = tto w.params t.spec.address in
@@ -62,19 +62,19 @@ pub record Waited : Type 0 where
   pub tap : ℕ
   pub moment : ℕ
 
--- those of some taps that have waited out, the first of them at a position
+-- those of some taps that have waited out their time-outs, the first of them at an index
 abbrev pub waited_by : World → ℕ → List Tap → List Waited
 waited_by w tap [] = []
 waited_by w tap (t ∷ ts) = if has_waited w tap t then record { tap = tap; moment = w.now } ∷ waited_by w (tap + 1) ts else waited_by w (tap + 1) ts
 
--- another tap had waited out not longer ago than a cable delay, whether it runs still or not
+-- another tap had waited out its time-out at most a cable delay ago, whether it still runs or not
 abbrev pub meets : ℕ → Waited → Waited → Bool
 meets delay one other = not (one.tap == other.tap) && nat_le (one.moment - other.moment) delay
 
 abbrev pub two_have_waited : ℕ → List Waited → List Waited → Bool
 two_have_waited delay new all = list_any (λ one. list_any (meets delay one) all) new
 
--- ---- the first that breaks
+-- ---- the first premise that breaks
 
 -- the number of a premise, and the clock after the event that broke it
 pub record Broken : Type 0 where
@@ -88,11 +88,12 @@ first_number false false true d = Some 3
 first_number false false false true = Some 4
 first_number false false false false = None
 
--- the least premise that an event breaks, from one world to the next, with what taps had waited out before and have after it
+-- the lowest premise that an event breaks, from one world to the next, by the taps that had waited out before and have
+-- after it
 abbrev pub broken_by : World → Event → World → List Waited → List Waited → Option ℕ
 broken_by w e next new all = first_number (has_namesakes next.taps) (loses e) (comes_late w e) (two_have_waited next.params.ttd new all)
 
--- a list of events so far: the world that it leads to, what taps had waited out, and the first premise that broke
+-- a list of events so far: its world, the taps that had waited out their time-outs, and the first premise that broke
 pub record Course : Type 0 where
   pub world : World
   pub waited : List Waited
@@ -103,7 +104,7 @@ broken_or (Some before) clock number = Some before
 broken_or None clock None = None
 broken_or None clock (Some number) = Some (record { number = number; clock = clock })
 
--- what follows an event, by its step; one that is refused is not in the list
+-- the course after an event, by its step; a refused event is not in the list
 abbrev pub followed : Course → Event → Result (World × Reply) Fault → Course
 followed c e (Err fault) = c
 followed c e (Ok next) =

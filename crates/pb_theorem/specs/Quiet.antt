@@ -10,16 +10,16 @@ use Rattle.pb_theorem.specs.Activity.{active_at, is_within}
 abbrev pub active_until : ℕ → Span → ℕ
 active_until now span = if nat_lt span.begin now then min span.end now else 0
 
--- the moment since which nothing has been active at a tap before the clock
+-- since when nothing has been active at a tap before the clock
 abbrev pub quiet_at : (delay tap now : ℕ) → List Entry → ℕ
 quiet_at delay tap now [] = 0
 quiet_at delay tap now (e ∷ es) = max (active_until now (active_at delay tap e)) (quiet_at delay tap now es)
 
--- something is active at a tap from one moment on, before another
+-- something is active at a tap between two moments, the first included, the second not
 abbrev pub is_active : (delay from to : ℕ) → List Entry → ℕ → Bool
 is_active delay from to trace tap = list_any (λ e. is_within from to (active_at delay tap e)) trace
 
--- since when a tap is in silence after an event: since when it was before, but where time passes while something is active at it
+-- since when a tap is in silence after an event: as before, unless time passes while something is active at it
 abbrev pub quiet_after : World → Event → (tap : ℕ) → ℕ → ℕ
 quiet_after w (Turn at) tap q = q
 quiet_after w (Pass bits) tap q = if is_active w.params.ttd w.now (w.now + bits) w.trace tap then w.now + bits else q

@@ -2,7 +2,7 @@
 use Rattle.std.specs.Prelude.{List, [], ◌∷◌}
 use Rattle.pb_model.specs.World.{Event, Turn, Pass, Start, Stop, Noise, Unheard}
 
--- two stations of one address, the second started at 100
+-- two stations with one address, the second started at 100
 abbrev pub namesakes : List Event
 namesakes =
     Start 0 ∷ Pass 100 ∷ Start 1 ∷ Pass 700 ∷ Turn 0 ∷ Pass 1 ∷ Turn 1 ∷ Pass 32 ∷ Turn 1 ∷ Pass 37 ∷ Turn 0 ∷ Pass 1 ∷
@@ -54,7 +54,7 @@ both_claim_after_noise =
     Start 1 ∷ Pass 100 ∷ Noise 50 ∷ Pass 1 ∷ Turn 1 ∷ Pass 49 ∷ Turn 1 ∷ Pass 200 ∷ Start 0 ∷ Pass 800 ∷ Turn 0 ∷ Turn 1 ∷
     Pass 1 ∷ Turn 0 ∷ Turn 1 ∷ Pass 32 ∷ Turn 0 ∷ Turn 1 ∷ Pass 7 ∷ []
 
--- noise lets time-outs that would end together begin anew
+-- noise restarts time-outs that would end together
 abbrev pub noise_between : List Event
 noise_between =
     Start 1 ∷ Pass 200 ∷ Start 0 ∷ Pass 300 ∷ Noise 10 ∷ Pass 1 ∷ Turn 0 ∷ Turn 1 ∷ Pass 9 ∷ Turn 0 ∷ Turn 1 ∷ Pass 800 ∷
@@ -69,7 +69,7 @@ successor_gone =
     Pass 100 ∷ Turn 0 ∷ Pass 1 ∷ Pass 32 ∷ Pass 100 ∷ Turn 0 ∷ Pass 1 ∷ Pass 32 ∷ Pass 37 ∷ Turn 0 ∷ Pass 1 ∷ Pass 65 ∷
     Pass 45 ∷ []
 
--- the second starts when the bus has long been silent, shortly before the first claims the token
+-- the second starts after a long silence on the bus, shortly before the first claims the token
 abbrev pub started_in_silence : List Event
 started_in_silence =
     Start 0 ∷ Pass 700 ∷ Start 1 ∷ Pass 100 ∷ Turn 0 ∷ []
@@ -84,12 +84,12 @@ abbrev pub first_claims : List Event
 first_claims =
     Start 0 ∷ Start 1 ∷ Pass 800 ∷ Turn 0 ∷ []
 
--- a loss is refused where nothing is in the air
+-- a loss is refused if nothing is on the bus
 abbrev pub loss_refused : List Event
 loss_refused =
     Start 0 ∷ Unheard 1 0 ∷ Pass 800 ∷ Turn 0 ∷ []
 
--- with a cable delay of 15: claims 10 after one another
+-- with a cable delay of 15: claims at moments 10 apart
 abbrev pub claims_with_delay : List Event
 claims_with_delay =
     Start 1 ∷ Pass 210 ∷ Start 0 ∷ Pass 790 ∷ Turn 1 ∷ Pass 10 ∷ Turn 0 ∷ Pass 6 ∷ Turn 0 ∷ Pass 10 ∷ Turn 1 ∷ Pass 7 ∷
@@ -104,12 +104,12 @@ ring_with_delay =
     Turn 1 ∷ Pass 37 ∷ Turn 1 ∷ Pass 16 ∷ Turn 0 ∷ Pass 50 ∷ Pass 15 ∷ Turn 0 ∷ Pass 85 ∷ Turn 1 ∷ Pass 16 ∷ Turn 0 ∷
     Pass 17 ∷ Pass 15 ∷ Turn 0 ∷ Pass 1 ∷ []
 
--- with that delay: claims 15 after one another
+-- with that delay: claims at moments 15 apart
 abbrev pub claims_at_the_delay : List Event
 claims_at_the_delay =
     Start 1 ∷ Pass 215 ∷ Start 0 ∷ Pass 785 ∷ Turn 1 ∷ Pass 15 ∷ Turn 0 ∷ []
 
--- the second has waited out its time-out and stops, 1 before the first has
+-- the second has waited out its time-out and stops, 1 bit time before the first has
 abbrev pub waits_out_next : List Event
 waits_out_next =
     Start 1 ∷ Pass 201 ∷ Start 0 ∷ Pass 799 ∷ Stop 1 ∷ Pass 1 ∷ Turn 0 ∷ []

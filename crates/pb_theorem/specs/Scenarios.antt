@@ -1,4 +1,4 @@
--- What the worked scenarios' traces and premises are judged to be.
+-- The verdicts on the traces and premises of the worked scenarios.
 use Rattle.std.specs.Prelude.{ℕ, ◌+◌, Bool, true, false, not, ◌==◌, ◌&&◌, ◌||◌, List, [], ◌∷◌, Option, Some, None, Result, Ok, Err}
 use Rattle.pb_timers.specs.Timers.{Params}
 use Rattle.pb_model.specs.Medium.{TapSpec, Tap}
@@ -10,13 +10,13 @@ use Rattle.pb_theorem.specs.Legality.{first_illegal}
 use Rattle.pb_theorem.specs.Naming.{named}
 use Rattle.pb_theorem.specs.Premises.{Broken, first_broken}
 
--- ---- whom the trace names
+-- ---- which tap the trace names
 
 abbrev pub is_at : ℕ → Option ℕ → Bool
 is_at tap None = false
 is_at tap (Some named) = named == tap
 
--- each of some taps that may initiate is the one that is named, the first of them at a position
+-- each of some taps that may initiate is the named one, the first of them at an index
 abbrev pub only_may_initiate : Option ℕ → ℕ → List Tap → Bool
 only_may_initiate named tap [] = true
 only_may_initiate named tap (t ∷ ts) = (not (tap_may_initiate t) || is_at tap named) && only_may_initiate named (tap + 1) ts
@@ -24,14 +24,15 @@ only_may_initiate named tap (t ∷ ts) = (not (tap_may_initiate t) || is_at tap 
 abbrev pub holder_is_named : World → Bool
 holder_is_named w = only_may_initiate (named w.params (specs_of w) w.trace w.now) 0 w.taps
 
--- before the first of some events, and after each of them
+-- this holds before the first of some events, and after each of them
 abbrev pub named_throughout : World → List Event → Bool
 named_throughout w [] = holder_is_named w
 named_throughout w (e ∷ es) = holder_is_named w && named_throughout (world_after w (step w e)) es
 
--- ---- what a run is judged to be
+-- ---- the verdict on a run
 
--- the first broken premise of a run, the position of its first illegal initiator record, and whether the trace names each holder throughout
+-- the first broken premise of a run, the index of its first illegal initiator record, and whether the trace names each
+-- holder throughout
 pub record Verdict : Type 0 where
   pub premise : Option Broken
   pub illegal : Option ℕ

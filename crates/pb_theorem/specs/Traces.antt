@@ -1,4 +1,4 @@
--- Traces written by hand: what two stations, or three, might have said.
+-- Traces written by hand: what two or three stations may have sent.
 use Rattle.std.specs.Prelude.{ℕ, ◌+◌, List, [], ◌∷◌, length, map, Option}
 use Rattle.pb_timers.specs.Timers.{Params, bits}
 use Rattle.pb_model.specs.Trace as trace
@@ -25,7 +25,7 @@ named_at moments trace = map (named example_bus three_masters trace) moments
 abbrev pub token : (da sa : ℕ) → List ℕ
 token da sa = 0xdc ∷ da ∷ sa ∷ []
 
--- a question for a status
+-- a request for a status
 abbrev pub question : (da sa : ℕ) → List ℕ
 question da sa = 0x10 ∷ da ∷ sa ∷ 0x49 ∷ (da + sa + 0x49) ∷ 0x16 ∷ []
 
@@ -42,7 +42,7 @@ scrap = 0 ∷ []
 
 -- ---- entries
 
--- what a tap sends from a moment on, as each tap hears it
+-- what a tap sends from a moment on, as each tap receives it
 abbrev pub heard_as : List Heard → ℕ → ℕ → List ℕ → Entry
 heard_as heard tap begin octets = Sent (record { tap = tap; octets = octets; begin = begin; end = begin + bits (length octets); hits = []; heard = heard })
 
@@ -64,11 +64,11 @@ noise begin end = trace.Noise (record { begin = begin; end = end })
 abbrev pub claimed : List Entry → List Entry
 claimed es = by_first 800 (token 1 1) ∷ es
 
--- then it passes it to the second, until 903
+-- then it passes the token to the second, until 903
 abbrev pub passed : List Entry → List Entry
 passed es = claimed (by_first 870 (token 2 1) ∷ es)
 
--- the same, where the second hears it as given, and the third hears it whole
+-- the same; the second receives it as given, and the third receives it whole
 abbrev pub passed_as : Heard → List Entry → List Entry
 passed_as heard es = claimed (heard_as (Own ∷ heard ∷ Whole ∷ []) 0 870 (token 2 1) ∷ es)
 

@@ -1,10 +1,10 @@
--- A list of events followed by what alone decides which premise breaks first.
+-- A list of events, followed by what is enough to decide which premise breaks first.
 use Rattle.std.specs.Prelude.{◌≡◌, ℕ, ◌≤◌, Bool, true, false, List, [], ◌∷◌, Option, Some, None, IfSome}
 use Rattle.std.specs.List.{list_any}
 use Rattle.pb_model.specs.World.{World, Event}
 use Rattle.pb_theorem.specs.Premises.{Waited, Broken, Course, waited_by, meets, has_namesakes, loses, comes_late, first_number, broken_or}
 
--- what tap was the last to have waited out its time-out, and the first premise that broke
+-- the last tap that waited out its time-out, and the first premise that broke
 pub record Watched : Type 0 where
   pub waited : Option Waited
   pub broken : Option Broken
@@ -13,7 +13,7 @@ abbrev pub meets_last : ℕ → Waited → Option Waited → Bool
 meets_last delay one None = false
 meets_last delay one (Some other) = meets delay one other
 
--- of the taps that have waited out now, whether one meets another of them, or the last one before
+-- whether one of the taps that have waited out now meets another of them, or the last one before
 abbrev pub new_meet : ℕ → List Waited → Option Waited → Bool
 new_meet delay [] last = false
 new_meet delay (one ∷ []) last = meets_last delay one last
@@ -23,7 +23,7 @@ abbrev pub last_waited : List Waited → Option Waited → Option Waited
 last_waited [] last = last
 last_waited (one ∷ more) last = Some one
 
--- what follows an event that leads from one world to the next
+-- the values after an event that leads from one world to the next
 abbrev pub watched_after : Watched → World → Event → World → Watched
 watched_after v w e next =
     let new = waited_by next 0 next.taps in
@@ -32,7 +32,8 @@ watched_after v w e next =
       broken = broken_or v.broken next.now (first_number (has_namesakes next.taps) (loses e) (comes_late w e) (new_meet next.params.ttd new v.waited));
     }
 
--- It says as much as the events themselves: as long as no premise is broken, the last tap that waited out its time-out decides whether a later one meets any.
+-- It decides as much as the events: as long as no premise is broken, the last tap that waited out its time-out decides
+-- whether a later one meets any.
 pub record StandsFor (v : Watched) (c : Course) : Type 0 where
   pub broken : v.broken ≡ c.broken
   pub before : IfSome v.waited (λ last. last.moment ≤ c.world.now)

@@ -1,3 +1,5 @@
+//! Worked scenarios and traces, judged by the definitions.
+
 ghost use Rattle.std.specs.Prelude.{◌≡◌, ℕ, ◌∷◌, [], true, false, Some, None};
 ghost use Rattle.pb_timers.specs.Timers.{Params};
 ghost use Rattle.pb_model.specs.Medium.{Tap};
@@ -9,7 +11,7 @@ ghost use Rattle.pb_theorem.specs.Runs as runs;
 ghost use Rattle.pb_theorem.specs.Scenarios.{verdict_of, verdict_on, kept, breaks, bus_with_lag, bus_with_delay, passive};
 ghost use Rattle.pb_theorem.specs.Traces.{illegal_in, illegal_on, named_at, claimed, passed, passed_as, takes_at, by_first, by_second, by_third, noise, token, question, answer, acknowledgement, scrap};
 
-/// The worked scenarios that break no premise: their traces are legal, and at each moment they name the station that
+/// The worked scenarios that break no premise. Their traces are legal, and at each moment they name the station that
 /// may initiate.
 pub fn scenarios_that_keep_the_premises()
     ensures alone { verdict_of (master 1 ∷ []) alone ≡ kept }
@@ -29,7 +31,7 @@ pub fn scenarios_that_keep_the_premises()
     ensures delay { verdict_on bus_with_delay two_masters runs.ring_with_delay ≡ kept }
 {}
 
-/// Each premise breaks at the event that breaks it first.
+/// Each premise is broken by the first event that breaks it.
 pub fn scenarios_that_break_a_premise()
     ensures namesakes { verdict_of (master 1 ∷ master 1 ∷ []) runs.namesakes ≡ breaks 1 100 None true }
     ensures passive { verdict_of (master 1 ∷ passive 1 ∷ []) runs.first_claims ≡ breaks 1 0 None true }
@@ -98,7 +100,7 @@ pub fn traces_are_judged()
     ensures to_another { illegal_in (claimed (by_second 1833 (token 1 2) ∷ [])) ≡ Some 1 }
 {}
 
-/// Whom the trace names, at both ends of each stretch of time.
+/// Which station the trace names, at both ends of each stretch of time.
 pub fn traces_name_a_station()
     ensures holder { named_at (0 ∷ 799 ∷ 800 ∷ 832 ∷ 833 ∷ 5000 ∷ []) (claimed [])
         ≡ None ∷ None ∷ Some 0 ∷ Some 0 ∷ Some 0 ∷ Some 0 ∷ [] }

@@ -1,8 +1,8 @@
-//! What holds of whole runs of stations on one bus.
+//! How whole runs of stations on one bus are judged.
 //!
-//! `specs/` says what a run is judged by: which telegrams only a holder sends, which of them are legal after
-//! the one before, whom the trace names, and the premises on the events. This crate has no code that runs: its
-//! functions do nothing, and their contracts are laws.
+//! `specs/` defines which telegrams only a holder sends, which of them are legal after the one before, which station
+//! the trace names, and the premises on the events. This crate has no code that runs: its functions have empty bodies,
+//! and their contracts are laws.
 #![tactic(auto)]
 
 mod examples;

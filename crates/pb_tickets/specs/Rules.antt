@@ -11,27 +11,28 @@ view limit parts used drawn = record { limit = limit; parts = parts; used = used
 
 -- ---- words
 
--- how often a number stands in a list
+-- how many times a number is in a list
 abbrev pub times : ℕ → List ℕ → ℕ
 times x [] = 0
 times x (y ∷ ys) = (if y == x then 1 else 0) + times x ys
 
--- once, if it is below another, and else never
+-- once, if it is below another number, else never
 abbrev pub once_below : ℕ → ℕ → ℕ
 once_below x n = if nat_lt x n then 1 else 0
 
--- something of each view, added up
+-- the sum of a value over all views
 abbrev pub total : (View → ℕ) → List View → ℕ
 total f [] = 0
 total f (v ∷ vs) = f v + total f vs
 
--- what a seat has of the allowance, used up or not
+-- the parts of a seat, used up or not
 abbrev pub weight : View → ℕ
 weight v = v.parts + v.used
 
 -- ---- the rule
 
--- all views list each number below the word and the limit once; the word is no more than the limit and what is used up
+-- all views together have each number below the word and the limit once; the word is at most the limit and what is used
+-- up
 pub record IsGiven (k : Key) (s : State (Unit {0}) View) : Type 0 where
   pub one : length s.words ≡ 1
   pub shares : total weight s.views ≡ k.seats
@@ -44,18 +45,18 @@ pub record IsGiven (k : Key) (s : State (Unit {0}) View) : Type 0 where
 
 -- ---- the steps
 
--- the first seat has all of the allowance
+-- the first seat has all parts
 abbrev pub newcomer_of : Key → View
 newcomer_of k = view k.limit k.seats 0 []
 
--- a draw that finds a number gets it where it is below the limit; else one of the allowance is used up
+-- a draw gets its number if that is below the limit; else one part is used up
 abbrev pub after_draw : View → ℕ → View
 after_draw v n = if nat_lt n v.limit then view v.limit v.parts v.used (v.drawn ++ n ∷ []) else view v.limit (v.parts - 1) (v.used + 1) v.drawn
 
 abbrev pub Draws : Step (Unit {0}) → Me (Unit {0}) View → ℕ → Me (Unit {0}) View → Type 0
 Draws s me n next = next ≡ (after_draw me.0 n, me.1)
 
--- a split gives one of the allowance away
+-- a split gives one part away
 abbrev pub cut : View → View
 cut v = view v.limit (v.parts - 1) v.used v.drawn
 

@@ -1,4 +1,4 @@
-//! Tickets: the numbers from 0 up to a limit, which threads draw with no lock, each number once.
+//! Tickets: the numbers from 0 up to a limit, each drawn once, by threads without a lock.
 #![tactic(auto)]
 
 mod rules;

@@ -1,28 +1,30 @@
+//! The rules of the table of tickets, for the proof that each ticket is drawn once.
+
 use atomic_table::{Join, Play, Split, TableRule};
 use std::collections::LinkedList;
 
-/// What the tickets are told when they are made.
+/// The constants of the tickets, set when they are made.
 #[derive(Clone, Copy, Drop)]
 pub struct Key {
     /// How many tickets there are.
     pub limit: u64,
-    /// Into how many seats the first one may be split.
+    /// Into how many seats the first seat may be split.
     pub seats: u64,
 }
 
-/// What a seat knows. No value of it is made.
+/// What a seat knows. It exists only in proofs.
 pub struct View {
     /// How many tickets there are.
     pub limit: u64,
-    /// Its part of the allowance of seats.
+    /// Its part of the seats that may still be split off.
     pub parts: u64,
-    /// How much of the allowance was used up by draws that got nothing.
+    /// How many parts were used up by draws that got no ticket.
     pub used: u64,
-    /// The numbers that were drawn with it.
+    /// The numbers that were drawn with this seat.
     pub drawn: LinkedList<u64>,
 }
 
-/// How many tickets were asked for is in the table's one word.
+/// The rule: the table's only word is how many tickets were asked for.
 pub struct Rule;
 
 impl TableRule<(), View, Key> for Rule {
@@ -33,7 +35,7 @@ impl TableRule<(), View, Key> for Rule {
     ghost first = { newcomer_of };
 }
 
-/// A draw asks for one more.
+/// A draw asks for one more ticket.
 pub struct Drew;
 
 impl Play<(), View> for Drew {

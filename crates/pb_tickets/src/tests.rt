@@ -1,3 +1,5 @@
+//! Tests of tickets: on one thread, on four threads, and with refused memory.
+
 ghost use Rattle.std.specs.Prelude.{◌≡◌, ◌+◌, ◌≤◌};
 ghost use Rattle.pb_tickets.specs.Seats.{IsOf, parts_of};
 
@@ -7,7 +9,7 @@ use std::sync::Wait;
 use std::thread;
 use std::thread::Threads;
 
-/// Two seats draw in turn.
+/// Two seats draw alternately.
 #[test]
 fn gives_each_number_once(rt: HostRuntime) {
     let (tickets, mut first) = Tickets::new(rt.alloc(), 3, 2).expect(&rt, "tickets");
@@ -21,7 +23,7 @@ fn gives_each_number_once(rt: HostRuntime) {
     assert_eq!(rt; tickets.close(first), 3);
 }
 
-/// The tickets are there and give each number, or memory was refused.
+/// Either memory was refused, or the tickets exist and each number is drawn once.
 #[test]
 fn refused_memory_in_tickets(rt: HostRuntime) {
     let Ok((tickets, mut seat)) = Tickets::new(rt.alloc(), 2, 1) else {
@@ -34,7 +36,7 @@ fn refused_memory_in_tickets(rt: HostRuntime) {
     assert_eq!(rt; tickets.close(seat), 2);
 }
 
-/// Before all are drawn the close tells how many were.
+/// If not all tickets are drawn, `close` returns how many were.
 #[test]
 fn closes_with_what_was_drawn(rt: HostRuntime) {
     let (tickets, mut seat) = Tickets::new(rt.alloc(), 9, 1).expect(&rt, "tickets");
@@ -43,7 +45,7 @@ fn closes_with_what_was_drawn(rt: HostRuntime) {
     assert_eq!(rt; tickets.close(seat), 2);
 }
 
-/// How many tickets four threads draw.
+/// How many tickets the four threads draw.
 const LIMIT: u64 = 10_000;
 
 #[test]
@@ -55,7 +57,7 @@ fn four_threads_draw_them_all(rt: HostRuntime) {
     assert_eq!(rt; tickets.close(seat), LIMIT);
 }
 
-/// A seat beside its tickets.
+/// A seat with its tickets.
 #[derive(Drop)]
 struct Player<'a> {
     tickets: &'a Tickets,
@@ -69,7 +71,7 @@ impl Player<'_> {
     }
 }
 
-/// Four threads draw until there are no more; all numbers that they got.
+/// Four threads draw until there are no more tickets. Returns all numbers that they got.
 fn race<R: AllocGlobal + Abort + Threads + Wait + Sync>(
     rt: &R,
     tickets: &Tickets,
@@ -113,7 +115,7 @@ fn player_with<'a>(tickets: &'a Tickets, seat: &mut TicketSeat) -> Player<'a>
     }
 }
 
-/// All numbers that a seat gets.
+/// All numbers drawn with a seat.
 fn draws_all(rt: &(impl AllocGlobal + Abort), mut player: Player<'_>) -> Vec<u64> {
     let mut numbers = Vec::new(rt.alloc());
     for _ in 0..=LIMIT {

@@ -1,16 +1,18 @@
+//! Draws numbers from one atomic word.
+
 ghost use Rattle.std.specs.Prelude.{◌≡◌};
 
 use crate::rules::{Cut, Drew, Key, Rule, View};
 use crate::seats::TicketSeat;
 use atomic_table::Table;
-use pb_station::NoMemory;
+use pb_refusals::NoMemory;
 use std::alloc::Global;
 
-/// The numbers below a limit, of which each is drawn once, from 0 on.
+/// The numbers below a limit, each drawn once, from 0 on.
 #[derive(Drop)]
 pub struct Tickets {
     pub(crate) table: Table<(), View, Key, Rule, Global>,
-    /// How many there are.
+    /// How many tickets there are.
     pub(crate) limit: u64,
     ghost word: { table.shared.table_id.words ≡ 1 },
     ghost slots: { table.shared.table_id.slots ≡ 0 },
@@ -23,8 +25,8 @@ impl Tickets {
     ghost use Rattle.pb_tickets.specs.Rules.{once_below, times};
     ghost use Rattle.pb_tickets.specs.Seats.{HasEnded, IsOf, Knows, drawn_with, limit_of, parts_of, seats_of, used_by};
 
-    /// So many tickets, and a seat that may be split into so many seats. There is one seat at least, and tickets and
-    /// seats are at most 2^63 together, both the caller's conditions.
+    /// Makes `limit` tickets, and a seat that may be split into `seats` seats. The caller ensures that there is at
+    /// least one seat, and that tickets and seats together are at most 2^63.
     ///
     /// Fault: memory was refused.
     pub fn new(alloc: Global, limit: u64, seats: u64) -> Result<(Tickets, TicketSeat), NoMemory>
@@ -39,8 +41,8 @@ impl Tickets {
         Ok((Tickets { table, limit }, TicketSeat { seat, done: false }))
     }
 
-    /// One more seat, which gets one of the allowance of the given one. That has two of it at least, and is of these
-    /// tickets, both the caller's conditions.
+    /// Splits off one more seat, which gets one part of the given seat. The caller ensures that the given seat has at
+    /// least two parts and belongs to these tickets.
     pub fn split(&self, seat: &mut TicketSeat) -> TicketSeat
         requires of { IsOf seat.old self.now }
         requires more { 2 ≤ parts_of seat.old }
@@ -56,7 +58,7 @@ impl Tickets {
         TicketSeat { seat, done: false }
     }
 
-    /// One seat has what two had. Both are of these tickets, the caller's condition.
+    /// Merges another seat into `seat`. The caller ensures that both belong to these tickets.
     pub fn join(&self, seat: &mut TicketSeat, other: TicketSeat)
         requires of { IsOf seat.old self.now }
         requires too { IsOf other self.now }
@@ -70,8 +72,8 @@ impl Tickets {
         seat.done = seat.done || done;
     }
 
-    /// The next ticket, which nobody else gets. None once all were drawn; a seat that has got None gets nothing else,
-    /// and asks no more. The seat is of these tickets, the caller's condition.
+    /// Draws the next ticket, which no other draw gets. `None` once all are drawn. After `None`, a seat gets no more
+    /// tickets and does not access the table again. The caller ensures that the seat belongs to these tickets.
     pub fn draw(&self, seat: &mut TicketSeat) -> Option<u64>
         requires of { IsOf seat.old self.now }
         ensures of { IsOf seat.new self.entry.now }
@@ -95,7 +97,7 @@ impl Tickets {
         }
     }
 
-    /// How many tickets were drawn. The seat is of these tickets, the caller's condition.
+    /// How many tickets were drawn. The caller ensures that the seat belongs to these tickets.
     pub fn close(self, seat: TicketSeat) -> u64
         requires of { IsOf seat self }
         ensures most { result ≤ limit_of self }

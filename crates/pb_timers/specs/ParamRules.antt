@@ -4,11 +4,11 @@ use Rattle.pb_timers.specs.Timers.{Params}
 use Rattle.pb_timers.specs.declared.params.ParamFault.{ParamFault}
 use Rattle.pb_timers.specs.declared.params.ParamFault.TheVariants.{Slot, IdleShort, IdleOrder, ReplyShort, Rotation, GapFactor, Highest, Retries, TakeLate, ReplyLate}
 
--- the number is not in the range, whose ends are in it
+-- the number is outside of the range, both ends included
 abbrev pub is_outside : ℕ → ℕ → ℕ → Bool
 is_outside low high n = not (nat_le low n && nat_le n high)
 
--- a take, and a reply, come after the slot: what asks for them has taken a cable delay to get there, and they take one back
+-- the token may be taken, or a reply may begin, after the slot: the cable delay counts in both directions
 abbrev pub late_faults : (tsl tid2 tsdr lag ttd : ℕ) → List (Bool × ParamFault)
 late_faults tsl tid2 tsdr lag ttd = (nat_le tsl (tid2 + lag + 2 * ttd), TakeLate) ∷ (nat_le tsl (tsdr + lag + 2 * ttd), ReplyLate) ∷ []
 

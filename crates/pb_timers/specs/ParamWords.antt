@@ -3,7 +3,7 @@ use Rattle.std.specs.Prelude.{ℕ}
 use Rattle.pb_timers.specs.declared.params.ParamFault.{ParamFault}
 use Rattle.pb_timers.specs.declared.params.ParamFault.TheVariants.{Slot, IdleShort, IdleOrder, ReplyShort, Rotation, GapFactor, Highest, Retries, TakeLate, ReplyLate}
 
--- the place of a fault in the order in which faults are looked for
+-- the position of a fault in the order in which faults are tested
 abbrev pub number_of : ParamFault → ℕ
 number_of Slot = 1
 number_of IdleShort = 2

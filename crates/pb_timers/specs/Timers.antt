@@ -13,11 +13,11 @@ pub record Params : Type 0 where
   pub retries : ℕ  -- retries of a message cycle
   pub ttd : ℕ  -- cable delay: how long a telegram takes to the other taps
 
--- the time-out of a station: how long it waits in silence before it claims the token
+-- the time-out of a station: how long the bus is silent before it claims the token
 abbrev pub tto : Params → ℕ → ℕ
 tto p address = 6 * p.tsl + 2 * address * p.tsl
 
--- how long some octets take: a character has eleven bits
+-- how long some octets take: a character takes eleven bit times
 abbrev pub bits : ℕ → ℕ
 bits octets = 11 * octets
 

@@ -1,5 +1,4 @@
-//! The times of a bus: the parameters that all stations of a segment share, moments, and how long
-//! octets take.
+//! The times of a bus: the parameters that all stations of a segment share, moments, and how long octets take.
 //!
 //! All times are whole bit times. No call takes memory.
 #![tactic(auto)]

@@ -1,16 +1,18 @@
+//! Moments of the clock.
+
 use std::marker::Model;
 use thiserror::Error;
 
 /// The last moment, in bit times: 2^62.
 const LAST: u64 = 1 << 62;
 
-/// Why time can't go on: the moment would be past 2^62 bit times.
+/// The clock is full: the moment would be past 2^62 bit times.
 #[derive(Clone, Copy, Debug, PartialEq, Eq, Error)]
 #[error("ClockFull")]
 pub struct ClockFull;
 
-/// A moment, in bit times since the clock began, at most 2^62: a number in every clause. The limit is this
-/// profile's; no sum of a moment and a `u32` overflows a `u64`.
+/// A moment, in bit times since the clock started, 0 to 2^62. In contracts it is a number. The limit is this profile's:
+/// the sum of a moment and a `u32` fits in a `u64`.
 #[derive(Clone, Copy, Debug, PartialEq, Eq, PartialOrd, Ord)]
 pub struct Moment {
     bits: u64,
@@ -33,7 +35,7 @@ impl Moment {
     ghost use Rattle.std.specs.Prelude.{◌≡◌, ◌+◌, ◌≤◌, ◌<◌, MatchOption, MatchResult};
     ghost use Rattle.pb_timers.specs.Timers.{last_moment};
 
-    /// The moment that is some bit times after the clock began; none where that is past 2^62.
+    /// The moment `bits` bit times after the clock started; `None` if that is past 2^62.
     pub fn new(bits: u64) -> Option<Moment>
         ensures { MatchOption result (last_moment < bits) (λ moment. (moment ≡ bits) × (bits ≤ last_moment)) }
     {
@@ -43,7 +45,7 @@ impl Moment {
         Some(Moment { bits })
     }
 
-    /// The moment that is some bit times after the clock began, at most 2^62, the caller's condition.
+    /// The moment `bits` bit times after the clock started. The caller ensures that `bits` is at most 2^62.
     pub fn at(bits: u64) -> Moment
         requires { bits ≤ last_moment }
         ensures { result ≡ bits }
@@ -51,7 +53,7 @@ impl Moment {
         Moment { bits }
     }
 
-    /// The moment in bit times.
+    /// The moment, in bit times since the clock started.
     pub fn get(self) -> u64
         ensures value { result ≡ self }
         ensures bound { self ≤ last_moment }
@@ -59,9 +61,9 @@ impl Moment {
         self.bits
     }
 
-    /// The moment some bit times later.
+    /// The moment `bits` bit times later. No sum wraps.
     ///
-    /// Fault: `ClockFull` where that is past 2^62; no sum wraps. The moment itself stays as it is.
+    /// Fault: `ClockFull` if that is past 2^62.
     pub fn add(self, bits: u64) -> Result<Moment, ClockFull>
         ensures { MatchResult result (λ later. (later ≡ self + bits) × (later ≤ last_moment))
             (λ fault. last_moment < self + bits) }

@@ -1,3 +1,5 @@
+//! The bus parameters that all stations of a segment share, and the ten rules that they meet.
+
 ghost use Rattle.std.specs.Prelude.{◌≡◌, Some, None, IsTrue, ◌↔◌, IfOk, IfErr, OnOk};
 ghost use Rattle.pb_refusals.specs.FirstFault.{first_fault};
 ghost use Rattle.pb_timers.specs.Timers.{tto};
@@ -6,38 +8,38 @@ ghost use Rattle.pb_timers.specs.ParamRules.{is_outside, late_faults};
 use std::marker::Model;
 use thiserror::Error;
 
-/// Why parameters are refused: the first fault that applies, in the order of the numbers. All limits
-/// are this profile's.
+/// Why parameters are refused: the first fault that applies, in the order of the numbers. All limits are this
+/// profile's.
 #[derive(Clone, Copy, Debug, PartialEq, Eq, Error)]
 pub enum ParamFault {
-    /// 1: the slot time is not in 100 to 16383.
+    /// 1: the slot time is not 100 to 16383 bit times.
     #[error("Slot")]
     Slot,
-    /// 2: idle time 1 is under 33.
+    /// 2: idle time 1 is under 33 bit times.
     #[error("IdleShort")]
     IdleShort,
     /// 3: idle time 2 is under idle time 1.
     #[error("IdleOrder")]
     IdleOrder,
-    /// 4: the reply delay is under 11.
+    /// 4: the reply delay is under 11 bit times.
     #[error("ReplyShort")]
     ReplyShort,
-    /// 5: the target rotation time is not in 256 to 16777215.
+    /// 5: the target rotation time is not 256 to 16777215 bit times.
     #[error("Rotation")]
     Rotation,
-    /// 6: the GAP factor is not in 1 to 100.
+    /// 6: the GAP factor is not 1 to 100.
     #[error("GapFactor")]
     GapFactor,
-    /// 7: the highest station address is not in 2 to 126.
+    /// 7: the highest station address is not 2 to 126.
     #[error("Highest")]
     Highest,
     /// 8: there are more than 7 retries.
     #[error("Retries")]
     Retries,
-    /// 9: idle time 2, the lag and twice the cable delay reach the slot time.
+    /// 9: the sum of idle time 2, the lag and twice the cable delay is not under the slot time.
     #[error("TakeLate")]
     TakeLate,
-    /// 10: the reply delay, the lag and twice the cable delay reach the slot time.
+    /// 10: the sum of the reply delay, the lag and twice the cable delay is not under the slot time.
     #[error("ReplyLate")]
     ReplyLate,
 }
@@ -45,7 +47,7 @@ pub enum ParamFault {
 impl ParamFault {
     ghost use Rattle.pb_timers.specs.ParamWords.{number_of};
 
-    /// The fault's number, 1 to 10: its place in the order in which faults are looked for.
+    /// The fault's number, 1 to 10: its position in the order in which faults are tested.
     pub fn number(&self) -> u8
         ensures { result ≡ number_of self.now }
     {
@@ -64,8 +66,8 @@ impl ParamFault {
     }
 }
 
-/// The parameters that all stations of a segment share (IEC 61158-4-3, timing parameters): times in bit times, and the
-/// GAP factor, the highest station address and the retries, which are no times. Each value meets all ten rules.
+/// The parameters that all stations of a segment share (IEC 61158-4-3, timing parameters): times in bit times, the GAP
+/// factor, the highest station address and the number of retries. Each value meets all ten rules.
 #[derive(Clone, Copy, Debug)]
 pub struct BusParams {
     tsl: u32,
@@ -98,11 +100,11 @@ impl Model for BusParams {
 impl BusParams {
     ghost use Rattle.pb_timers.specs.ParamRules.{param_faults, IsValid};
 
-    /// Parameters that meet all ten rules.
+    /// Checks parameters against all ten rules.
     ///
-    /// The arguments are the slot time, idle times 1 and 2, the reply delay, the lag (how late a turn may be) and the
-    /// target rotation time, in bit times; the GAP factor; the highest station address; the retries of a cycle; and the
-    /// cable delay, in bit times: how much later a telegram is at the taps of others.
+    /// The arguments are, in bit times, the slot time, idle times 1 and 2, the reply delay, the lag (how late a turn
+    /// may be) and the target rotation time; then the GAP factor, the highest station address and the number of retries
+    /// of a cycle; and, in bit times, the cable delay (how much later a telegram reaches the taps of others).
     ///
     /// Faults, the first that applies:
     ///
@@ -194,7 +196,7 @@ impl BusParams {
         })
     }
 
-    /// Whether other parameters are equal to these.
+    /// Whether all ten parameters are equal.
     pub fn is_same(&self, other: &BusParams) -> bool
         ensures { IsTrue result ↔ (self.now ≡ other.now) }
     {
@@ -210,28 +212,28 @@ impl BusParams {
             && other.ttd == self.ttd
     }
 
-    /// The slot time, in bit times.
+    /// The slot time, in bit times, 100 to 16383.
     pub fn tsl(&self) -> u32
         ensures { result ≡ self.now.tsl }
     {
         self.tsl
     }
 
-    /// Idle time 1, after a reply, an acknowledgement or a token, in bit times.
+    /// Idle time 1, in bit times, at least 33: after a reply, an acknowledgement or a token.
     pub fn tid1(&self) -> u32
         ensures { result ≡ self.now.tid1 }
     {
         self.tid1
     }
 
-    /// Idle time 2, after a request that nobody answers, in bit times.
+    /// Idle time 2, in bit times, at least idle time 1: after a request that nobody answers.
     pub fn tid2(&self) -> u32
         ensures { result ≡ self.now.tid2 }
     {
         self.tid2
     }
 
-    /// The reply delay of a responder, in bit times.
+    /// The reply delay of a responder, in bit times, at least 11.
     pub fn tsdr(&self) -> u32
         ensures { result ≡ self.now.tsdr }
     {
@@ -245,21 +247,21 @@ impl BusParams {
         self.lag
     }
 
-    /// The target rotation time, in bit times.
+    /// The target rotation time, in bit times, 256 to 16777215.
     pub fn ttr(&self) -> u32
         ensures { result ≡ self.now.ttr }
     {
         self.ttr
     }
 
-    /// The GAP factor: how many target rotation times lie between two GAP rounds.
+    /// The GAP factor, 1 to 100: how many target rotation times are between two GAP rounds.
     pub fn gap(&self) -> u32
         ensures { result ≡ self.now.gap }
     {
         self.gap
     }
 
-    /// The highest station address.
+    /// The highest station address, 2 to 126.
     pub fn hsa(&self) -> u32
         ensures value { result ≡ self.now.hsa }
         ensures valid { IsValid self.now }
@@ -267,7 +269,7 @@ impl BusParams {
         self.hsa
     }
 
-    /// How often a request is sent again.
+    /// How many times a request is sent again, 0 to 7.
     pub fn retries(&self) -> u32
         ensures value { result ≡ self.now.retries }
         ensures valid { IsValid self.now }
@@ -275,15 +277,15 @@ impl BusParams {
         self.retries
     }
 
-    /// The cable delay, in bit times: how much later a telegram is at the taps of others.
+    /// The cable delay, in bit times: how much later a telegram reaches the taps of others.
     pub fn ttd(&self) -> u32
         ensures { result ≡ self.now.ttd }
     {
         self.ttd
     }
 
-    /// The time-out of a station: how long it waits in silence before it claims the token,
-    /// `6*tsl + 2*addr*tsl` bit times (EN 50170-2, time-out time).
+    /// The time-out of a station: how long the bus is silent before it claims the token, `6*tsl + 2*addr*tsl` bit times
+    /// (EN 50170-2, time-out time).
     pub fn tto(&self, addr: u8) -> u64
         ensures value { result ≡ tto self.now addr }
         ensures valid { IsValid self.now }
@@ -293,15 +295,15 @@ impl BusParams {
     }
 }
 
-/// Whether the number is not in the range, whose ends are in it.
+/// Whether the number is outside of `low` to `high`, both included.
 fn is_outside(low: u32, high: u32, number: u32) -> bool
     ensures { result ≡ is_outside low high number }
 {
     number < low || number > high
 }
 
-/// Refuses a take or a reply that may come after a slot: the idle time 2, and the reply delay, with the lag and the
-/// cable delay there and back.
+/// Refuses parameters with which a token may be taken, or a reply begin, after the slot time: idle time 2, or the reply
+/// delay, plus the lag and the cable delay in both directions.
 fn refuse_late(tsl: u32, tid2: u32, tsdr: u32, lag: u32, ttd: u32) -> Result<(), ParamFault>
     ensures in_time { IfOk result (λ _. first_fault (late_faults tsl tid2 tsdr lag ttd) ≡ None) }
     ensures fault { IfErr result (λ fault. first_fault (late_faults tsl tid2 tsdr lag ttd) ≡ Some fault) }

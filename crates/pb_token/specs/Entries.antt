@@ -18,22 +18,24 @@ use Rattle.pb_token.specs.Views.{view}
 
 -- ---- the order of initiator telegrams
 
--- An initiator telegram is the last one, or had ended before that began, and had reached all by then: but for the speaker's own that offered the token to
--- nobody. So what is on its way to some tap is all by one speaker, and its only token to another is the last. Said by tap and begin: damage changes records.
+-- An initiator telegram is the last one; or it had ended before the last one began and had reached all taps by then,
+-- except the speaker's own that passed the token to no other station. So everything that is on its way to some tap is
+-- by one speaker, and its only token to another is the last. Stated by tap and begin, because damage changes records.
 abbrev pub ComesBefore : ℕ → Option Record → Record → Type 0
 ComesBefore delay None x = ⊥
 ComesBefore delay (Some r) x =
     ((x.tap ≡ r.tap) × (x.begin ≡ r.begin))
     ⊎ ((x.end ≤ r.begin) × ((x.end + delay ≤ r.begin) ⊎ ((x.tap ≡ r.tap) × (offered_to x ≡ None))))
 
--- what an entry that is no reply of a tap was at that tap, before a moment, had ended by another
+-- what an entry, other than a reply of a tap, was at that tap before a moment had ended by another moment
 abbrev pub EndedBefore : (delay tap b q : ℕ) → Entry → Type 0
 EndedBefore delay tap b q (Noise span) = (b ≤ span.begin) ⊎ (span.end ≤ q)
 EndedBefore delay tap b q (Sent r) =
     (r.tap ≡ tap → is_initiator r ≡ true → (b ≤ r.begin) ⊎ (r.end ≤ q)) × ((r.tap ≡ tap → ⊥) → (b ≤ r.begin + delay) ⊎ (r.end + delay ≤ q))
 
--- Why an initiator telegram was sent: its speaker had waited out its time-out by then, or something ended at it no longer than a slot and the lag before.
--- A silence timer needs six slots: so one that ends beside it is met by the fourth premise.
+-- Why an initiator telegram was sent: its speaker had waited out its time-out by then, or something ended at it at most
+-- a slot and the lag before. A silence timer takes six slots: one that ends in the same time is caught by the fourth
+-- premise.
 abbrev pub Origin : Params → List Entry → List Waited → Record → Type 0
 Origin p trace waited x =
     (list_any (λ w. (w.tap == x.tap) && nat_le x.begin w.moment) waited ≡ true)
@@ -41,8 +43,8 @@ Origin p trace waited x =
 
 -- ---- telegrams
 
--- `older` and `one_whole` are what the first premise gives: a tap with the speaker's address that runs started once the telegram had begun, so it doesn't hear it from its
--- beginning; and one telegram is whole at no two taps of one address.
+-- `older` and `one_whole` follow from the first premise: a running tap with the speaker's address started after the
+-- telegram had begun, so it does not hear it from its begin; and one telegram is whole at no two taps with one address.
 pub record RecordOk (p : Params) (now : ℕ) (taps : List Tap) (trace : List Entry) (waited : List Waited) (last : Option Record) (x : Record) : Type 0 where
   pub begun : x.begin ≤ now
   pub some : x.begin < x.end
@@ -62,7 +64,7 @@ abbrev pub EntryOk : Params → ℕ → List Tap → List Entry → List Waited 
 EntryOk p now taps trace waited last (Noise span) = (span.begin ≤ now) × (span.begin < span.end)
 EntryOk p now taps trace waited last (Sent x) = RecordOk p now taps trace waited last x
 
--- no two telegrams of a tap begin together
+-- no two telegrams of a tap begin at one moment
 abbrev pub IsAnother : Entry → Entry → Type 0
 IsAnother (Noise span) e = Unit {0}
 IsAnother (Sent r) (Noise span) = Unit {0}
@@ -74,7 +76,7 @@ AllOthers (e ∷ es) = Each (IsAnother e) es × AllOthers es
 
 -- ---- speakers with equal addresses
 
--- a phase in which no token is taken
+-- a phase in which no token is accepted
 abbrev pub TakesNone : Phase → Type 0
 TakesNone Offline = Unit {0}
 TakesNone PassiveIdle = Unit {0}
@@ -87,12 +89,12 @@ TakesNone (AwaitStatus of slot) = ⊥
 TakesNone (Pass tries ready) = ⊥
 TakesNone (Checking tries) = ⊥
 
--- no reply that takes the station into the ring
+-- no reply by which the station joins the ring
 abbrev pub JoinsNot : Option Reply → Type 0
 JoinsNot reply = IfSome reply (λ r. r.joins ≡ false)
 
--- A master that has heard no token since its start, or one that had its own address as the source: its list is not complete, and its reply does
--- not take it into the ring.
+-- A master that has heard no token since its start, or one from its own address: its list is not complete, and its
+-- reply does not let it join the ring.
 abbrev pub IsFreshIn : Phase → LasTable → Option Reply → Type 0
 IsFreshIn Offline table reply = Unit {0}
 IsFreshIn PassiveIdle table reply = Unit {0}
@@ -109,8 +111,9 @@ IsFreshIn (Checking tries) table reply = ⊥
 abbrev pub IsFresh : Station → Type 0
 IsFresh s = IsFreshIn s.phase s.las s.reply
 
--- A telegram is whole at others alone. While an initiator telegram is in the air, a station with its speaker's address that runs is fresh: it has started since,
--- and what it has heard is all by that speaker. So it takes no token that was sent before its start; that matters with a cable delay alone.
+-- A telegram is whole only at other taps. While an initiator telegram is on the bus, a running station with its
+-- speaker's address is fresh: it has started since, and all that it has heard is by that speaker. So it accepts no
+-- token that was sent before its start. This matters only with a cable delay.
 pub record SpeakerOk (p : Params) (now : ℕ) (taps : List Tap) (x : Record) : Type 0 where
   pub own : is_whole (slice_get x.heard x.tap) ≡ false
   pub fresh : is_initiator x ≡ true → now < x.end + p.ttd → (k : ℕ) (t u : Tap) → slice_get taps k ≡ Some t → t.running ≡ true

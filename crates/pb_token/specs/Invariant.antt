@@ -1,4 +1,4 @@
--- What holds of a world, and of the taps that had waited out their time-outs on the way to it, while the premises are kept.
+-- The invariant of a world, and of the taps that had waited out their time-outs before it, while the premises are kept.
 use Rattle.std.specs.Prelude.{◌≡◌, ℕ, true, false, List, [], ◌++◌, Option, Some, None, Ok, IfSome, slice_get}
 use Rattle.pb_timers.specs.Timers.{Params}
 use Rattle.pb_model.specs.Trace.{Record, Sent}
@@ -17,7 +17,7 @@ use Rattle.pb_token.specs.Views.{TapOk}
 use Rattle.pb_token.specs.Entries.{EntryOk, AllOthers, SpeaksOk}
 use Rattle.pb_token.specs.Stations.{TapStays}
 
--- whatever the premises: the trace stands by begin, and each tap's station is as it has to be
+-- whatever the premises: the trace is in order of begin, and each tap's station is sound
 pub record Settled (w : World) : Type 0 where
   pub stands : Stands w
   pub stays : EachTap (TapStays w.params) w.taps
@@ -33,7 +33,7 @@ pub record Inv (w : World) (waited : List Waited) : Type 0 where
   pub distinct : has_namesakes w.taps ≡ false
   pub taps : (k : ℕ) (t : Tap) → slice_get w.taps k ≡ Some t → t.running ≡ true → TapOk w.params w.now w.trace last k t
 
--- with parameters that leave time, and a legal trace
+-- with parameters that leave enough time, and a legal trace
 pub record Keeps (w : World) (waited : List Waited) : Type 0 where
   pub fits : LeavesTime w.params
   pub inv : Inv w waited
@@ -44,15 +44,15 @@ pub record Invariant (w : World) (waited : List Waited) : Type 0 where
   pub settled : Settled w
   pub keeps : Keeps w waited
 
--- an event that breaks no premise, with the taps that have waited out after it
+-- an event that breaks no premise, given the taps that have waited out after it
 abbrev pub BreaksNone : World → List Waited → Event → World → Type 0
 BreaksNone w waited e next = broken_by w e next (waited_by next 0 next.taps) (waited_by next 0 next.taps ++ waited) ≡ None
 
--- such an event keeps it
+-- such an event keeps the invariant
 abbrev pub KeepsInvariant : World → Event → Type 0
 KeepsInvariant w e = (waited : List Waited) (next : World) (reply : Reply) → step w e ≡ Ok (next, reply) → IsEvent e → BreaksNone w waited e next
     → Invariant w waited → Invariant next (waited_by next 0 next.taps ++ waited)
 
--- a new world has it
+-- a new world satisfies the invariant
 abbrev pub BeginsWithInvariant : Type 0
 BeginsWithInvariant = (p : Params) (specs : List TapSpec) (w : World) → LeavesTime p → AllFit specs → new_world p specs ≡ Ok w → Invariant w []

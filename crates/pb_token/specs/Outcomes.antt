@@ -1,4 +1,4 @@
--- What comes of a run: which premises it breaks, and how many stations may initiate on the way.
+-- The outcome of a run: which premises it breaks, and how many stations may initiate on the way.
 use Rattle.std.specs.Prelude.{ℕ, ◌+◌, Bool, true, false, if◌then◌else◌, not, ◌==◌, ◌||◌, List, [], ◌∷◌, ◌++◌, max, count_by, Option, Some, None, Result, Ok, Err, filter, nat_le}
 use Rattle.pb_timers.specs.Timers.{Params}
 use Rattle.pb_model.specs.Scenarios.{replay_from, trace_of}
@@ -11,7 +11,8 @@ use Rattle.pb_theorem.specs.Legality.{first_illegal}
 use Rattle.pb_theorem.specs.Premises.{Waited, has_namesakes, loses, comes_late, waited_by, two_have_waited}
 use Rattle.pb_theorem.specs.Scenarios.{holder_is_named}
 
--- so far: which premises broke; after how many events some station may initiate, how many at most, and whether one that the trace doesn't name; and whether an event was refused
+-- so far: which premises broke; after how many events some station may initiate, how many at most, and whether one that
+-- the trace does not name; and whether an event was refused
 pub record Tally : Type 0 where
   pub namesakes : Bool
   pub lost : Bool
@@ -25,7 +26,8 @@ pub record Tally : Type 0 where
 abbrev pub no_tally : Tally
 no_tally = record { namesakes = false; lost = false; late = false; together = false; held = 0; most = 0; unnamed = false; refused = false }
 
--- with the event that led from one world to the next, how many stations may initiate then, and what taps had waited out
+-- after the event that led from one world to the next, given how many stations may initiate then, and which taps had
+-- waited out
 abbrev pub tally_after : Tally → World → Event → World → ℕ → List Waited → List Waited → Tally
 tally_after v w e next holders new all = record {
   namesakes = v.namesakes || has_namesakes next.taps;
@@ -38,7 +40,7 @@ tally_after v w e next holders new all = record {
   refused = v.refused;
 }
 
--- what comes of a run
+-- the outcome of a run
 pub record Outcome : Type 0 where
   -- the numbers of the premises that it breaks
   pub broken : List ℕ
@@ -89,7 +91,7 @@ outcome_from (Err fault) events = None
 abbrev pub outcome_on : Params → List TapSpec → List Event → Option Outcome
 outcome_on p specs events = outcome_from (new_world p specs) events
 
--- all premises are kept, and one station at most may initiate, after some of the events
+-- all premises are kept, and at most one station may initiate, after this many of the events
 abbrev pub kept : ℕ → Option Outcome
 kept held = Some (record { broken = []; held = held; most = if held == 0 then 0 else 1; unnamed = false; illegal = None })
 
@@ -97,15 +99,15 @@ kept held = Some (record { broken = []; held = held; most = if held == 0 then 0 
 abbrev pub breaks : List ℕ → (held most : ℕ) → Bool → Option ℕ → Option Outcome
 breaks broken held most unnamed illegal = Some (record { broken = broken; held = held; most = most; unnamed = unnamed; illegal = illegal })
 
--- the fourth premise breaks, with two holders, of whom the trace names one
+-- the fourth premise breaks, with two holders, one of which the trace names
 abbrev pub together : Option Outcome
 together = breaks (4 ∷ []) 2 2 true (Some 1)
 
--- the third breaks, and nobody holds the token
+-- the third premise breaks, and no station holds the token
 abbrev pub late_in_silence : Option Outcome
 late_in_silence = breaks (3 ∷ []) 0 0 false None
 
--- ---- worlds, and what of their traces begins at a moment or later
+-- ---- worlds, and the entries of their traces from a moment on
 
 abbrev pub world_on : Params → List TapSpec → List Event → Option World
 world_on p specs events = replay_from (new_world p specs) events

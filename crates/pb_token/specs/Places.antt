@@ -1,7 +1,7 @@
 -- What a tap hears of a trace, and by when it was over.
 --
--- A tap's station is compared with what is on the wire by moments alone: by when all that it heard begin was
--- over, and by when its own telegrams were. No list of bursts is kept; with a cable delay the words stay.
+-- A tap's station is compared with what is on the bus by moments alone: by when all that it heard begin was over, and
+-- by when its own telegrams were. No list of bursts is kept. This also holds with a cable delay.
 use Rattle.std.specs.Prelude.{◌≡◌, ◌⊎◌, ℕ, ◌+◌, ◌*◌, ◌<◌, ◌≤◌, true, List, Option, Some, None}
 use Rattle.std.specs.Option.{option_and_then}
 use Rattle.pb_timers.specs.Timers.{Params}
@@ -13,9 +13,10 @@ use Rattle.pb_token.specs.Lists.{Each}
 
 -- ---- the bus parameters
 
--- What the bus parameters leave time for. A taker speaks after an idle time, late by the lag at most, and its telegram comes back a cable
--- delay after the token had taken one to it: all this before the slot of the token is over (`take`). With one bit less a passer speaks again in
--- the instant in which the taker does. That a reply comes within its slot the token doesn't need.
+-- What the bus parameters leave time for. The taker speaks after an idle time, late by at most the lag, and its
+-- telegram arrives a cable delay later; the token had taken a cable delay before. All this ends before the slot of the
+-- token is over (`take`). With one bit time less the passer speaks again in the same instant as the taker. The token
+-- does not need a reply to come within its slot.
 pub record LeavesTime (p : Params) : Type 0 where
   pub slot : 100 ≤ p.tsl
   pub idle : 33 ≤ p.tid1
@@ -23,9 +24,9 @@ pub record LeavesTime (p : Params) : Type 0 where
   pub take : p.tid2 + p.lag + 2 * p.ttd < p.tsl
   pub highest : p.hsa < 127
 
--- ---- where a tap stands
+-- ---- the place of a tap
 
--- a position with an address that runs since a moment, on a bus at a clock
+-- a tap with its index and address, running since a moment, on a bus at a clock
 pub record Place : Type 0 where
   pub p : Params
   pub now : ℕ

@@ -12,7 +12,7 @@ use Rattle.pb_turn.specs.Phases.{Phase, Offline, PassiveIdle, Listening, Idle, C
 use Rattle.pb_turn.specs.Stations.{Station, Cycles}
 use Rattle.pb_model.specs.Medium.{Tap}
 
--- ---- what a station keeps to say spells telegrams
+-- ---- what a station keeps to send spells telegrams
 
 abbrev pub IsGood : List ℕ → Type 0
 IsGood octets = fault_of (map Good octets) ≡ None
@@ -20,11 +20,11 @@ IsGood octets = fault_of (map Good octets) ≡ None
 abbrev pub IsSaid : messages.Reply → Type 0
 IsSaid reply = IsGood (reply_octets reply)
 
--- a request that is open has addresses and a control octet that a telegram may have
+-- an open request has addresses and a control octet that a telegram may have
 abbrev pub IsOpen : OpenRequest → Type 0
 IsOpen o = (o.sent.sa % 128 < 127) × (o.sent.fc < 128)
 
--- what a station with an address keeps of its message cycles, with the data that it replies
+-- what a station with an address keeps of its message cycles, and the data with which it replies
 pub record CyclesOk (address : ℕ) (c : Cycles) : Type 0 where
   pub here : address < 127
   pub pending : IfSome c.initiator.pending IsOpen
@@ -51,8 +51,9 @@ IsActive (Checking tries) = Unit {0}
 
 -- ---- a tap
 
--- The station has the tap's address and replies the tap's data, and what it keeps can be said; only a master is in the ring, or listens for it; one that awaits a reply has an
--- open request; the tables of one that runs stand for a past; and one that is stopped is offline.
+-- The station has the tap's address and replies with the tap's data, and it can send what it keeps; only a master is in
+-- the ring or listens for it; a station that waits for a reply has an open request; the tables of a running one
+-- represent a past; a stopped one is offline.
 pub record TapStays (p : Params) (t : Tap) : Type 0 where
   pub address : t.station.address ≡ t.spec.address
   pub below : t.station.address < 127

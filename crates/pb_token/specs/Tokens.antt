@@ -1,4 +1,4 @@
--- Whose the token is, by the last initiator telegram.
+-- Which station has the token, by the last initiator telegram.
 use Rattle.std.specs.Prelude.{◌≡◌, ℕ, ◌+◌, true, List, Option, Some, None, slice_get}
 use Rattle.pb_turn.specs.Spans.{Span}
 use Rattle.pb_model.specs.Trace.{Record, Entry}
@@ -7,7 +7,7 @@ use Rattle.pb_theorem.specs.Legality.{is_whole}
 use Rattle.pb_token.specs.Lists.{Each}
 use Rattle.pb_token.specs.Places.{Place, heard_span, Spares}
 
--- held: the last initiator telegram is the tap's own last telegram, and offers the token to nobody
+-- held: the last initiator telegram is the tap's own last telegram, and passes the token to no other station
 pub record Held (last : Option Record) (tap : ℕ) (own : Span) : Type 0 where
   pub r : Record
   pub is : last ≡ Some r
@@ -16,7 +16,7 @@ pub record Held (last : Option Record) (tap : ℕ) (own : Span) : Type 0 where
   pub end : r.end ≡ own.end
   pub no_offer : offered_to r ≡ None
 
--- taken: it is a token of another to the tap, which heard it whole, to its end at a moment
+-- taken: it is a token of another to the tap, which received it whole, to its end at a moment
 pub record Taken (delay : ℕ) (last : Option Record) (tap address : ℕ) (at : ℕ) : Type 0 where
   pub r : Record
   pub is : last ≡ Some r
@@ -25,7 +25,7 @@ pub record Taken (delay : ℕ) (last : Option Record) (tap address : ℕ) (at : 
   pub whole : is_whole (slice_get r.heard tap) ≡ true
   pub heard_at : at ≡ r.end + delay
 
--- offered: it is the tap's own last telegram, and offers the token to another
+-- offered: it is the tap's own last telegram, and passes the token to another
 pub record Offers (last : Option Record) (tap : ℕ) (own : Span) : Type 0 where
   pub r : Record
   pub to : ℕ

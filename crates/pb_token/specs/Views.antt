@@ -1,4 +1,4 @@
--- A running tap: what its station knows of time, and what it makes of the token.
+-- A running tap: what its station knows of time, and of the token.
 --
 -- Most is said of its view: the station once it has read its unread marks. So nothing need be said of which
 -- marks are unread. A pass of time appends marks, and a turn that says nothing leaves the view as it is.
@@ -19,15 +19,16 @@ use Rattle.pb_token.specs.Tokens.{Held, Taken, Offers, Doomed}
 
 -- ---- time
 
--- Between a Begin and its End something that the tap hears is there still; else all is over, by the moment since
--- which the station knows of quiet, and by the clock: the first may lie after the clock, while its own telegram is in the air.
+-- Between a Begin and its End, something that the tap hears is still there. Otherwise all is over, by the moment since
+-- which the station counts the bus as quiet, and by the clock. The first may be after the clock, while the station's
+-- own telegram is on the bus.
 abbrev pub Senses : Place → List Entry → (busy : Bool) (quiet : ℕ) → Type 0
 Senses c trace true quiet = (q : ℕ) → Over c trace q → c.now < q
 Senses c trace false quiet = Over c trace quiet × Over c trace c.now
 
 -- What a station that is not offline knows of time. `split` says that it speaks only once all it heard is over: a Begin
--- from the own telegram's beginning on is one of a later telegram, and so it ends a check. `sent` ties the own telegram to the
--- trace; it is empty before the first one.
+-- from the begin of its own telegram on is that of a later telegram, and so it ends a check. `sent` ties the own
+-- telegram to the trace; it is empty before the first one.
 pub record Knows (c : Place) (trace : List Entry) (busy : Bool) (quiet : ℕ) (own : Span) : Type 0 where
   pub senses : Senses c trace busy quiet
   pub started : c.since ≤ own.begin
@@ -43,8 +44,9 @@ abbrev pub KnowsIn : Place → List Entry → Phase → (busy : Bool) (quiet : �
 KnowsIn c trace Offline busy quiet own = Unit {0}
 KnowsIn c trace _ busy quiet own = Knows c trace busy quiet own
 
--- The moment since which the station knows of quiet is the end of what it heard, or of an initiator telegram of its own: so one that
--- holds the token acts within a slot after a telegram that all count, and the bus is never silent for two slots while a token lives.
+-- The moment since which the station counts the bus as quiet is the end of what it heard, or of an initiator telegram
+-- of its own. So a holder acts within a slot after a telegram that counts for all, and the bus is never silent for two
+-- slots while there is a token.
 abbrev pub IsRecent : Place → List Entry → ℕ → Type 0
 IsRecent c trace quiet = (q : ℕ) → Over c trace q ⊎ (c.now ≤ q) → InitsBy c.tap q trace → quiet ≤ q
 
@@ -55,19 +57,20 @@ abbrev pub Waits : Place → (busy : Bool) (quiet : ℕ) → Option Reply → Ty
 Waits c true quiet reply = reply ≡ None
 Waits c false quiet reply = IfSome reply (λ a. a.ready ≡ quiet + c.p.tsdr)
 
--- a slot runs from the end of the own telegram: nothing was heard since that began
+-- a slot runs from the end of the own telegram: nothing was heard since its begin
 pub record Armed (c : Place) (trace : List Entry) (quiet : ℕ) (own : Span) : Type 0 where
   pub still : quiet ≡ own.end
   pub clean : Over c trace own.begin
 
--- one that awaits a reply: busy, or in its slot, or about to ask again
+-- a station that waits for a reply: busy, or in its slot, or about to ask again
 abbrev pub Awaits : Place → List Entry → (busy : Bool) (quiet : ℕ) → Span → (retry : Option ℕ) (slot : Bool) → Type 0
 Awaits c trace true quiet own retry slot = (retry ≡ None) × (slot ≡ false)
 Awaits c trace false quiet own None slot = (slot ≡ true) × Armed c trace quiet own
 Awaits c trace false quiet own (Some m) slot = (slot ≡ false) × (m ≡ quiet + c.p.tid1)
 
--- What a view is in each phase. A holder is not busy, but where it awaits a reply: a Begin takes the token from it. One that uses the token
--- speaks after tid1, or after tid2 where it has sent what nobody answers. One that checks has offered the token, or is doomed. In Pass it is only within a turn.
+-- The view in each phase. A holder is not busy unless it waits for a reply: a Begin takes the token from it. A station
+-- that uses the token speaks after tid1, or after tid2 if it has sent a request that is not answered. A checking
+-- station has offered the token, or is doomed. Pass occurs only within a turn.
 abbrev pub ViewOf : Place → List Entry → Option Record → Phase → (busy : Bool) (quiet : ℕ) → Span → Option Reply → Type 0
 ViewOf c trace last Offline busy quiet own reply = Unit {0}
 ViewOf c trace last PassiveIdle busy quiet own reply = Waits c busy quiet reply
@@ -86,7 +89,7 @@ ViewOf c trace last (Pass tries ready) busy quiet own reply = ⊥
 ViewOf c trace last (Checking tries) busy quiet own reply =
     (busy ≡ false) × Armed c trace quiet own × IsRecent c trace quiet × (Offers last c.tap own ⊎ Doomed c trace own)
 
--- ---- the station as it stands, with its unread marks
+-- ---- the station with its unread marks
 
 abbrev pub IsOn : Phase → Type 0
 IsOn Offline = ⊥
@@ -100,12 +103,12 @@ IsOn (AwaitStatus of slot) = Unit {0}
 IsOn (Pass tries ready) = Unit {0}
 IsOn (Checking tries) = Unit {0}
 
--- the first unread mark came by a moment
+-- the first unread mark was delivered by a moment
 abbrev pub SeenBy : ℕ → List Mark → Type 0
 SeenBy q [] = Unit {0}
 SeenBy q (m ∷ ms) = seen_at m ≤ q
 
--- how a phase in which a station may initiate grips the last initiator telegram
+-- how a phase in which a station may initiate depends on the last initiator telegram
 abbrev pub Grip : Place → Option Record → Phase → Span → Type 0
 Grip c last Offline own = Unit {0}
 Grip c last PassiveIdle own = Unit {0}
@@ -124,8 +127,10 @@ view p t = after_marks p t.station t.marks
 abbrev pub place : Params → ℕ → ℕ → Tap → Place
 place p now k t = record { p = p; now = now; tap = k; address = t.spec.address; since = t.since }
 
--- What holds of a running tap. `silent`: once it has read its marks a busy station says nothing, and one that answers no requests keeps no reply. `in_time` is the third premise as a fact of each world: no turn is overdue by more than the lag. `seen`: the first unread
--- mark is as old as something that is on the wire still, so one that hasn't read it is not late either.
+-- What holds of a running tap. `silent`: once it has read its marks, a busy station sends nothing, and one that answers
+-- no requests keeps no reply. `in_time` is the third premise as a fact of each world: no turn is overdue by more than
+-- the lag. `seen`: the first unread mark is as old as something that is still on the bus, so a station that has not
+-- read it is not late either.
 pub record TapOk (p : Params) (now : ℕ) (trace : List Entry) (last : Option Record) (k : ℕ) (t : Tap) : Type 0 where
   pub began : t.since ≤ now
   pub address : t.station.address ≡ t.spec.address

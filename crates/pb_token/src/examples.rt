@@ -1,3 +1,5 @@
+//! Worked runs: the premises can be met, and none of them can be dropped.
+
 ghost use Rattle.std.specs.Prelude.{◌≡◌, ℕ, [], ◌∷◌, true, false, Some, None, take};
 ghost use Rattle.pb_model.specs.Scenarios.{example_bus, master, two_masters};
 ghost use Rattle.pb_model.specs.Scenarios.{ring_formed, taker_damaged, speaker_stopped};
@@ -28,8 +30,8 @@ ghost use Rattle.pb_token.specs.Examples.{
 };
 ghost use Rattle.pb_token.specs.Outcomes.{outcome_on, kept, breaks, together, late_in_silence, world_on, entries_from};
 
-/// The premises can be met: by runs in which some station holds the token most of the time, with damage, stops,
-/// noise, late turns and a cable delay.
+/// The premises can be met, by runs in which some station holds the token most of the time, with damage, stops, noise,
+/// late turns and a cable delay.
 pub fn the_premises_can_be_met()
     ensures ring { outcome_on example_bus two_masters ring_formed ≡ kept 33 }
     ensures damage { outcome_on example_bus two_masters taker_damaged ≡ kept 34 }
@@ -41,8 +43,8 @@ pub fn the_premises_can_be_met()
     ensures silence { outcome_on bus_with_lag (master 1 ∷ []) (silent_start 839) ≡ kept 0 }
 {}
 
-/// Noise, as the second of two stations has just taken the token: it gives it up as soon as it reads of it, in a
-/// turn that comes late by the lag as in one in time, and the first claims the token a time-out after the noise.
+/// Noise begins just after the second of two stations has taken the token. The second gives the token up when it reads
+/// that mark, in a turn that is in time or late by the lag. The first claims the token a time-out after the noise.
 pub fn after_noise_the_token_is_claimed()
     ensures noise { entries_from 1160 (world_on example_bus two_masters noise_with_the_token)
         ≡ noise 1160 1180 ∷ claims_at 1980 ∷ claims_at 2050 ∷ [] }
@@ -54,9 +56,9 @@ pub fn after_noise_the_token_is_claimed()
         ≡ Idle None ∷ Idle None ∷ [] }
 {}
 
-/// Without each of the premises the theorem is false: a run that keeps the others has two holders, a holder that
-/// the trace doesn't name, or an illegal telegram. In the first run one station has the address of another, the
-/// second loses a telegram, in the third a turn comes late, in the fourth two time-outs end together.
+/// Without any one of the premises the theorem is false: a run that keeps the others has two holders, a holder that the
+/// trace does not name, or an illegal telegram. In the first run two stations share an address, the second loses a
+/// telegram, in the third a turn is late, in the fourth two time-outs end together.
 pub fn each_premise_is_needed()
     ensures namesakes { outcome_on example_bus namesakes namesake_named ≡ breaks (1 ∷ []) 28 1 true None }
     ensures loss { outcome_on example_bus two_masters taker_lost ≡ breaks (2 ∷ []) 31 1 true (Some 6) }
@@ -65,9 +67,9 @@ pub fn each_premise_is_needed()
     ensures silence { outcome_on bus_with_lag (master 1 ∷ []) (silent_start 840) ≡ late_in_silence }
 {}
 
-/// One bit beyond what the bus parameters leave time for, a run that keeps all premises has an illegal telegram:
-/// the taker and the passer speak in one instant, without a cable delay and with one. A reply that comes as late
-/// loses the token, and no more: the theorem doesn't need that rule.
+/// One bit time beyond what the bus parameters leave, a run that keeps all premises has an illegal telegram: the
+/// station that takes the token and the one that passed it speak in one instant, without a cable delay and with one. A
+/// reply that is as late only loses the token: the theorem does not need that rule.
 pub fn a_bit_beyond_is_too_late()
     ensures taken { outcome_on late_bus two_masters taken_at_the_end ≡ breaks [] 29 1 true (Some 6) }
     ensures with_delay { outcome_on long_late_bus two_masters taken_with_delay

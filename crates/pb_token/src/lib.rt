@@ -1,8 +1,8 @@
 //! The token theorem: in every run that keeps the premises at most one station may initiate, the trace names
 //! it, and each telegram that only a holder sends is legal after the one before it.
 //!
-//! `specs/` says what holds of every world on the way, for every lag and every cable delay that the bus
-//! parameters leave time for. This crate has no code that runs: its functions do nothing, and their contracts
+//! `specs/` states the invariant of every world in such a run, for every lag and every cable delay that the bus
+//! parameters leave time for. This crate has no code that runs: its functions have empty bodies, and their contracts
 //! are laws.
 #![tactic(auto)]
 

@@ -1,18 +1,20 @@
+//! Laws of runs: what a run never changes, and how runs are joined and split.
+
 ghost use Rattle.pb_token.specs.Runs.{RunsKeepTheBus, RunsJoin, RunsPart, BeginningsKeepPremises};
 ghost use Rattle.pb_token.specs.Runs.{StoppedAreOffline, TurnsKeepTheReply, RunsKeepTheReply, HoldersKeepNoReply};
 
-/// A run keeps the parameters of the bus, and what each tap is.
+/// A run keeps the bus parameters, and the kind and address of each tap.
 pub fn a_run_keeps_its_bus()
     ensures { RunsKeepTheBus }
 {}
 
-/// Two runs, one after the other, are a run of both lists; and a run of both is one of each.
+/// Two consecutive runs are one run of both lists, and a run of two lists is a run of each.
 pub fn runs_append()
     ensures joined { RunsJoin }
     ensures parted { RunsPart }
 {}
 
-/// Premises that a list keeps are kept by its beginnings.
+/// If a list keeps the premises, so does each of its prefixes.
 pub fn premises_are_kept_by_beginnings()
     ensures { BeginningsKeepPremises }
 {}
@@ -22,15 +24,15 @@ pub fn a_stopped_station_is_offline()
     ensures { StoppedAreOffline }
 {}
 
-/// A turn keeps the data that a station replies to a request for data; so in every run that is what the tap
-/// list says of it.
+/// A turn keeps the data with which a station replies to a request for data. In every run this data is that of the tap
+/// list.
 pub fn the_data_to_reply_stays()
     ensures turn { TurnsKeepTheReply }
     ensures run { RunsKeepTheReply }
 {}
 
-/// A station that holds the token, or checks what became of it, keeps no reply that is not sent yet; nor has a
-/// busy one anything to say. Begins and Ends take turns at every running tap, whatever the events.
+/// A station that holds the token, or checks whether it was taken, keeps no unsent reply. A busy station has nothing to
+/// send. Begins and Ends alternate at every running tap, whatever the events.
 pub fn no_holder_keeps_a_reply()
     ensures { HoldersKeepNoReply }
 {}

@@ -1,4 +1,4 @@
-//! The silence bound.
+//! The silence bound: how long a master may be left in silence.
 
 ghost use Rattle.std.specs.Prelude.{ℕ};
 ghost use Rattle.pb_model.specs.Scenarios.{two_masters};
@@ -6,8 +6,8 @@ ghost use Rattle.pb_theorem.specs.Headline.{SilenceBound};
 ghost use Rattle.pb_token.specs.Promises.{SilenceAtSpeakers, SilenceAtTap, NoneInSilence, IsReached};
 ghost use Rattle.pb_token.specs.Examples.{long_bus, long_silence};
 
-/// No master that runs, and isn't offline, is left in silence for longer than its time-out, the lag and the cable
-/// delay: also where two stations have one address, or two masters have waited out their time-outs together.
+/// No running master that is not offline is in silence for longer than its time-out, the lag and the cable delay. This
+/// also holds if two stations share an address, or two masters' time-outs end together.
 pub fn no_master_is_left_in_silence()
     ensures bound { SilenceBound }
     ensures at_speakers { SilenceAtSpeakers }
@@ -15,7 +15,7 @@ pub fn no_master_is_left_in_silence()
     ensures of_a_world { NoneInSilence }
 {}
 
-/// It may be left so long: a master whose token was claimed by a station that stops.
+/// The bound is reached, by a master whose token was claimed by a station that stops.
 pub fn the_silence_bound_is_reached()
     ensures { IsReached long_bus two_masters long_silence 1 833 1843 }
 {}

@@ -1,4 +1,4 @@
--- Which phase of a turn a state is, and what follows it.
+-- The phase of a turn that a state is, and what follows it.
 use Rattle.std.specs.Prelude.{ℕ, ◌+◌, ◌==◌, nat_le, min, Bool, false, if◌then◌else◌, Option, Some, List, codes}
 use Rattle.pb_turn.specs.Phases as turn
 use Rattle.pb_turn.specs.Hearing.{tries_limit, is_taken_from}
@@ -27,11 +27,11 @@ phase_of (phase.Checking s) = turn.Checking s.tries
 
 -- ---- what is read of a state
 
--- whether a token was heard that had the own address as its source
+-- whether a token from the own address was heard
 abbrev pub is_doubled : Listening → Bool
 is_doubled s = s.doubled
 
--- the station whose token was not accepted
+-- the station whose token was refused
 abbrev pub refused_by : Idle → Option ℕ
 refused_by s = s.refused
 
@@ -51,7 +51,7 @@ was_asked h = h.state.asked
 abbrev pub retry_at : Holding AwaitData → Option ℕ
 retry_at h = h.state.retry
 
--- whether the slot of a request still runs
+-- whether the slot of a request is still open
 abbrev pub has_data_slot : Holding AwaitData → Bool
 has_data_slot h = h.state.slot
 
@@ -59,11 +59,11 @@ has_data_slot h = h.state.slot
 abbrev pub asked_station : Holding AwaitStatus → ℕ
 asked_station h = h.state.of
 
--- whether its slot still runs
+-- whether its slot is still open
 abbrev pub has_slot : Holding AwaitStatus → Bool
 has_slot h = h.state.slot
 
--- how often the token was sent to a successor
+-- how many times the token was sent to a successor
 abbrev pub tries_of : Phase → ℕ
 tries_of (phase.Pass h) = h.state.tries
 tries_of (phase.Checking s) = s.tries
@@ -83,7 +83,8 @@ name_of (phase.Checking s) = codes "Checking"
 
 -- ---- what follows a state
 
--- Idle after a token from sa to da: one to the own address is taken from the previous station, or from the one that was refused before
+-- Idle after a token from sa to da: one to the own address is accepted from the previous station, or from the one that
+-- was refused before
 abbrev pub token_heard : Option ℕ → (da sa ts ps ready : ℕ) → turn.Phase
 token_heard refused da sa ts ps ready =
     if da == ts then if is_taken_from refused ps sa then turn.Use false ready else turn.Idle (Some sa)
@@ -93,10 +94,10 @@ token_heard refused da sa ts ps ready =
 abbrev pub claim_sent : (sent ready : ℕ) → turn.Phase
 claim_sent sent ready = if sent == 0 then turn.Claim 1 ready else turn.Use false ready
 
--- the token is sent to a next station, after some tries; one to the own address is a receipt
+-- the token is sent to a next station, after some tries; a token to the own address is a receipt
 abbrev pub token_sent : (tries ns ts ready : ℕ) → turn.Phase
 token_sent tries ns ts ready = if ns == ts then turn.Use false ready else turn.Checking (min tries_limit (tries + 1))
 
--- nobody took the token: after the last try it goes to another station
+-- no station took the token: after the last try it goes to another station
 abbrev pub not_taken : (tries ready : ℕ) → turn.Phase
 not_taken tries ready = if nat_le tries_limit tries then turn.Pass 0 ready else turn.Pass tries ready

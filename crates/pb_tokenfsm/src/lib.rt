@@ -1,8 +1,7 @@
 //! The states of a station that passes a token, as types.
 //!
-//! Each state is a type of its own, and each transition consumes the state that it leaves: a station
-//! is in one state, and only a [`Holding`] can say an initiator telegram. [`Phase`] is the enum of
-//! the states. No call takes memory.
+//! Each state is a type of its own, and each transition consumes the state that it leaves: a station is in one state,
+//! and only a [`Holding`] can send an initiator telegram. [`Phase`] is the enum of the states. No call takes memory.
 #![tactic(auto)]
 
 mod laws;

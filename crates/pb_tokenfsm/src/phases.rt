@@ -1,3 +1,5 @@
+//! The states of a station as one enum.
+
 ghost use Rattle.std.specs.Prelude.{◌≡◌};
 ghost use Rattle.pb_turn.specs.Phases as turn;
 ghost use Rattle.pb_turn.specs.Phases.{may_initiate};
@@ -10,7 +12,7 @@ use std::mem;
 /// The state that a station is in (IEC 61158-4-3, states of the data link layer of a master).
 #[derive(Debug, PartialEq, Eq, Drop)]
 pub enum Phase {
-    /// It does not run.
+    /// The station does not run.
     Offline(Offline),
     /// A passive station that runs.
     PassiveIdle(PassiveIdle),
@@ -18,23 +20,22 @@ pub enum Phase {
     Listening(Listening),
     /// A master in the ring, without the token.
     Idle(Idle),
-    /// It claims the token.
+    /// A master that claims the token.
     Claim(Holding<Claim>),
-    /// It uses the token.
+    /// A master that uses the token.
     Use(Holding<Use>),
-    /// It has sent a request, and waits for the reply.
+    /// A master that has sent a request and waits for the reply.
     AwaitData(Holding<AwaitData>),
-    /// It has asked a station for its status.
+    /// A master that has asked a station for its status.
     AwaitStatus(Holding<AwaitStatus>),
-    /// It passes the token.
+    /// A master that passes the token.
     Pass(Holding<Pass>),
-    /// It has passed the token, and waits for a sign that it was taken.
+    /// A master that has passed the token and waits for a sign that it was taken.
     Checking(Checking),
 }
 
 impl Phase {
-    /// Whether a station in this phase may say an initiator telegram: every `Holding`, and nothing
-    /// else.
+    /// Whether a station in this phase may send an initiator telegram: exactly if the phase is a `Holding`.
     pub fn may_initiate(&self) -> bool
         ensures { result ≡ may_initiate (phase_of self.now) }
     {
@@ -67,7 +68,7 @@ impl Phase {
         }
     }
 
-    /// Takes the phase out of its place, where Offline is left.
+    /// Takes the phase out, and leaves Offline in its place.
     pub fn take(&mut self) -> Phase
         ensures taken { result ≡ self.old }
         ensures left { phase_of self.new ≡ turn.Offline }
@@ -77,7 +78,7 @@ impl Phase {
         taken
     }
 
-    /// An equal phase, with which one can see what a turn would do.
+    /// An equal phase, to try out a turn on.
     pub fn copy(&self) -> Phase
         ensures { result ≡ self.now }
     {

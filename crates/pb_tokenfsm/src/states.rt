@@ -12,33 +12,33 @@ use arrayvec::ArrayVec;
 use pb_telegram::{Telegram, write, write_in};
 use pb_timers::Moment;
 
-/// How often the token is tried at a successor.
+/// How many times the token is sent to a successor before it is given up.
 pub const TRIES: u8 = 3;
 
-/// The token has been passed, and the station waits for a sign that it was taken.
+/// A master that has passed the token and waits for a sign that it was taken.
 #[derive(Debug, PartialEq, Eq, Drop)]
 pub struct Checking {
-    /// How often the token was sent to this successor, 1 to 3.
+    /// How many times the token was sent to this successor, 1 to 3.
     tries: u8,
 }
 
-/// A station that may initiate.
+/// A master that has the token: it may initiate.
 #[derive(Debug, PartialEq, Eq, Drop)]
 pub struct Holding<S> {
-    /// What it is about.
+    /// What it is doing with the token.
     state: S,
 }
 
-/// It claims the token, with two token telegrams to its own address.
+/// The master claims the token, with two token telegrams to its own address.
 #[derive(Clone, Copy, Debug, PartialEq, Eq)]
 pub struct Claim {
-    /// How many of the two are sent.
+    /// How many of the two are sent, 0 or 1.
     sent: u8,
     /// The earliest moment at which it speaks.
     ready: Moment,
 }
 
-/// It uses the token.
+/// The master uses the token.
 #[derive(Clone, Copy, Debug, PartialEq, Eq)]
 pub struct Use {
     /// Whether a station was asked for its status since the receipt of the token.
@@ -47,30 +47,30 @@ pub struct Use {
     ready: Moment,
 }
 
-/// It has sent an SDA or SRD, and waits for the reply.
+/// The master has sent an SDA or SRD and waits for the reply.
 #[derive(Clone, Copy, Debug, PartialEq, Eq)]
 pub struct AwaitData {
     /// Whether a station was asked for its status since the receipt of the token.
     asked: bool,
-    /// When the request is sent again, if it is.
+    /// When the request is sent again; `None` if it is not.
     retry: Option<Moment>,
-    /// Whether its slot still runs.
+    /// Whether the slot of the request is still open.
     slot: bool,
 }
 
-/// It has asked a station for its status.
+/// The master has asked a station for its status.
 #[derive(Clone, Copy, Debug, PartialEq, Eq)]
 pub struct AwaitStatus {
     /// The station that was asked.
     of: u8,
-    /// Whether its slot still runs.
+    /// Whether the slot of the request is still open.
     slot: bool,
 }
 
-/// It passes the token.
+/// The master passes the token.
 #[derive(Clone, Copy, Debug, PartialEq, Eq)]
 pub struct Pass {
-    /// How often the token was sent to this successor, 0 to 3.
+    /// How many times the token was sent to this successor, 0 to 3.
     tries: u8,
     /// The earliest moment at which it speaks.
     ready: Moment,
@@ -83,7 +83,7 @@ impl<S: Copy> Holding<S> {
         Holding { state: self.state }
     }
 
-    /// The octets of a telegram that the station says: a token or a request, the caller's condition.
+    /// The octets of a telegram that the station sends. The caller ensures that it is a token or a request.
     #[inline(always)]
     pub fn initiate(&self, telegram: &Telegram) -> ArrayVec<u8, 255>
         requires { IsInitiator telegram.now }
@@ -92,7 +92,7 @@ impl<S: Copy> Holding<S> {
         write(telegram)
     }
 
-    /// The same octets, in the place of others that are no longer wanted.
+    /// Replaces the content of `octets` by those of a telegram. The caller ensures that it is a token or a request.
     #[inline(always)]
     pub fn initiate_in(&self, telegram: &Telegram, octets: &mut ArrayVec<u8, 255>)
         requires { IsInitiator telegram.now }
@@ -101,7 +101,7 @@ impl<S: Copy> Holding<S> {
         write_in(telegram, octets);
     }
 
-    /// Another station is heard: the token is lost.
+    /// Another station is heard: this station has lost the token.
     pub fn on_foreign(self) -> Idle
         ensures { phase_of (Phase.Idle result) ≡ turn.Idle None }
     {
@@ -111,7 +111,7 @@ impl<S: Copy> Holding<S> {
 }
 
 impl Holding<Claim> {
-    /// A station that has sent no claim token yet.
+    /// A station that has not sent a claim token yet.
     pub(crate) fn claiming(ready: Moment) -> Holding<Claim>
         ensures { phase_of (Phase.Claim result) ≡ turn.Claim 0 ready }
     {
@@ -127,8 +127,8 @@ impl Holding<Claim> {
         self.state.ready
     }
 
-    /// A claim token is sent, and the station speaks again at `ready`: its second claim token after
-    /// the first, and then as it uses the token.
+    /// A claim token is sent. The station speaks again at `ready`: after the first claim token to send the second,
+    /// after the second to use the token.
     pub fn on_sent(self, ready: Moment) -> Phase
         ensures { phase_of result ≡ claim_sent (claims_sent self) ready }
     {
@@ -172,7 +172,7 @@ impl Holding<Use> {
         self.state.asked
     }
 
-    /// An SDA or SRD is sent, and its slot runs (EN 50170-2, message cycles).
+    /// An SDA or SRD is sent, and its slot opens (EN 50170-2, message cycles).
     pub fn ask(self) -> Holding<AwaitData>
         ensures { phase_of (Phase.AwaitData result) ≡ turn.AwaitData (has_asked self) None true }
     {
@@ -180,7 +180,7 @@ impl Holding<Use> {
         Holding::awaiting(state.asked, None, true)
     }
 
-    /// An SDN is sent, which nobody answers: the station speaks again at `ready`.
+    /// An SDN is sent, which is not answered. The station speaks again at `ready`.
     pub fn send(self, ready: Moment) -> Holding<Use>
         ensures { phase_of (Phase.Use result) ≡ turn.Use (has_asked self) ready }
     {
@@ -190,7 +190,7 @@ impl Holding<Use> {
         }
     }
 
-    /// A station is asked for its status, and its slot runs (EN 50170-2, request FDL status).
+    /// The station `of` is asked for its status, and the slot opens (EN 50170-2, request FDL status).
     pub fn ask_status(self, of: u8) -> Holding<AwaitStatus>
         ensures { phase_of (Phase.AwaitStatus result) ≡ turn.AwaitStatus of true }
     {
@@ -202,8 +202,8 @@ impl Holding<Use> {
         }
     }
 
-    /// Nothing is left to say but the token: it is passed at the moment at which the station was to
-    /// speak, to a successor that it was not sent to before.
+    /// Nothing but the token is left to send: it is passed at the moment at which the station was to speak, to a
+    /// successor to which it was not sent yet.
     pub fn done(self) -> Holding<Pass>
         ensures { (asked : Bool) (ready : ℕ) → phase_of (Phase.Use self) ≡ turn.Use asked ready
             → phase_of (Phase.Pass result) ≡ turn.Pass 0 ready }
@@ -226,14 +226,14 @@ impl Holding<AwaitData> {
         }
     }
 
-    /// When the request is sent again, if it is.
+    /// When the request is sent again; `None` if it is not.
     pub fn retry(&self) -> Option<Moment>
         ensures { result ≡ retry_at self.now }
     {
         self.state.retry
     }
 
-    /// Whether its slot still runs.
+    /// Whether the slot of the request is still open.
     pub fn slot(&self) -> bool
         ensures { result ≡ has_data_slot self.now }
     {
@@ -241,8 +241,8 @@ impl Holding<AwaitData> {
         slot
     }
 
-    /// Activity has begun at `at`: the request is not sent again before its end. The slot is over, save
-    /// where the activity is older than the own telegram, which began at `own`.
+    /// Activity has begun at `at`: the request is not sent again before that activity ends. The slot closes, unless the
+    /// activity began before the own telegram, at `own`.
     pub fn on_activity(self, own: Moment, at: Moment) -> Holding<AwaitData>
         ensures { phase_of (Phase.AwaitData result)
             ≡ turn.AwaitData (was_asked self) None (has_data_slot self && nat_lt at own) }
@@ -260,7 +260,7 @@ impl Holding<AwaitData> {
         Holding::awaiting(state.asked, Some(ready), false)
     }
 
-    /// Activity has ended that brought no reply: the request is sent again at `ready`.
+    /// Activity has ended and was no reply: the request is sent again at `ready`.
     pub fn on_damaged(self, ready: Moment) -> Holding<AwaitData>
         ensures { phase_of (Phase.AwaitData result)
             ≡ turn.AwaitData (was_asked self) (Some ready) (has_data_slot self) }
@@ -269,7 +269,7 @@ impl Holding<AwaitData> {
         Holding::awaiting(state.asked, Some(ready), state.slot)
     }
 
-    /// No retry is left: the request is not sent again, and no slot runs.
+    /// No retry is left: the request is not sent again, and its slot is closed.
     pub fn on_no_retry(self) -> Holding<AwaitData>
         ensures { phase_of (Phase.AwaitData result) ≡ turn.AwaitData (was_asked self) None false }
     {
@@ -277,7 +277,7 @@ impl Holding<AwaitData> {
         Holding::awaiting(asked, None, false)
     }
 
-    /// The request was sent again, and its slot runs.
+    /// The request was sent again, and its slot opens.
     pub fn again(self) -> Holding<AwaitData>
         ensures { phase_of (Phase.AwaitData result) ≡ turn.AwaitData (was_asked self) None true }
     {
@@ -307,14 +307,14 @@ impl Holding<AwaitStatus> {
         self.state.of
     }
 
-    /// Whether its slot still runs.
+    /// Whether the slot of the request is still open.
     pub fn slot(&self) -> bool
         ensures { result ≡ has_slot self.now }
     {
         self.state.slot
     }
 
-    /// Activity has begun: the slot is over, and the station waits for the activity's end.
+    /// Activity has begun: the slot closes, and the station waits for the end of the activity.
     pub fn on_activity(self) -> Holding<AwaitStatus>
         ensures { phase_of (Phase.AwaitStatus result) ≡ turn.AwaitStatus (asked_station self) false }
     {
@@ -326,7 +326,7 @@ impl Holding<AwaitStatus> {
         }
     }
 
-    /// A reply came, or none: the station uses the token again, and speaks at `ready`.
+    /// A reply was heard, or none: the station uses the token again, and speaks at `ready`.
     pub fn on_outcome(self, ready: Moment) -> Holding<Use>
         ensures { phase_of (Phase.Use result) ≡ turn.Use true ready }
     {
@@ -348,8 +348,8 @@ impl Holding<Pass> {
         ready
     }
 
-    /// The token is sent from `ts` to the next station `ns`. A token to the own address is a
-    /// receipt, and the station speaks at `ready`.
+    /// The token is sent from `ts` to the next station `ns`. A token to the own address is a receipt, and the station
+    /// speaks at `ready`.
     pub fn on_sent(self, ns: u8, ts: u8, ready: Moment) -> Phase
         ensures { phase_of result ≡ token_sent (tries_of (Phase.Pass self)) ns ts ready }
     {
@@ -372,15 +372,15 @@ impl Checking {
         Checking { tries: self.tries }
     }
 
-    /// How often the token was sent to this successor.
+    /// How many times the token was sent to this successor, 1 to 3.
     pub fn tries(&self) -> u8
         ensures { result ≡ tries_of (Phase.Checking self.now) }
     {
         self.tries
     }
 
-    /// Activity has begun, not before the own token, the caller's part. It is a sign that the token was
-    /// taken, a telegram or not: the station waits for the token again, and has refused nobody's.
+    /// Activity has begun. The caller ensures that it began no earlier than the own token. Whether it is a telegram or
+    /// not, it is the sign that the token was taken: the station waits for the token again, and has refused no token.
     pub fn on_activity(self) -> Idle
         ensures { phase_of (Phase.Idle result) ≡ turn.Idle None }
     {
@@ -388,8 +388,8 @@ impl Checking {
         Idle::new()
     }
 
-    /// The slot ended in silence: the token is passed again at `ready`. After the third time the
-    /// successor is given up (EN 50170-2, token passing), and the next one was not tried yet.
+    /// The slot ended in silence: the token is passed again at `ready`. After the third time the successor is given up
+    /// (EN 50170-2, token passing), and the token was not yet sent to the next one.
     pub fn on_silence(self, ready: Moment) -> Holding<Pass>
         ensures { phase_of (Phase.Pass result) ≡ not_taken (tries_of (Phase.Checking self)) ready }
     {

@@ -1,4 +1,4 @@
-//! The states of a station that waits.
+//! The states of a station without the token.
 
 ghost use Rattle.std.specs.Prelude.{◌≡◌, true, false, Some, None};
 ghost use Rattle.pb_turn.specs.Phases as turn;
@@ -13,26 +13,26 @@ use pb_timers::Moment;
 #[derive(Debug, PartialEq, Eq, Drop)]
 pub struct Offline;
 
-/// A passive station, which says nothing as an initiator.
+/// A passive station. It sends no telegram of an initiator.
 #[derive(Debug, PartialEq, Eq, Drop)]
 pub struct PassiveIdle;
 
-/// A master that listens for the ring, and takes no token.
+/// A master that listens for the ring and takes no token.
 #[derive(Debug, PartialEq, Eq, Drop)]
 pub struct Listening {
-    /// Whether a token was heard that had the own address as its source.
+    /// Whether a token from the station's own address was heard.
     doubled: bool,
 }
 
 /// A master in the ring that waits for the token.
 #[derive(Debug, PartialEq, Eq, Drop)]
 pub struct Idle {
-    /// The station whose token to this one was not accepted, if any.
+    /// The station whose token to this one was refused, if any.
     refused: Option<u8>,
 }
 
 impl Listening {
-    /// A station that begins to listen, and has heard nothing.
+    /// A station that starts to listen and has heard nothing.
     pub fn new() -> Listening
         ensures { phase_of (Phase.Listening result) ≡ turn.Listening false }
     {
@@ -47,15 +47,14 @@ impl Listening {
         }
     }
 
-    /// Whether a token was heard that had the own address as its source.
+    /// Whether a token from the station's own address was heard.
     pub fn doubled(&self) -> bool
         ensures { result ≡ is_doubled self.now }
     {
         self.doubled
     }
 
-    /// A first token is heard that has the own address as its source: another station may have the
-    /// same address.
+    /// A first token from the station's own address is heard: another station may have that address.
     pub fn on_namesake(self) -> Listening
         ensures { phase_of (Phase.Listening result) ≡ turn.Listening true }
     {
@@ -63,8 +62,7 @@ impl Listening {
         Listening { doubled: true }
     }
 
-    /// A second such token is heard: the station gives way to its namesake (EN 50170-2, duplicate
-    /// address).
+    /// A second token from its own address is heard: the station goes offline (EN 50170-2, duplicate address).
     pub fn on_double(self) -> Offline
         ensures { phase_of (Phase.Offline result) ≡ turn.Offline }
     {
@@ -72,7 +70,7 @@ impl Listening {
         Offline
     }
 
-    /// The station has said that it is ready, and is in the ring.
+    /// The station has replied that it is ready, and is now in the ring.
     pub fn on_ready(self) -> Idle
         ensures { phase_of (Phase.Idle result) ≡ turn.Idle None }
     {
@@ -90,7 +88,7 @@ impl Listening {
 }
 
 impl Idle {
-    /// A station that has refused nobody's token.
+    /// A station that has refused no token.
     pub(crate) fn new() -> Idle
         ensures { phase_of (Phase.Idle result) ≡ turn.Idle None }
     {
@@ -105,10 +103,9 @@ impl Idle {
         }
     }
 
-    /// A whole token telegram is heard by the station `ts` with the previous station `ps`. A token
-    /// to `ts` is accepted from `ps`, and from the station whose token was not accepted before
-    /// (EN 50170-2, token passing); the station speaks at `ready` then. From another station it is
-    /// not accepted, and that station is remembered.
+    /// The station `ts` with the previous station `ps` hears a whole token telegram. A token to `ts` is accepted from
+    /// `ps`, and from the station whose token was refused before (EN 50170-2, token passing); then the station speaks
+    /// at `ready`. A token to `ts` from any other station is refused, and that station is remembered.
     pub fn hear_token(self, token: &TokenTelegram, ts: u8, ps: u8, ready: Moment) -> Phase
         ensures { phase_of result ≡ token_heard (refused_by self) token.now.da token.now.sa ts ps ready }
     {
@@ -132,7 +129,7 @@ impl Idle {
         Holding::claiming(ready)
     }
 
-    /// The token has skipped the station too often: it listens anew, with nothing heard.
+    /// The token has skipped the station too often: the station listens again, and has heard nothing.
     pub fn on_skipped(self) -> Listening
         ensures { phase_of (Phase.Listening result) ≡ turn.Listening false }
     {

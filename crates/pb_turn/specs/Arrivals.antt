@@ -5,7 +5,7 @@ use Rattle.pb_telegram.specs.declared.chars.RxChar.{RxChar}
 use Rattle.pb_telegram.specs.declared.faults.TelegramFault.{TelegramFault}
 use Rattle.pb_messages.specs.Fields.{Fields}
 
--- a token telegram, a request or a reply with a control octet, the acknowledgement, or no telegram that is whole
+-- a token telegram, a request or a reply with a control octet, the acknowledgement, or no whole telegram
 pub data Arrival : Type 0 where
   Token : (da sa : ℕ) → Arrival
   Framed : Fields → Arrival
@@ -21,7 +21,7 @@ fields_of xs = record {
   unit = unit_of xs;
 }
 
--- what octets without a fault bring
+-- the arrival of octets without a fault
 abbrev pub telegram_arrival : List ℕ → Arrival
 telegram_arrival xs =
     if is_token xs then Token (slice_index xs 1) (slice_index xs 2)

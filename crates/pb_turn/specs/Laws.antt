@@ -1,4 +1,4 @@
--- What the laws of a turn speak of.
+-- The words of the laws of a turn.
 use Rattle.std.specs.Prelude.{◌≡◌, ℕ, ◌+◌, ◌<◌, ◌≤◌, Bool, true, false, ◌&&◌, ◌||◌, List, [], length, All, Option, IfSome, IsSome, None}
 use Rattle.pb_telegram.specs.Faults.{is_token, has_control}
 use Rattle.pb_timers.specs.Timers.{Params}
@@ -16,7 +16,7 @@ use Rattle.pb_turn.specs.Stations.{Station, Cycles, Reply, due_of, speaks_at}
 abbrev pub IsDueLater : Params → Station → ℕ → Type 0
 IsDueLater p s now = IfSome (due_of p s []) (λ due. now < due)
 
--- a phase in which nobody is asked for the status again before the next receipt
+-- a phase in which no station is asked for its status again before the next receipt
 abbrev pub HasAsked : Phase → Type 0
 HasAsked Offline = ⊥
 HasAsked PassiveIdle = ⊥
@@ -42,7 +42,7 @@ is_asking (AwaitStatus of slot) = true
 is_asking (Pass tries ready) = false
 is_asking (Checking tries) = false
 
--- a reply is waited for
+-- the station waits for a reply
 abbrev pub awaits_reply : Phase → Bool
 awaits_reply Offline = false
 awaits_reply PassiveIdle = false
@@ -55,7 +55,7 @@ awaits_reply (AwaitStatus of slot) = true
 awaits_reply (Pass tries ready) = false
 awaits_reply (Checking tries) = false
 
--- the reply of a station to a request for its status: its control octet, and whether the station joins the ring with it
+-- the reply of a station to a request for its status: its control octet, and whether the station joins the ring by it
 abbrev pub status_reply_of : Params → Station → ℕ → Fields → ℕ → Bool → Reply
 status_reply_of p s at f fc joins = record {
   ready = at + p.tsdr;
@@ -67,7 +67,7 @@ status_reply_of p s at f fc joins = record {
 abbrev pub are_initiator : List ℕ → Bool
 are_initiator xs = is_token xs || (has_control xs && has_bit (fields_of xs).fc 6)
 
--- octets of a telegram that a station without the token may say
+-- octets of a telegram that a station without the token may send
 pub record IsReply (octets : List ℕ) : Type 0 where
   pub no_initiator : are_initiator octets ≡ false
   pub some : 0 < length octets
@@ -77,11 +77,11 @@ pub record IsReply (octets : List ℕ) : Type 0 where
 abbrev pub HasReply : Station → Type 0
 HasReply s = IfSome s.reply (λ r. IsReply r.octets)
 
--- data that fits into a telegram
+-- data that fits in a telegram
 abbrev pub Fits : List ℕ → Type 0
 Fits unit = length unit ≤ 246
 
--- a request with an address and with data that it may have
+-- a request with a valid address and valid data
 pub record IsRequest (r : RequestFields) : Type 0 where
   pub addressed : IsAddressed r.da r.service
   pub fits : Fits r.unit
@@ -92,7 +92,7 @@ pub record IsOpenRequest (o : OpenRequest) : Type 0 where
   pub fits : Fits o.sent.unit
   pub request : has_bit o.sent.fc 6 ≡ true
 
--- what a station keeps of its message cycles can be said
+-- a station can send what it keeps of its message cycles
 pub record AreCycles (c : Cycles) : Type 0 where
   pub high : All IsRequest c.queue.high
   pub low : All IsRequest c.queue.low
@@ -100,11 +100,11 @@ pub record AreCycles (c : Cycles) : Type 0 where
   pub unit : Fits c.responder.reply
   pub kept : IfSome c.responder.kept (λ k. IsReply (reply_octets k.reply))
 
--- the station can say what it keeps of its message cycles
+-- the same for a station
 abbrev pub HasCycles : Station → Type 0
 HasCycles s = AreCycles s.cycles
 
--- a phase that waits for a reply has an open request, and a retry left where it has a moment at which it is sent again
+-- a phase that waits for a reply has an open request, and a retry left if it has a moment to send it again
 abbrev pub HasOpen : Option OpenRequest → Phase → Type 0
 HasOpen pending Offline = Unit {0}
 HasOpen pending PassiveIdle = Unit {0}
@@ -117,7 +117,7 @@ HasOpen pending (AwaitStatus of slot) = Unit {0}
 HasOpen pending (Pass tries ready) = Unit {0}
 HasOpen pending (Checking tries) = Unit {0}
 
--- a station that waits for a reply has an open request, and a retry left where it waits to send it again
+-- a station that waits for a reply has an open request, and a retry left if it waits to send it again
 abbrev pub HasOpenRequest : Station → Type 0
 HasOpenRequest s = HasOpen s.cycles.initiator.pending s.phase
 
@@ -134,7 +134,7 @@ WaitsInPlace (AwaitStatus of slot) reply = reply ≡ None
 WaitsInPlace (Pass tries ready) reply = reply ≡ None
 WaitsInPlace (Checking tries) reply = reply ≡ None
 
--- a station that is busy has nothing to say, and keeps no reply for a phase that answers no requests
+-- a busy station has nothing to send, and keeps no reply in a phase that answers no requests
 pub record IsSilentWhileBusy (s : Station) : Type 0 where
   pub silent : s.busy ≡ true → speaks_at s ≡ None
   pub in_place : WaitsInPlace s.phase s.reply

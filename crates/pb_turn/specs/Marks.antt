@@ -1,13 +1,13 @@
--- What a station is told of the bus.
+-- How a station hears the bus.
 use Rattle.std.specs.Prelude.{◌≡◌, ℕ, Bool, true, false, List, [], ◌∷◌}
 use Rattle.pb_telegram.specs.declared.chars.RxChar.{RxChar}
 
--- activity of others begins or ends at a moment; the mark is delivered at the moment `seen`. An end brings the characters.
+-- activity of others begins or ends at a moment; the mark is delivered at the moment `seen`; an End has the characters
 pub data Mark : Type 0 where
   Begin : (at seen : ℕ) → Mark
   End : (at seen : ℕ) (chars : List RxChar) → Mark
 
--- the mark's own moment
+-- the moment of the begin or end
 abbrev pub moment_of : Mark → ℕ
 moment_of (Begin at seen) = at
 moment_of (End at seen chars) = at
@@ -16,7 +16,7 @@ abbrev pub seen_at : Mark → ℕ
 seen_at (Begin at seen) = seen
 seen_at (End at seen chars) = seen
 
--- Begins and Ends take turns, from whether there is activity before to whether there is some after
+-- Begins and Ends alternate, from whether there is activity before to whether there is some after
 abbrev pub Alternates : Bool → List Mark → Bool → Type 0
 Alternates before [] after = before ≡ after
 Alternates true (Begin at seen ∷ ms) after = ⊥

@@ -1,4 +1,4 @@
--- What a station has heard, done, asked and received since its tables began, and that the tables stand for it.
+-- What a station has heard, done, asked and received since its tables began, and that the tables represent it.
 use Rattle.std.specs.Prelude.{◌≡◌, ℕ, reverse, is_some, ◌+◌, ◌<◌, Bool, if◌then◌else◌, ◌==◌, nat_lt, nat_le, List, [], ◌∷◌, ◌++◌, Option, Some, None}
 use Rattle.pb_timers.specs.Timers.{Params}
 use Rattle.pb_ring.specs.Gap.{next_asked, last_asked}
@@ -26,17 +26,17 @@ use Rattle.pb_turn.specs.Stations.{Station, Reply, timer_of, speaks_at, next_sta
 use Rattle.pb_turn.specs.Turns.{after_marks, settled, looks_at_gap, high_request, low_request}
 
 pub record Past : Type 0 where
-  -- whether the station claimed the token, with which address, or listened
+  -- the address with which the station claimed the token; none if it listened
   pub claim : Option ℕ
-  -- what concerns the list of active stations since
+  -- the items of the list of active stations since then
   pub items : List Item
-  -- the looks for a station in the GAP
+  -- the looks for a station in the GAP since then
   pub looks : List Look
-  -- the receipts of the token, and cycles of high priority
+  -- the receipts of the token, and the starts of high priority cycles, since then
   pub happenings : List Happening
-  -- what was done as an initiator, since the start
+  -- the acts as an initiator, since the start
   pub acts : List Act
-  -- what was heard as a responder, since the start
+  -- the messages heard as a responder, since the start
   pub heard : List responder.Heard
 
 abbrev pub nothing : Past
@@ -69,11 +69,11 @@ with_heard past station_type f = record past { heard = past.heard ++ record { st
 
 -- ---- timers
 
--- the tables of the ring begin anew
+-- the tables of the ring begin again
 abbrev pub past_claimed : Station → Past → Past
 past_claimed s past = record past { claim = Some s.address; items = []; looks = []; happenings = [] }
 
--- nothing came in answer to the open request: it is given up where no retry is left
+-- the open request had no reply: it is given up if no retry is left
 abbrev pub past_not_answered : Station → Past → Past
 past_not_answered s past =
     if is_some (retry_of s.cycles.initiator.pending) then past
@@ -100,7 +100,7 @@ past_after_timer p limit s past = past_timed_out s (timer_of p s) limit past
 
 -- ---- marks
 
--- a token that Idle hears: taken, refused, or the second that skips the station, which then listens with nothing heard
+-- a token heard in Idle: accepted, refused, or the second that skips the station, which then listens with an empty list
 abbrev pub past_in_idle : Station → Option ℕ → ℕ → ℕ → ℕ → Past → Past
 past_in_idle s refused at da sa past =
     if da == s.address
@@ -113,7 +113,7 @@ past_idle_hears s refused at (Framed f) past = with_heard past in_ring f
 past_idle_hears s refused at Acknowledgement past = past
 past_idle_hears s refused at NoTelegram past = past
 
--- in any other phase the token is heard, and no more
+-- in any other phase the token is only heard
 abbrev pub past_hears : Arrival → Past → Past
 past_hears (Token da sa) past = with_token past da sa
 past_hears (Framed f) past = past
@@ -130,7 +130,7 @@ past_awaiting_status s of (Framed f) past = if has_bit f.fc 6 then past else pas
 past_awaiting_status s of Acknowledgement past = past
 past_awaiting_status s of NoTelegram past = past
 
--- a passive station hears requests alone
+-- a passive station hears only requests
 abbrev pub past_passive_hears : Arrival → Past → Past
 past_passive_hears (Token da sa) past = past
 past_passive_hears (Framed f) past = with_heard past passive f
@@ -187,7 +187,7 @@ past_no_request p s asked now past =
     if looks_at_gap p s asked now then past_look s (next_asked s.address (next_station s) p.hsa (last_asked s.gap)) now past
     else past_token_sent s (next_station s) now past
 
--- a request is sent, an SDN told, an SDA or SRD opened
+-- a request is sent: the act is `Told` for an SDN, and `Opened` for an SDA or SRD
 abbrev pub past_request : Station → RequestFields → Past → Past
 past_request s r past = with_act past (sending_act r (first_sending s.cycles.initiator s.address r))
 
@@ -207,7 +207,7 @@ abbrev pub past_again : Option Fields → Past → Past
 past_again None past = past
 past_again (Some f) past = with_act past (Resent f)
 
--- a station that joins the ring begins its round and its rotation anew
+-- a station that joins the ring begins its GAP round and its rotation again
 abbrev pub past_ready : Station → Option Reply → Past → Past
 past_ready s None past = past
 past_ready s (Some r) past = if r.joins then record (with_item past (Joins s.address)) { looks = []; happenings = [] } else past
@@ -234,9 +234,9 @@ past_after_turn p s marks now past =
     let at_clock = settled p s marks now in
     past_speech p at_clock (speaks_at at_clock) now (past_after_timer p (now + 1) (after_marks p s marks) (past_after_marks p s marks past))
 
--- ---- what the tables stand for
+-- ---- what the tables represent
 
--- the station that is asked for its status has an address of a station
+-- the address of the station that is asked for its status is that of a station
 abbrev pub AsksStation : Phase → Type 0
 AsksStation Offline = Unit {0}
 AsksStation PassiveIdle = Unit {0}
@@ -249,7 +249,7 @@ AsksStation (AwaitStatus of slot) = of < 127
 AsksStation (Pass tries ready) = Unit {0}
 AsksStation (Checking tries) = Unit {0}
 
--- the newest outcome of a cycle, with its station; the newest act comes first
+-- the newest outcome of a cycle, with its station; the newest act is first
 abbrev pub newest_outcome : List Act → Option (ℕ × Outcome)
 newest_outcome [] = None
 newest_outcome (Told f ∷ older) = newest_outcome older

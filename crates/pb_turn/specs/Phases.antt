@@ -5,19 +5,20 @@ use Rattle.std.specs.Prelude.{ℕ, Bool, true, false, Option}
 pub data Phase : Type 0 where
   Offline : Phase
   PassiveIdle : Phase
-  -- whether a token was heard that had the own address as its source
+  -- whether a token from the own address was heard
   Listening : (doubled : Bool) → Phase
-  -- with the station whose token to this one was not accepted
+  -- the station whose token to this one was refused
   Idle : (refused : Option ℕ) → Phase
-  -- with how many of the two claim tokens are sent
+  -- how many of the two claim tokens are sent
   Claim : (sent ready : ℕ) → Phase
-  -- with whether a station was asked for its status since the receipt of the token
+  -- whether a station was asked for its status since the receipt of the token
   Use : (asked : Bool) (ready : ℕ) → Phase
-  -- with whether a station was asked for its status since the receipt, when the request is sent again, if it is, and whether the slot still runs
+  -- whether a station was asked for its status since the receipt, when the request is sent again, if it is, and whether
+  -- the slot is still open
   AwaitData : (asked : Bool) (retry : Option ℕ) (slot : Bool) → Phase
-  -- with the station that was asked for its status, and whether its slot still runs
+  -- the station that was asked for its status, and whether the slot is still open
   AwaitStatus : (of : ℕ) (slot : Bool) → Phase
-  -- with how often the token was sent to this successor
+  -- how many times the token was sent to this successor
   Pass : (tries ready : ℕ) → Phase
   -- the token is sent, and the station waits for a sign that it was taken
   Checking : (tries : ℕ) → Phase
@@ -35,7 +36,7 @@ may_initiate (AwaitStatus of slot) = true
 may_initiate (Pass tries ready) = true
 may_initiate (Checking tries) = false
 
--- whether the station answers requests: it neither holds the token nor checks what became of it
+-- whether the station answers requests: it neither holds the token nor checks whether it was taken
 abbrev pub answers_requests : Phase → Bool
 answers_requests Offline = false
 answers_requests PassiveIdle = true

@@ -15,7 +15,7 @@ use Rattle.pb_turn.specs.Spans.{Span}
 use Rattle.pb_turn.specs.Marks.{Mark, seen_at}
 use Rattle.pb_turn.specs.Phases.{Phase, Offline, PassiveIdle, Listening, Idle, Claim, Use, AwaitData, AwaitStatus, Pass, Checking}
 
--- A reply that is not sent yet. One that says that the station is ready takes it into the ring.
+-- A reply that is not sent yet. By one that says that it is ready, the station joins the ring.
 pub record Reply : Type 0 where
   pub ready : ℕ
   pub octets : List ℕ
@@ -27,22 +27,22 @@ pub record Cycles : Type 0 where
   pub queue : Queued
   pub initiator : InitiatorTable
   pub responder : ResponderTable
-  -- the station of the last cycle with an outcome, and that
+  -- the last outcome of a cycle, with its station
   pub last_outcome : Option (ℕ × Outcome)
 
 pub record Station : Type 0 where
   pub address : ℕ
   pub phase : Phase
-  -- from a Begin to its End
+  -- whether a Begin was read and its End was not
   pub busy : Bool
   -- the latest of its start, its last End and the end of its own last telegram
   pub quiet : ℕ
-  -- its own last telegram; before it the empty stretch at its start
+  -- its own last telegram; if there is none, the empty stretch at its start
   pub own : Span
   pub reply : Option Reply
   -- the list of active stations
   pub las : LasTable
-  -- the round of questions to the GAP
+  -- the GAP round
   pub gap : Round
   pub rotation : Rotation
   pub cycles : Cycles
@@ -57,15 +57,15 @@ previous_station s = previous_address s.address (members_of s.las.stage)
 
 -- ---- moments
 
--- silence has lasted a time-out
+-- when silence has lasted for the time-out
 abbrev pub silence_timer : Params → Station → ℕ
 silence_timer p s = s.quiet + tto p s.address
 
--- a slot after the own telegram
+-- when the slot after the own telegram ends
 abbrev pub slot_timer : Params → Station → ℕ
 slot_timer p s = s.own.end + p.tsl
 
--- the timer that a phase has while nothing is heard
+-- the timer of a phase while nothing is heard
 abbrev pub phase_timer : Params → Station → Phase → Option ℕ
 phase_timer p s Offline = None
 phase_timer p s PassiveIdle = None
@@ -86,7 +86,7 @@ abbrev pub reply_moment : Option Reply → Option ℕ
 reply_moment None = None
 reply_moment (Some r) = Some r.ready
 
--- the moment at which a phase speaks: a holder when it is ready, another with a reply
+-- the moment at which a phase speaks: a holder when it is ready, any other with a reply
 abbrev pub phase_speaks : Option Reply → Phase → Option ℕ
 phase_speaks reply Offline = None
 phase_speaks reply PassiveIdle = reply_moment reply
@@ -106,19 +106,19 @@ abbrev pub first_seen : List Mark → Option ℕ
 first_seen [] = None
 first_seen (m ∷ ms) = Some (seen_at m)
 
--- the earlier of two moments, of which either may be missing
+-- the earlier of two moments; if one is none, the other
 abbrev pub earlier : Option ℕ → Option ℕ → Option ℕ
 earlier None b = b
 earlier (Some a) None = Some a
 earlier (Some a) (Some b) = Some (min a b)
 
--- when the station has to take its turn: the first unread mark, the timer or the speaking moment
+-- when the station has to take its turn: at the first unread mark, the timer or the speaking moment
 abbrev pub due_of : Params → Station → List Mark → Option ℕ
 due_of p s marks = earlier (first_seen marks) (earlier (timer_of p s) (speaks_at s))
 
 -- ---- a new station, and one that starts
 
--- nothing waits, was sent or was heard yet
+-- nothing waits, and nothing was sent or heard
 abbrev pub new_cycles : Params → List ℕ → Cycles
 new_cycles p reply = record {
   queue = record { high = []; low = [] };
@@ -127,7 +127,7 @@ new_cycles p reply = record {
   last_outcome = None;
 }
 
--- a station with an address, and the data that it replies to a request for data
+-- a station with an address, and the data with which it replies to a request for data
 abbrev pub new_station : Params → ℕ → List ℕ → Station
 new_station p address reply = record {
   address = address;
@@ -150,7 +150,7 @@ started p s master now = record (new_station p s.address s.cycles.responder.repl
   own = record { begin = now; end = now };
 }
 
--- a station that stops says nothing more; all else stays
+-- a station that stops sends nothing more; all else is unchanged
 abbrev pub stopped : Station → Station
 stopped s = record s { phase = Offline; reply = None }
 
@@ -158,7 +158,7 @@ stopped s = record s { phase = Offline; reply = None }
 abbrev pub list_for : Queued → RequestFields → List RequestFields
 list_for q r = if r.high then q.high else q.low
 
--- a request waits behind the others of its priority, where its list has room
+-- a request is appended to those of its priority, if their list is not full
 abbrev pub queued : Queued → RequestFields → Queued
 queued q r = if r.high then record q { high = put q.high r } else record q { low = put q.low r }
 

@@ -1,4 +1,5 @@
--- The turn of a station: it reads its unread marks and the timers between them in order of time, and then speaks if it is due.
+-- The turn of a station: it reads its unread marks, and the timers between them, in order of time, and then speaks if
+-- it is due.
 use Rattle.std.specs.Prelude.{ℕ, ◌+◌, Bool, true, false, not, if◌then◌else◌, ◌==◌, nat_le, ◌&&◌, List, [], ◌∷◌, drop, length, max, min, Option, Some, None}
 use Rattle.pb_telegram.specs.Grammar.{sd4}
 use Rattle.pb_timers.specs.Timers.{Params, bits}
@@ -16,7 +17,7 @@ use Rattle.pb_turn.specs.Marks.{Mark, moment_of}
 use Rattle.pb_turn.specs.Phases.{Phase, Offline, PassiveIdle, Listening, Idle, Claim, Use, AwaitData, AwaitStatus, Pass, Checking}
 use Rattle.pb_turn.specs.Stations.{Station, Reply, speaks_at, next_station}
 
--- the station after its unread marks, and the timers that end before each; a mark comes first at a tie
+-- the station after its unread marks, and the timers that end before each; at equal moments the mark comes first
 abbrev pub after_marks : Params → Station → List Mark → Station
 after_marks p s [] = s
 after_marks p s (m ∷ ms) = after_marks p (after_mark p (after_timer p (moment_of m) s) m) ms
@@ -37,7 +38,7 @@ status_request = 0x49
 abbrev pub status_request_octets : ℕ → ℕ → List ℕ
 status_request_octets da sa = frame_octets (record { da = da; sa = sa; fc = status_request; unit = [] })
 
--- a station that says octets at the clock
+-- a station that sends octets at the clock
 abbrev pub saying : Station → ℕ → List ℕ → Station
 saying s now octets = record s {
   own = record { begin = now; end = now + bits (length octets) };
@@ -48,7 +49,7 @@ saying s now octets = record s {
 abbrev pub received_own : Params → Station → Station
 received_own p s = record s { phase = Use false (s.own.end + p.tid1); rotation = received s.rotation s.own.end }
 
--- the token is sent to a next station, after some tries; one that goes to the own address is a receipt
+-- the token is sent to a next station, after some tries; a token to the own address is a receipt
 abbrev pub token_sent : Params → Station → ℕ → ℕ → Station
 token_sent p s tries ns = if ns == s.address then received_own p s else record s { phase = Checking (min tries_limit (tries + 1)) }
 
@@ -57,7 +58,7 @@ says_token p s tries now =
     let octets = token_octets (next_station s) s.address in
     (token_sent p (saying s now octets) tries (next_station s), Some octets)
 
--- after a claim token the second follows; after that the station holds the token
+-- after the first claim token the second follows; after that the station holds the token
 abbrev pub claim_sent : Params → Station → ℕ → Station
 claim_sent p s sent = if sent == 0 then record s { phase = Claim 1 (s.own.end + p.tid1) } else received_own p s
 
@@ -66,18 +67,19 @@ says_claim p s sent now =
     let octets = token_octets s.address s.address in
     (claim_sent p (saying s now octets) sent, Some octets)
 
--- whether the station looks for others in its GAP: time is left, it asked none since the receipt, and a round is due
+-- whether the station asks a station of its GAP: holding time is left, it asked none since the receipt, and a round is
+-- due
 abbrev pub looks_at_gap : Params → Station → Bool → ℕ → Bool
 looks_at_gap p s asked now = may_low s.rotation now && (not asked && is_due s.gap now p.ttr p.gap)
 
--- the look: a station of the GAP is asked for its status; where none is left, the token goes on
+-- a station of the GAP is asked for its status; if none is left, the token is passed
 abbrev pub says_look : Params → Station → Option ℕ → ℕ → Station × Option (List ℕ)
 says_look p s None now = says_token p (record s { gap = round_after None now }) 0 now
 says_look p s (Some a) now =
     let octets = status_request_octets a s.address in
     (record (saying s now octets) { phase = AwaitStatus a true; gap = round_after (Some a) now }, Some octets)
 
--- no request waits that may be sent
+-- no request may be sent
 abbrev pub says_no_request : Params → Station → Bool → ℕ → Station × Option (List ℕ)
 says_no_request p s asked now =
     if looks_at_gap p s asked now then says_look p s (next_asked s.address (next_station s) p.hsa (last_asked s.gap)) now
@@ -90,7 +92,7 @@ abbrev pub longest_waiting : List RequestFields → Option RequestFields
 longest_waiting [] = None
 longest_waiting (r ∷ rs) = Some r
 
--- the request of high priority, or of low priority, that may be sent at a moment
+-- the request of high, or of low, priority that may be sent at a moment
 abbrev pub high_request : Station → ℕ → Option RequestFields
 high_request s now = if may_high s.rotation now then longest_waiting s.cycles.queue.high else None
 
@@ -107,11 +109,11 @@ high_taken s = record s {
 abbrev pub low_taken : Station → Station
 low_taken s = record s { cycles = record s.cycles { queue = record s.cycles.queue { low = drop 1 s.cycles.queue.low } } }
 
--- after a request: an SDA or SRD waits for its answer, an SDN for the second idle time
+-- after a request: an SDA or SRD waits for its reply, an SDN for idle time 2
 abbrev pub request_sent : Params → Station → Bool → RequestFields → Station
 request_sent p s asked r = if is_answered r.service then record s { phase = AwaitData asked None true } else record s { phase = Use asked (s.own.end + p.tid2) }
 
--- a request is said
+-- a request is sent
 abbrev pub says_request : Params → Station → Bool → RequestFields → ℕ → Station × Option (List ℕ)
 says_request p s asked r now =
     let octets = frame_octets (first_sending s.cycles.initiator s.address r) in (
@@ -127,7 +129,8 @@ abbrev pub says_high : Params → Station → Bool → Option RequestFields → 
 says_high p s asked (Some r) now = says_request p (high_taken s) asked r now
 says_high p s asked None now = says_low p s asked (low_request s now) now
 
--- a station that uses the token sends requests, of high priority first, as long as it may, then looks for others in its GAP, then passes the token on
+-- a station that uses the token sends requests, of high priority first, as long as it may; then asks its GAP; then
+-- passes the token
 abbrev pub says_in_use : Params → Station → Bool → ℕ → Station × Option (List ℕ)
 says_in_use p s asked now = says_high p s asked (high_request s now) now
 
@@ -158,12 +161,12 @@ abbrev pub says_reply : Station → Option Reply → ℕ → Station × Option (
 says_reply s None now = (s, None)
 says_reply s (Some r) now = (replying s now r, Some r.octets)
 
--- one that listens joins the ring with the reply that it is ready
+-- a listening station joins the ring by the reply that it is ready
 abbrev pub says_ready : Station → Option Reply → ℕ → Station × Option (List ℕ)
 says_ready s None now = (s, None)
 says_ready s (Some r) now = (if r.joins then joining (replying s now r) else replying s now r, Some r.octets)
 
--- what a phase says at the clock
+-- what a phase sends at the clock
 abbrev pub phase_says : Params → Station → Phase → ℕ → Station × Option (List ℕ)
 phase_says p s Offline now = (s, None)
 phase_says p s PassiveIdle now = says_reply s s.reply now
@@ -180,6 +183,6 @@ abbrev pub speech : Params → Station → Option ℕ → ℕ → Station × Opt
 speech p s None now = (s, None)
 speech p s (Some moment) now = if nat_le moment now then phase_says p s s.phase now else (s, None)
 
--- the station after its turn, and what it says
+-- the station after its turn, and what it sends
 abbrev pub turn_of : Params → Station → List Mark → ℕ → Station × Option (List ℕ)
 turn_of p s marks now = let at_clock = settled p s marks now in speech p at_clock (speaks_at at_clock) now

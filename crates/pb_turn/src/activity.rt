@@ -1,4 +1,4 @@
-//! Rules of activity: what a station makes of a Begin, of an End, and of a reply to its question.
+//! Rules of activity: how a station reacts to a Begin, to an End, and to the reply to its request for a status.
 
 ghost use Rattle.std.specs.Prelude.{◌≡◌, ◌≢◌, ◌+◌, ◌<◌, ◌≤◌, ◌==◌, ◌%◌, ◌/◌, List, [], ◌∷◌, length, max, ℕ, Bool, true, false, Some, None, Option};
 ghost use Rattle.pb_telegram.specs.declared.chars.RxChar.{RxChar};
@@ -17,8 +17,8 @@ ghost use Rattle.pb_turn.specs.Phases.{Listening, Idle, Claim, Use, AwaitData, A
 ghost use Rattle.pb_turn.specs.Stations.{Station, Reply, started, earlier, due_of};
 ghost use Rattle.pb_turn.specs.Turns.{settled, phase_says, turn_of};
 
-/// What a station that waits knows outlasts the beginning of activity. Only a slot is over then, save where
-/// the activity began before the own telegram.
+/// A waiting station keeps what it knows when activity begins. Only its slot ends, unless the activity began before its
+/// own telegram.
 pub fn what_a_station_knows_outlasts_a_begin()
     ensures namesake { (p : Params) (s : Station) (doubled : Bool) (at seen : ℕ)
         → s.phase ≡ Listening doubled → (after_mark p s (Begin at seen)).phase ≡ Listening doubled }
@@ -38,8 +38,8 @@ pub fn what_a_station_knows_outlasts_a_begin()
         → (after_mark p s (Begin at seen)).phase ≡ AwaitData asked None slot }
 {}
 
-/// A station that holds the token gives it up as activity begins, and one that waits for a reply where it hears
-/// a token, of which its list takes note.
+/// A station that holds the token gives it up when activity begins. One that waits for a reply gives it up when it
+/// hears a token, and enters that token into its list.
 pub fn a_holder_gives_way()
     ensures claim { (p : Params) (s : Station) (sent ready at seen : ℕ) → s.phase ≡ Claim sent ready
         → (after_mark p s (Begin at seen)).phase ≡ Idle None }
@@ -55,8 +55,8 @@ pub fn a_holder_gives_way()
         ≡ record s { phase = Idle None; las = las.heard s.las sa da } }
 {}
 
-/// What a station without the token knows outlasts what it hears and replies, where that says nothing of it: whose
-/// token it refused, and whether it heard a namesake. One that says that it is ready has refused nobody.
+/// A station without the token keeps what it knows through telegrams and replies that say nothing about it: whose token
+/// it refused, and whether it heard a namesake. A station that replies that it is ready has refused no token.
 pub fn what_a_station_knows_outlasts_its_replies()
     ensures asked { (p : Params) (s : Station) (refused : Option ℕ) (at : ℕ) (f : Fields)
         → (idle_hears p s refused at (Framed f)).phase ≡ s.phase }
@@ -75,8 +75,8 @@ pub fn what_a_station_knows_outlasts_its_replies()
         → (phase_says p s (Listening doubled) now).0.phase ≡ Idle None }
 {}
 
-/// An End that brings no telegram, or an acknowledgement that nobody waits for, tells a station no more than
-/// that the bus is quiet. A reply that is not sent yet stays.
+/// An End without a telegram, or with an acknowledgement that the station does not wait for, only says that the bus is
+/// quiet. A reply that is not sent yet stays.
 pub fn what_is_no_telegram_tells_nothing()
     ensures damage { (p : Params) (s : Station) (at seen : ℕ) (chars : List RxChar)
         → is_offline s.phase ≡ false → awaits_reply s.phase ≡ false → arrival_of chars ≡ NoTelegram
@@ -87,9 +87,9 @@ pub fn what_is_no_telegram_tells_nothing()
         ≡ record s { busy = false; quiet = max s.quiet at } }
 {}
 
-/// After an End, whatever it brings, a station is no longer busy, and the bus has been quiet since it, or
-/// since what ended later, of others or of itself. A Begin changes nothing of that, and a station that starts
-/// counts from its start.
+/// After an End, with or without a telegram, a station is not busy. The bus counts as quiet since that End, or since a
+/// later end, also of the station's own telegram. A Begin does not change this. A station that starts counts from its
+/// start.
 pub fn the_bus_is_quiet_since_the_latest_end()
     ensures busy { (p : Params) (s : Station) (at seen : ℕ) (chars : List RxChar)
         → is_offline s.phase ≡ false → (after_mark p s (End at seen chars)).busy ≡ false }
@@ -114,14 +114,14 @@ pub fn the_bus_is_quiet_since_the_latest_end()
         → (started p s master now).busy ≡ false }
 {}
 
-/// Unread marks are read when the first of them was delivered, or before, if something else is due then.
+/// Unread marks are due when the first of them was delivered, or earlier if something else is due.
 pub fn a_mark_is_due_when_it_is_delivered()
     ensures { (p : Params) (s : Station) (m : Mark) (marks : List Mark)
         → due_of p s (m ∷ marks) ≡ earlier (Some (seen_at m)) (due_of p s []) }
 {}
 
-/// A station that has asked another for its status uses the token again an idle time after the reply, or
-/// after what came in its place. A reply that it is ready, without an error, takes that one into the list.
+/// A station that has asked another for its status uses the token again an idle time after the reply, or after what was
+/// heard instead. If the reply says "ready" without an error, the other station enters the list.
 pub fn a_reply_to_the_question_goes_into_the_list()
     ensures goes_on { (p : Params) (s : Station) (of at fc : ℕ) (f : Fields) → has_bit f.fc 6 ≡ false
         → status_reply s.address of (message.Framed f) ≡ Some fc
@@ -148,8 +148,8 @@ pub fn a_reply_to_the_question_goes_into_the_list()
         → fc % 16 ≢ 0 → (awaiting_status_hears p s of at (Framed f)).las ≡ s.las }
 {}
 
-/// A station is asked for its status by a request with function code 9 to its address, whatever bit 7 of the
-/// address octet says. One that listens answers nothing else.
+/// A request with function code 9 to a station's address asks for its status, whatever bit 7 of the address octet is. A
+/// listening station answers no other request.
 pub fn only_the_question_for_the_status_is_answered_by_one_that_listens()
     ensures asks { (ts : ℕ) (f : Fields) → has_bit f.fc 6 ≡ true → f.fc % 16 ≡ 9 → f.da % 128 ≡ ts
         → asks_status ts f ≡ true }
@@ -161,8 +161,8 @@ pub fn only_the_question_for_the_status_is_answered_by_one_that_listens()
         → listening_hears p s doubled at (Framed f) ≡ s }
 {}
 
-/// What characters bring: a token from its source to its destination, the fields of a request, of a telegram
-/// with data, an acknowledgement, and nothing where one of them is damaged.
+/// What received characters are: a token with destination and source, the fields of a request or of a telegram with
+/// data, an acknowledgement, or no telegram if a character is damaged.
 pub fn what_characters_bring()
     ensures token { arrival_of (Good 0xdc ∷ Good 2 ∷ Good 1 ∷ []) ≡ Token 2 1 }
     ensures question { arrival_of (Good 0x10 ∷ Good 2 ∷ Good 1 ∷ Good 0x49 ∷ Good 0x4c ∷ Good 0x16 ∷ [])

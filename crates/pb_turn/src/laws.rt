@@ -1,3 +1,5 @@
+//! Laws of every turn: when a station is due, what it keeps, and who may initiate.
+
 ghost use Rattle.std.specs.Prelude.{◌≡◌, ◌+◌, ◌<◌, ◌≤◌, ◌⊎◌, ℕ, Bool, true, false, List, [], ◌∷◌, length, Some, None, IfSome, IsSome};
 ghost use Rattle.pb_telegram.specs.declared.chars.RxChar.{RxChar};
 ghost use Rattle.pb_timers.specs.Timers.{Params, bits};
@@ -23,24 +25,24 @@ pub fn a_turn_keeps_the_address()
         → (turn_of p s marks now).0.address ≡ s.address }
 {}
 
-/// A turn with nothing to read and nothing due changes nothing and says nothing.
+/// A turn with no unread marks and nothing due changes nothing and sends nothing.
 pub fn nothing_due_changes_nothing()
     ensures { (p : Params) (s : Station) (now : ℕ) → IsDueLater p s now → turn_of p s [] now ≡ (s, None) }
 {}
 
-/// A station that is offline notices nothing and says nothing.
+/// An offline station reads no mark and sends nothing.
 pub fn who_is_offline_says_nothing()
     ensures { (p : Params) (s : Station) (marks : List Mark) (now : ℕ) → s.phase ≡ Offline
         → turn_of p s marks now ≡ (s, None) }
 {}
 
-/// While a station is busy its timer waits, however late it is.
+/// While a station is busy its timer does not end, however late it is.
 pub fn a_busy_station_waits()
     ensures { (p : Params) (s : Station) (now : ℕ) → s.busy ≡ true → speaks_at s ≡ None
         → turn_of p s [] now ≡ (s, None) }
 {}
 
-/// A mark is ordered against the timer by its own moment, and comes first at a tie.
+/// Marks and the timer take effect in order of their moments. At equal moments the mark comes first.
 pub fn a_mark_comes_before_a_timer_at_its_moment()
     ensures mark { (p : Params) (s : Station) (m : Mark) (marks : List Mark)
         → IfSome (timer_of p s) (λ t. moment_of m ≤ t)
@@ -50,8 +52,8 @@ pub fn a_mark_comes_before_a_timer_at_its_moment()
         → after_marks p s (m ∷ marks) ≡ after_marks p (after_mark p (phase_timed_out s s.phase t) m) marks }
 {}
 
-/// A station that has passed the token, asked for a status, or sent a request that is answered waits for
-/// activity until a slot time after the end of its telegram.
+/// A station that has passed the token, asked for a status, or sent a request that is answered waits for activity until
+/// a slot time after the end of its telegram.
 pub fn a_slot_counts_from_the_end()
     ensures checking { (p : Params) (s : Station) (marks : List Mark) (now tries : ℕ) (octets : List ℕ)
         → (turn_of p s marks now).1 ≡ Some octets → (turn_of p s marks now).0.phase ≡ Checking tries
@@ -69,8 +71,8 @@ pub fn a_slot_counts_from_the_end()
         → due_of p (turn_of p s marks now).0 [] ≡ Some (now + bits (length octets) + p.tsl) }
 {}
 
-/// Speech is not optional: a station whose speaking moment has come, once it has read its marks and
-/// timers, says what its phase says, and no other says anything.
+/// A station must speak: if its speaking moment has come, after it has read its marks and timers, it sends what its
+/// phase prescribes. No other station sends anything.
 pub fn a_station_that_is_due_speaks()
     ensures due { (p : Params) (s : Station) (marks : List Mark) (now moment : ℕ)
         → speaks_at (settled p s marks now) ≡ Some moment → moment ≤ now
@@ -82,20 +84,20 @@ pub fn a_station_that_is_due_speaks()
         → (turn_of p s marks now).1 ≡ None }
 {}
 
-/// A station that listens takes no token, whatever it hears.
+/// A listening station takes no token, whatever it hears.
 pub fn one_that_listens_takes_no_token()
     ensures { (p : Params) (s : Station) (m : Mark) (doubled : Bool) → s.phase ≡ Listening doubled
         → may_initiate (after_mark p s m).phase ≡ false }
 {}
 
-/// A station in Idle that has refused nobody takes a token from its previous station alone.
+/// A station in Idle that has refused no token takes a token only from its previous station.
 pub fn a_first_token_is_taken_from_the_previous_station()
     ensures { (p : Params) (s : Station) (at seen : ℕ) (chars : List RxChar) → s.phase ≡ Idle None
         → may_initiate (after_mark p s (End at seen chars)).phase ≡ true
         → arrival_of chars ≡ Token s.address (previous_station s) }
 {}
 
-/// Nobody but a holder says a token or a request: a station that does, may initiate as it speaks.
+/// Only a holder sends a token or a request: a station that sends one may initiate at that moment.
 pub fn only_a_holder_initiates()
     ensures started { (p : Params) (s : Station) (master : Bool) (now : ℕ)
         → HasReply (started p s master now) }
@@ -110,9 +112,8 @@ pub fn only_a_holder_initiates()
         → IfSome (turn_of p s marks now).1 (λ octets. (0 < length octets) × (length octets ≤ 255)) }
 {}
 
-/// What a station keeps of its message cycles can be said, in all that it does: the requests that wait and
-/// the one that is open have addresses and data that a telegram may have, and the reply that it keeps for a
-/// repeat is no telegram of a holder.
+/// A station can always send what it keeps of its message cycles: the waiting requests and the open one have addresses
+/// and data that fit in a telegram, and the reply kept for a repeat is no telegram of a holder.
 pub fn what_a_station_keeps_can_be_said()
     ensures new { (p : Params) (address : ℕ) (reply : List ℕ) → Fits reply
         → HasCycles (new_station p address reply) }
@@ -124,10 +125,10 @@ pub fn what_a_station_keeps_can_be_said()
     ensures pushed { (s : Station) (r : RequestFields) → HasCycles s → IsRequest r → HasCycles (pushed s r) }
 {}
 
-/// The list of active stations, the GAP and the rotation of a station stand for what it heard, asked and
-/// received since each of them began, and the tables of its message cycles for what it did and heard since
-/// it started: they do as it starts, and a turn adds to both what happens in it. A claim begins the first
-/// three anew, joining the ring the GAP and the rotation, and listening anew the list.
+/// The list of active stations, the GAP and the rotation of a station represent what it heard, asked and received since
+/// each of them began; the tables of its message cycles represent what it did and heard since it started. This holds at
+/// the start, and a turn appends its own events. A claim starts the first three again, joining the ring starts the GAP
+/// and the rotation again, and listening starts the list again.
 pub fn the_tables_stand_for_what_was_heard_asked_and_received()
     ensures started { (p : Params) (s : Station) (master : Bool) (now : ℕ) → s.address < 127
         → StandsForPast p (started p s master now) nothing }
@@ -140,8 +141,7 @@ pub fn the_tables_stand_for_what_was_heard_asked_and_received()
         → StandsForPast p (pushed s r) past }
 {}
 
-/// A station that waits for a reply has an open request, and a retry left where it waits to send it again, in
-/// all that it does.
+/// A station that waits for a reply always has an open request, and a retry left if it waits to send the request again.
 pub fn who_waits_for_a_reply_has_an_open_request()
     ensures started { (p : Params) (s : Station) (master : Bool) (now : ℕ)
         → HasOpenRequest (started p s master now) }
@@ -153,8 +153,8 @@ pub fn who_waits_for_a_reply_has_an_open_request()
     ensures pushed { (s : Station) (r : RequestFields) → HasOpenRequest s → HasOpenRequest (pushed s r) }
 {}
 
-/// A station that knows of activity says nothing: nobody speaks between a Begin that it has read and its End.
-/// So it is where Begins and Ends take turns, as on every bus: no End comes without its Begin.
+/// A busy station sends nothing: no station speaks between a Begin that it has read and its End. This needs Begins and
+/// Ends that alternate, as on every bus.
 pub fn a_busy_station_says_nothing()
     ensures started { (p : Params) (s : Station) (master : Bool) (now : ℕ)
         → IsSilentWhileBusy (started p s master now) }

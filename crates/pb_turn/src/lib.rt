@@ -1,4 +1,4 @@
-//! The turn of a station, as definitions over plain data, and laws of it. No code runs here.
+//! The turn of a station, as definitions over plain data, and its laws. This crate has no code that runs.
 #![tactic(auto)]
 
 mod activity;

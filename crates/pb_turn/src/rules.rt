@@ -1,4 +1,4 @@
-//! Rules of the turn, number by number.
+//! The rules of the turn, one law for each.
 
 ghost use Rattle.std.specs.Option.{option_or};
 ghost use Rattle.std.specs.Prelude.{◌≡◌, ◌+◌, ◌*◌, ◌%◌, List, [], ◌∷◌, ◌++◌, length, ◌<◌, ◌≤◌, ◌==◌, max, ℕ, Bool, true, false, Some, None, Option, IfSome};
@@ -26,9 +26,9 @@ ghost use Rattle.pb_turn.specs.Phases.{Offline, PassiveIdle, Listening, Idle, Cl
 ghost use Rattle.pb_turn.specs.Stations.{Station, timer_of, speaks_at, next_station, previous_station, list_for, pushed};
 ghost use Rattle.pb_turn.specs.Turns.{says_token, says_look, says_request, says_again, high_request, low_request, high_taken, low_taken, phase_says, turn_of, token_octets, status_request_octets};
 
-/// A station that has passed the token on takes whatever begins from the beginning of its token on for a
-/// sign that it was taken, a telegram or not: it waits in Idle then, whatever else comes, and may initiate
-/// again only with a token to it from its previous station. What began before its token is no such sign.
+/// A station that has passed the token takes any activity that begins since its token began as the sign that the token
+/// was taken, whether it is a telegram or not. It then waits in Idle, and may initiate again only after a token to it
+/// from its previous station. Activity that began before its token is no such sign.
 pub fn activity_ends_the_check()
     ensures begun { (p : Params) (s : Station) (tries at seen : ℕ) → s.phase ≡ Checking tries
         → s.own.begin ≤ at
@@ -48,7 +48,7 @@ pub fn activity_ends_the_check()
         → may_initiate (after_mark p s m).phase ≡ false }
 {}
 
-/// Where nothing is heard, the token is passed again once its slot has ended and not before.
+/// If nothing is heard, the token is passed again when its slot has ended, not before.
 pub fn a_token_is_passed_again_after_its_slot()
     ensures waits { (p : Params) (s : Station) (tries now : ℕ) → now < s.own.end + p.tsl
         → turn_of p (record s { phase = Checking tries; busy = false }) [] now
@@ -61,7 +61,7 @@ pub fn a_token_is_passed_again_after_its_slot()
         ≡ Some (token_octets (next_station (record s { las = removed s.las (next_station s) })) s.address) }
 {}
 
-/// A token is tried three times at a successor; after the third silent slot the successor leaves the list.
+/// A token is sent three times to a successor. After the third silent slot the successor leaves the list.
 pub fn a_token_is_tried_three_times()
     ensures first { (p : Params) (s : Station) (now : ℕ) → (next_station s == s.address) ≡ false
         → (says_token p s 0 now).0.phase ≡ Checking 1 }
@@ -76,8 +76,8 @@ pub fn a_token_is_tried_three_times()
         ≡ record s { phase = Pass 0 t; las = removed s.las (next_station s) } }
 {}
 
-/// At most one station is asked for its status in a receipt of the token, however many requests are sent
-/// in it: where none of them may be sent, the token goes on.
+/// In each receipt of the token a station asks at most one station for its status, however many requests it sends. If
+/// it may send no request, it passes the token.
 pub fn one_station_is_asked_per_receipt()
     ensures asked { (p : Params) (s : Station) (ready now : ℕ) → high_request s now ≡ None
         → low_request s now ≡ None
@@ -100,7 +100,7 @@ pub fn one_station_is_asked_per_receipt()
         → HasAsked (phase_timed_out s (AwaitData true retry slot) t).phase }
 {}
 
-/// Who claims the token has waited in silence for its time-out, which depends on its address.
+/// A station claims the token only after silence for its time-out, which depends on its address.
 pub fn a_claim_waits_for_a_time_out()
     ensures listening { (p : Params) (s : Station) (doubled : Bool)
         → timer_of p (record s { phase = Listening doubled; busy = false })
@@ -110,9 +110,9 @@ pub fn a_claim_waits_for_a_time_out()
         ≡ Some (s.quiet + (6 * p.tsl + 2 * s.address * p.tsl)) }
 {}
 
-/// What a master says of itself where it is asked for its status, a reply delay after the request: not ready
-/// while its list is not complete, then ready for the ring, which it joins with this reply, and in the ring.
-/// A passive station says that it is one.
+/// What a master replies to a request for its status, a reply delay after that request: "not ready" while its list is
+/// not complete; then "ready", and with this reply it joins the ring; then "in the ring". A passive station replies
+/// that it is passive.
 pub fn what_a_master_says_of_itself()
     ensures not_ready { (p : Params) (s : Station) (doubled : Bool) (at : ℕ) (f : Fields)
         → asks_status s.address f ≡ true → is_complete s.las.stage ≡ false
@@ -127,8 +127,7 @@ pub fn what_a_master_says_of_itself()
         → (passive_hears p s at (Framed f)).reply ≡ Some (status_reply_of p s at f 0x00 false) }
 {}
 
-/// A request of another station, heard in place of a reply, takes the token away; an open request has no
-/// outcome then.
+/// A request of another station, heard instead of a reply, takes the token away. An open request then has no outcome.
 pub fn a_foreign_request_takes_the_token_away()
     ensures data_reply { (p : Params) (s : Station) (asked slot : Bool) (at : ℕ) (f : Fields)
         → has_bit f.fc 6 ≡ true
@@ -137,7 +136,7 @@ pub fn a_foreign_request_takes_the_token_away()
         → (awaiting_status_hears p s of at (Framed f)).phase ≡ Idle None }
 {}
 
-/// A token that is refused is remembered by its source, and taken where that source offers the next one.
+/// A refused token is remembered by its source, and the next token from that source is accepted.
 pub fn a_refused_token_is_remembered()
     ensures refused { (p : Params) (s : Station) (refused : Option ℕ) (at sa : ℕ)
         → is_taken_from refused (previous_station s) sa ≡ false
@@ -146,7 +145,7 @@ pub fn a_refused_token_is_remembered()
         → (idle_hears p s (Some sa) at (Token s.address sa)).phase ≡ Use false (at + p.tid1) }
 {}
 
-/// A station that listens and hears two tokens of a namesake gives way.
+/// A listening station that hears two tokens of a namesake goes offline.
 pub fn a_namesake_is_given_way()
     ensures first { (p : Params) (s : Station) (at da : ℕ)
         → (listening_hears p s false at (Token da s.address)).phase ≡ Listening true }
@@ -154,7 +153,7 @@ pub fn a_namesake_is_given_way()
         → (listening_hears p s true at (Token da s.address)).phase ≡ Offline }
 {}
 
-/// A station that two tokens have skipped listens anew, with nothing heard and nothing to reply.
+/// A station that two tokens have skipped listens again, with an empty list and no reply to send.
 pub fn a_station_that_is_skipped_twice_listens()
     ensures twice { (p : Params) (s : Station) (refused : Option ℕ) (at da sa : ℕ)
         → (da == s.address) ≡ false → 2 ≤ skips_of (place_of (heard s.las sa da).stage)
@@ -165,8 +164,8 @@ pub fn a_station_that_is_skipped_twice_listens()
         → idle_hears p s refused at (Token da sa) ≡ record s { las = heard s.las sa da } }
 {}
 
-/// Without holding time one request of high priority may be sent in a receipt, and no other: after it, and
-/// where none of high priority waits, the token goes on.
+/// Without holding time, one request of high priority may be sent in a receipt, and no other. After it, or if none of
+/// high priority waits, the token is passed.
 pub fn without_holding_time_one_high_request_is_sent()
     ensures first { (p : Params) (s : Station) (asked : Bool) (ready now : ℕ) (r : RequestFields)
         (rs : List RequestFields) → is_unused s.rotation.last ≡ true
@@ -184,7 +183,7 @@ pub fn without_holding_time_one_high_request_is_sent()
         ≡ says_token p (record s { phase = Use asked ready }) 0 now }
 {}
 
-/// A request that nobody answers is followed after the second idle time: the station waits for nothing.
+/// After a request that is not answered, the station continues after idle time 2, without waiting for a reply.
 pub fn what_is_only_told_waits_for_no_answer()
     ensures { (p : Params) (s : Station) (asked : Bool) (r : RequestFields) (now : ℕ)
         → is_answered r.service ≡ false
@@ -192,8 +191,8 @@ pub fn what_is_only_told_waits_for_no_answer()
         + bits (length (frame_octets (first_sending s.cycles.initiator s.address r))) + p.tid2) }
 {}
 
-/// Where activity begins, a station that answers requests drops a reply that is not sent yet; another keeps it.
-/// One that keeps none says nothing then.
+/// When activity begins, a station that answers requests drops a reply that is not sent yet; any other station keeps
+/// it. A station that has dropped its reply sends nothing.
 pub fn a_reply_is_dropped_where_activity_begins()
     ensures reply { (p : Params) (s : Station) (at seen : ℕ) → answers_requests s.phase ≡ true
         → (after_mark p s (Begin at seen)).reply ≡ None }
@@ -204,7 +203,7 @@ pub fn a_reply_is_dropped_where_activity_begins()
         → speaks_at (after_mark p s (Begin at seen)) ≡ None }
 {}
 
-/// Where nothing is heard, a request is sent again once its slot has ended and not before, in the same octets.
+/// If nothing is heard, a request is sent again when its slot has ended, not before, with the same octets.
 pub fn a_request_is_sent_again_after_its_slot()
     ensures waits { (p : Params) (s : Station) (asked : Bool) (now : ℕ) → now < s.own.end + p.tsl
         → turn_of p (record s { phase = AwaitData asked None true; busy = false }) [] now
@@ -215,8 +214,8 @@ pub fn a_request_is_sent_again_after_its_slot()
         ≡ Some (frame_octets f) }
 {}
 
-/// A request without a retry left, to which nothing was heard in its slot, has the outcome "no answer": the
-/// station goes on, and its next request to the address is a first one.
+/// If nothing was heard in the slot of a request without a retry left, the outcome is `NoAnswer`. The station
+/// continues, and its next request to the address is a first one.
 pub fn without_an_answer_the_next_request_is_a_first_one()
     ensures outcome { (s : Station) (asked : Bool) (retry : Option ℕ) (slot : Bool) (t : ℕ) (o : OpenRequest)
         → s.cycles.initiator.pending ≡ Some o → o.left ≡ 0
@@ -231,7 +230,7 @@ pub fn without_an_answer_the_next_request_is_a_first_one()
         → bits_for (phase_timed_out s (AwaitData asked retry slot) t).cycles.initiator r ≡ 0x20 }
 {}
 
-/// A passive station stays one, whatever it hears, and says no token and no request.
+/// A passive station stays passive, whatever it hears, and sends no token and no request.
 pub fn a_passive_station_only_replies()
     ensures stays { (p : Params) (s : Station) (marks : List Mark) (now : ℕ) → s.phase ≡ PassiveIdle
         → (turn_of p s marks now).0.phase ≡ PassiveIdle }
@@ -240,8 +239,8 @@ pub fn a_passive_station_only_replies()
         → IfSome (turn_of p s marks now).1 (λ octets. are_initiator octets ≡ false) }
 {}
 
-/// Requests of high priority go before those of low priority, and of each priority the one that has waited
-/// longest, which waits no longer then.
+/// Requests of high priority are sent before those of low priority. Within a priority, the request that has waited
+/// longest is sent first, and leaves the queue.
 pub fn requests_go_by_priority()
     ensures high { (p : Params) (s : Station) (asked : Bool) (ready now : ℕ) (r : RequestFields)
         (rs : List RequestFields) → may_high s.rotation now ≡ true
@@ -265,7 +264,7 @@ pub fn requests_go_by_priority()
         ≡ rs }
 {}
 
-/// A request waits behind the others of its priority, and is not taken where sixteen wait.
+/// A request is appended to those of its priority, unless sixteen wait there.
 pub fn a_request_waits_behind_those_of_its_priority()
     ensures high { (s : Station) (r : RequestFields) → r.high ≡ true → length s.cycles.queue.high < 16
         → (pushed s r).cycles.queue.high ≡ s.cycles.queue.high ++ r ∷ [] }
@@ -275,8 +274,8 @@ pub fn a_request_waits_behind_those_of_its_priority()
         → pushed s r ≡ s }
 {}
 
-/// What comes while a station waits for its reply: a reply to the open request is its outcome, and the
-/// station goes on an idle time later. After anything else that takes no token away the request is sent again.
+/// A reply to the open request is its outcome, and the station continues an idle time later. After anything else that
+/// does not take the token away, the request is sent again.
 pub fn a_reply_is_the_outcome()
     ensures told { (p : Params) (s : Station) (asked slot : Bool) (at : ℕ) (f : Fields) (o : OpenRequest)
         (outcome : Outcome) → has_bit f.fc 6 ≡ false
@@ -312,8 +311,7 @@ pub fn a_reply_waits_for_its_delay()
         → IfSome (listening_answer p s at f) (λ r. r.ready ≡ at + p.tsdr) }
 {}
 
-/// The answer to a request takes the place of a reply that is not sent yet, and a request without an answer
-/// leaves that one.
+/// The answer to a request replaces a reply that is not sent yet. A request without an answer leaves that reply.
 pub fn an_answer_takes_the_place_of_a_reply_that_waits()
     ensures in_ring { (p : Params) (s : Station) (refused : Option ℕ) (at : ℕ) (f : Fields)
         → (idle_hears p s refused at (Framed f)).reply ≡ option_or (answer_to p s at f 3) s.reply }
@@ -323,8 +321,8 @@ pub fn an_answer_takes_the_place_of_a_reply_that_waits()
         → (listening_hears p s doubled at (Framed f)).reply ≡ option_or (listening_answer p s at f) s.reply }
 {}
 
-/// A round of questions to the GAP is due some rotation times after the last one was closed: where no request
-/// may be sent, the token goes on till then. A round that is open goes on behind the last address it asked.
+/// A GAP round is due some target rotation times after the last one was closed. Until then, if no request may be sent,
+/// the token is passed. An open round continues after the last address that it asked.
 pub fn a_round_is_due_some_rotations_after_the_last()
     ensures waits { (p : Params) (s : Station) (asked : Bool) (ready now closed : ℕ)
         → high_request s now ≡ None → low_request s now ≡ None
@@ -345,7 +343,8 @@ pub fn a_round_is_due_some_rotations_after_the_last()
         (next_asked s.address (next_station s) p.hsa last) now }
 {}
 
-/// The next station of one in the ring is the one behind it, and the previous one that before it.
+/// The next station of a station in the ring is the one after it in the list; the previous station is the one before
+/// it.
 pub fn a_station_stands_between_its_neighbours()
     ensures next { (s : Station) → s.address ≡ 5 → members_of s.las.stage ≡ 2 ∷ 5 ∷ 9 ∷ []
         → next_station s ≡ 9 }
@@ -357,8 +356,8 @@ pub fn a_station_stands_between_its_neighbours()
         → previous_station s ≡ 9 }
 {}
 
-/// A station that claims the token says two tokens to its own address, an idle time apart, and uses the token
-/// another idle time later.
+/// A station that claims the token sends two tokens to its own address, an idle time apart, and uses the token another
+/// idle time later.
 pub fn a_claim_is_two_tokens()
     ensures after_listening { (s : Station) (doubled : Bool) (t : ℕ)
         → (phase_timed_out s (Listening doubled) t).phase ≡ Claim 0 t }
@@ -372,8 +371,8 @@ pub fn a_claim_is_two_tokens()
         → (phase_says p s (Claim sent ready) now).1 ≡ Some (0xdc ∷ s.address ∷ s.address ∷ []) }
 {}
 
-/// A token telegram has its destination first. A question for the status is a request with function code 9, whose
-/// check octet is the sum of its addresses and its control octet.
+/// A token telegram has its destination first. A request for a status is a request with function code 9, whose check
+/// octet is the sum of its addresses and its control octet.
 pub fn what_tokens_and_questions_are()
     ensures token { (da sa : ℕ) → token_octets da sa ≡ 0xdc ∷ da ∷ sa ∷ [] }
     ensures question { (da sa : ℕ)

@@ -1,9 +1,9 @@
 //! Stations on one medium: the world, its events, the trace of the bus, and its audit.
 //!
-//! [`World::new`] takes the bus parameters and the taps; [`World::apply`] does an event (a station's turn,
-//! passing time, damage, noise, a lost telegram, a start, a stop, a request) and answers what came of it. The
-//! trace, the clock, and each station with the moment of its next turn are read from it. [`audit`] judges a
-//! whole run. All times are in bit times.
+//! [`World::new`] takes the bus parameters and the taps. [`World::apply`] applies an event (a station's turn, a pass of
+//! time, damage, noise, a lost telegram, a start, a stop, a request) and returns its result. The trace, the clock, and
+//! each station with the moment of its next turn are read from it. [`audit`] judges a whole run. All times are in bit
+//! times.
 #![tactic(auto)]
 
 mod worlds;

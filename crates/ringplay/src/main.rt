@@ -1,8 +1,8 @@
 //! `ringplay`: plays and audits scenarios of the PROFIBUS data link layer (FDL), and turns its telegrams from hex to
 //! text.
 //!
-//! Opens the streams, calls `pb_cli`, and turns its answer into an exit status: 0 done, 1 something
-//! is refused, 2 usage, 3 a read or write fault or too long an input, 4 no memory.
+//! Opens the streams, calls `pb_cli`, and turns its result into an exit status: 0 done, 1 input refused, 2 usage, 3 a
+//! read or write fault or an input that is too long, 4 no memory.
 #![tactic(auto)]
 
 ghost use Rattle.std.specs.Prelude.{◌≡◌, IfOk};
@@ -39,7 +39,7 @@ const STREAM: u8 = 3;
 
 const MEMORY: u8 = 4;
 
-/// What stands for standard input in the place of a file.
+/// The path that means standard input.
 const STANDARD_INPUT: &str = "-";
 
 fn main(rt: HostRuntime) -> ExitCode {
@@ -50,7 +50,7 @@ fn main(rt: HostRuntime) -> ExitCode {
     ExitCode::from(status)
 }
 
-/// What the program's words ask for; a word that is no text is told as one that makes no sense.
+/// What the program's words ask for. A word that is not valid text is a usage fault.
 fn asked(rt: &(impl AllocGlobal + Env)) -> Result<Asked, AskFault>
     ensures { IfOk result (λ asked. IsWithinLimits asked.ask) }
 {
@@ -169,7 +169,7 @@ fn version(rt: &impl Print) -> Result<Status, CliFault> {
     }
 }
 
-/// What the file at a path has, or standard input. Why it can't be read goes to standard error.
+/// The content of the file at a path, or of standard input. The reason why it cannot be read goes to standard error.
 fn contents<R: AllocGlobal + Eprint + Files + Input>(
     rt: &R,
     path: &str,
@@ -192,7 +192,7 @@ fn contents<R: AllocGlobal + Eprint + Files + Input>(
     read
 }
 
-/// A path as hints name it.
+/// The path as hints show it.
 fn shown(path: &str) -> &str {
     if path == STANDARD_INPUT {
         "<stdin>"
@@ -201,13 +201,13 @@ fn shown(path: &str) -> &str {
     }
 }
 
-/// All that a reader has.
+/// The whole content of a reader.
 fn whole<R: Read + Drop>(alloc: Global, reader: R) -> Result<Vec<u8>, CliFault> {
     let mut reader = CountedReader::new(reader);
     read_input(alloc, &mut reader)
 }
 
-/// Why a file can't be read.
+/// Why a file cannot be read.
 fn reason<R: Files>(rt: &R, path: &str) -> Option<Error> {
     match fs::open(rt, path) {
         Ok(mut file) => file.read(&mut [0]).err(),
@@ -215,14 +215,14 @@ fn reason<R: Files>(rt: &R, path: &str) -> Option<Error> {
     }
 }
 
-/// Says what a person may want to know. A hint for which there is no memory is left out, and one that can't be written.
+/// Prints a hint on standard error. If memory or the write fails, the hint is dropped.
 fn hint(rt: &impl Eprint, text: Result<String, AllocError>) {
     if let Ok(text) = text {
         let _ = rt.eprint(text);
     }
 }
 
-/// The exit status of words that ask for nothing that the program can do; what to write goes to standard error.
+/// The exit status of words that cannot be obeyed. The usage goes to standard error.
 fn words_status(rt: &impl Eprint, fault: AskFault) -> u8
     ensures { result ≡ words_status_of fault }
 {
@@ -235,7 +235,7 @@ fn words_status(rt: &impl Eprint, fault: AskFault) -> u8
     }
 }
 
-/// The exit status of an answer; a fault's words go to standard error.
+/// The exit status of a result. The words of a fault go to standard error.
 fn exit_status(rt: &impl Eprint, answer: Result<Status, CliFault>) -> u8
     ensures { result ≡ exit_status_of answer }
 {
@@ -247,7 +247,7 @@ fn exit_status(rt: &impl Eprint, answer: Result<Status, CliFault>) -> u8
     }
 }
 
-/// Says why there is no full answer, and gives the exit status for it.
+/// Prints words on standard error, and returns the status.
 fn tell(rt: &impl Eprint, words: impl Display + Drop, status: u8) -> u8
     ensures { result ≡ status }
 {

@@ -1,3 +1,5 @@
+//! Tests of pb_cli's calls, over readers and writers in memory.
+
 mod decoding;
 mod memory;
 mod scenarios;
@@ -9,8 +11,8 @@ ghost use Rattle.std.specs.Prelude.{◌≡◌, true};
 use std::fmt::Debug;
 use std::process::Abort;
 
-/// Ends the test unless two values are equal. It is a call since the proof of a test that compares in place takes three
-/// times as long.
+/// Ends the test unless two values are equal. A call of its own: comparing in place makes the proof of a test take
+/// three times as long.
 fn equal<T: PartialEq + Debug>(rt: &impl Abort, left: &T, right: &T)
     ensures { T.eq left.now right.now ≡ true }
 {

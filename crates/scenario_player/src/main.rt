@@ -1,9 +1,9 @@
-//! `scenario_player`: plays each scenario file on its input with one worker and with three, and audits it. For tests: of a
-//! program the gate compares what it prints as two compilers build it.
+//! `scenario_player`: plays each scenario file of its input with one worker and with three, and audits it. For tests:
+//! the gate builds it with two compilers and compares what the two programs print.
 //!
-//! A file begins behind a line `-- case NAME`. For each the program prints that line, what `ringplay run` writes with one
-//! worker and, where that differs, with three, and what `ringplay audit` writes. Exit statuses: 0 all were played, 1 why not
-//! stands on standard error.
+//! A file follows a line `-- case NAME`. For each file the program prints that line, what `ringplay run` writes with
+//! one worker and, if that differs, with three, and what `ringplay audit` writes. Exit statuses: 0 all were played, 1 a
+//! fault, which is on standard error.
 #![tactic(auto)]
 
 use anyhow::Context;
@@ -14,7 +14,7 @@ use std::process::ExitCode;
 use std::sync::Wait;
 use std::thread::Threads;
 
-/// What stands before the name of a case.
+/// The text before the name of a case.
 const CASE: &str = "-- case ";
 
 fn main(rt: HostRuntime) -> ExitCode {
@@ -27,7 +27,7 @@ fn main(rt: HostRuntime) -> ExitCode {
     }
 }
 
-/// Plays the cases on standard input, and prints what comes of them.
+/// Plays the cases on standard input, and prints the results.
 fn play_all<T: AllocGlobal + Input + Print + Threads + Wait + Sync>(rt: &T) -> anyhow::Result<()> {
     let mut input = Vec::new(rt.alloc());
     rt.reader().read_to_end(&mut input)?;
@@ -62,7 +62,7 @@ fn push_outcome<T: AllocGlobal + Threads + Wait + Sync>(
     Ok(())
 }
 
-/// What is written for the run of a file with so many workers, one or three.
+/// What is written for the run of a file with one or three workers.
 fn played<T: AllocGlobal + Threads + Wait + Sync>(
     rt: &T,
     file: &[u8],

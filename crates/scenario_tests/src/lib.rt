@@ -1,4 +1,4 @@
-//! Tests of the calls of pb_scenario, pb_plan and pb_review, and no code.
+//! Tests of the calls of pb_scenario, pb_plan and pb_review. The crate has only tests.
 #![tactic(auto)]
 
 #[cfg(test)]

@@ -1,4 +1,4 @@
-//! Tests of scenario files: what is read of them, each fault, and their runs.
+//! Tests of scenario files: how they are read, each fault, and their runs.
 
 mod bounds;
 mod edges;
@@ -19,8 +19,8 @@ use std::alloc::{AllocError, AllocGlobal, Global};
 use std::fmt::Debug;
 use std::process::Abort;
 
-/// Ends the test unless two values are equal. It is a call since the proof of a test that compares in place takes three
-/// times as long.
+/// Ends the test unless two values are equal. A call of its own: comparing in place makes the proof of a test take
+/// three times as long.
 fn equal<T: PartialEq + Debug>(rt: &impl Abort, left: &T, right: &T)
     ensures { T.eq left.now right.now ≡ true }
 {
@@ -39,7 +39,7 @@ fn paths_name_table_and_key(rt: HostRuntime) {
     assert!(rt; spelled(Path::Item(Section::Tap(0))).as_str() == "tap[0]");
 }
 
-/// A bus that delays nothing.
+/// A bus without a cable delay.
 const BUS: &str = "[bus]
 tsl = 100
 tid1 = 37
@@ -51,7 +51,7 @@ gap = 10
 hsa = 5
 retries = 1";
 
-/// A file of two taps; what stands before the bus, the second tap and the steps are given.
+/// A file of two taps, with the given lines before the bus, for the second tap and for the steps.
 fn file(alloc: Global, top: &str, second: &str, steps: &str) -> Result<String, AllocError> {
     format!(in alloc;
         "{top}
@@ -70,7 +70,7 @@ const TOP: &str = "version = 1\nuntil = 1400";
 
 const SECOND: &str = "name = \"b\"\nkind = \"passive\"\naddress = 2\nreply = \"0aFF\"";
 
-/// The text of the fault of a file, or nothing.
+/// The text of the fault of a file; empty if there is none.
 fn fault_in(rt: &(impl AllocGlobal + Abort), top: &str, second: &str, steps: &str) -> String {
     let alloc = rt.alloc();
     let text = file(alloc, top, second, steps).expect(rt, "memory");
@@ -97,7 +97,7 @@ fn names_are_short_and_plain(rt: HostRuntime) {
     }
 }
 
-/// The service of a request that a file has one of, or the text of the fault.
+/// The service of a file's request, or the text of the fault.
 fn service_in(rt: &(impl AllocGlobal + Abort), word: &str) -> Result<Service, String> {
     let alloc = rt.alloc();
     let step = format!(in alloc;
@@ -116,7 +116,7 @@ fn service_in(rt: &(impl AllocGlobal + Abort), word: &str) -> Result<Service, St
     }
 }
 
-/// Words stand for what they name, and for nothing in other letters.
+/// Words have their meaning, and none in capital letters.
 #[test]
 fn words_stand_for_what_they_name(rt: HostRuntime) {
     assert!(rt; service_in(&rt, "sda") == Ok(Service::Sda));
@@ -228,7 +228,7 @@ tap = \"a\"
     assert!(rt; matches!(steps[7].deed, Deed::Happens(Event::Stop(0))));
 }
 
-/// Each fault of a file comes with its path, and the first one is told.
+/// Each fault of a file has its path, and the first one is reported.
 #[test]
 fn tells_the_first_fault(rt: HostRuntime) {
     let first = |top: &str| fault_in(&rt, top, SECOND, "");
@@ -302,7 +302,7 @@ fn tells_the_first_fault(rt: HostRuntime) {
         "[[step]]\nat = 0\ndo = \"queue\"\ntap = \"a\"\nservice = \"sda\"\nto = 127\nhigh = 1";
     equal(&rt, &step(unit).as_str(), &"5 BadValue step[0].to");
 }
-/// The events of a run lead to its trace: noise, then the claim of a master whose time-out it prolonged.
+/// The events of a run lead to its trace: noise, then the claim of a master whose time-out the noise delayed.
 #[test]
 fn plays_noise(rt: HostRuntime) {
     let alloc = rt.alloc();
@@ -323,7 +323,7 @@ fn plays_noise(rt: HostRuntime) {
     assert!(rt; shown.as_slice() == b"100 150 ~ noise\n".as_slice());
 }
 
-/// Two masters form a ring on a bus with a cable delay; one that is too long is refused.
+/// Two masters form a ring on a bus with a cable delay. A delay that is too long is refused.
 #[test]
 fn plays_with_a_cable_delay(rt: HostRuntime) {
     let alloc = rt.alloc();
@@ -353,7 +353,7 @@ fn plays_with_a_cable_delay(rt: HostRuntime) {
     assert!(rt; shown.as_slice() == expected.as_bytes());
 }
 
-/// The text of the fault of a file with a version and a line at the end of its bus, or the cable delay that was read.
+/// The text of the fault of a file, with a version and a line at the end of its bus, or the cable delay that was read.
 fn delay_in(rt: &(impl AllocGlobal + Abort), version: u8, line: &str) -> String {
     let alloc = rt.alloc();
     let text = format!(in alloc;
@@ -386,7 +386,7 @@ fn version_2_has_a_cable_delay(rt: HostRuntime) {
     equal(&rt, &delay(3, "ttd = 0").as_str(), &"2 BadVersion");
 }
 
-/// How many taps are read of a file with so many, or the number of the fault.
+/// How many taps are read from a file with `taps` taps, or the number of the fault.
 fn taps_in(
     rt: &(impl AllocGlobal + Abort),
     version: u8,
@@ -410,7 +410,7 @@ fn taps_in(
     }
 }
 
-/// A whole segment fits into a file of version 2, and 32 taps into one of version 1.
+/// A whole segment of 127 taps fits in a file of version 2, and 32 taps fit in one of version 1.
 #[test]
 fn a_segment_has_127_taps(rt: HostRuntime) {
     equal(&rt, &taps_in(&rt, 1, "", 32), &Ok(32));
@@ -419,7 +419,7 @@ fn a_segment_has_127_taps(rt: HostRuntime) {
     equal(&rt, &taps_in(&rt, 2, "ttd = 0", 128), &Err(11));
 }
 
-/// Two masters wait out their time-outs at one clock, since one starts later by what makes them differ.
+/// Two masters' time-outs end at one clock: one starts later by their difference.
 #[test]
 fn an_audit_follows_the_run(rt: HostRuntime) {
     let alloc = rt.alloc();
@@ -439,7 +439,7 @@ fn an_audit_follows_the_run(rt: HostRuntime) {
     equal(&rt, &found, &listed);
 }
 
-/// A run ends where a step is refused, and where there is no new world.
+/// A run ends if a step is refused, and if there is no new world.
 #[test]
 fn a_run_ends_by_a_fault(rt: HostRuntime) {
     let alloc = rt.alloc();

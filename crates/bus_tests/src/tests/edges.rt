@@ -1,4 +1,4 @@
-//! Calls that take memory, where a list is empty, full or grows: with ample memory none of them says that memory is wanted.
+//! Calls that allocate, on lists that are empty, full or grow: with ample memory none of them returns `NoMemory`.
 
 use super::{are_same, equal, master, segment, two_masters, usual};
 use arrayvec::ArrayVec;
@@ -8,7 +8,7 @@ use pb_timers::BusParams;
 use pb_world::{Event, Reply, World, audit, run};
 use std::process::Abort;
 
-/// The turn of a tap, decided outside the world, and by the world itself on an equal one: both are the same.
+/// The turn of a tap, decided outside the world, and taken by an equal world itself: both have the same result.
 fn takes_turn(
     rt: &(impl AllocGlobal + Abort),
     world: &mut World,
@@ -30,7 +30,7 @@ fn takes_turn(
     turn
 }
 
-/// Two masters, of which the second has so many unread marks: each noise begins and ends.
+/// Two masters, the second with this many unread marks: each noise begins and ends.
 fn with_marks(rt: &(impl AllocGlobal + Abort), marks: usize) -> World {
     let alloc = rt.alloc();
     let mut world = two_masters(rt);
@@ -58,8 +58,8 @@ fn each_number_of_unread_marks(rt: HostRuntime) {
     }
 }
 
-/// From the least address of a master to the greatest: each claims the token after six slots and two more for each address
-/// below its own.
+/// From the lowest address of a master to the highest: each claims the token after six slot times and two more for each
+/// address below its own.
 #[test]
 fn each_address_of_a_master(rt: HostRuntime) {
     let alloc = rt.alloc();
@@ -85,7 +85,8 @@ fn each_address_of_a_master(rt: HostRuntime) {
     }
 }
 
-/// From one tap to 127, all of which run: the master claims the token, each other tap reads what it heard, and the run is judged.
+/// From one tap to 127, all running: the master claims the token, each other tap reads what it heard, and the run is
+/// judged.
 #[test]
 fn each_number_of_taps(rt: HostRuntime) {
     let alloc = rt.alloc();
@@ -109,7 +110,7 @@ fn each_number_of_taps(rt: HostRuntime) {
     }
 }
 
-/// From an empty queue to a full one, of either priority.
+/// From an empty queue to a full one, for each priority.
 #[test]
 fn each_number_of_requests(rt: HostRuntime) {
     for high in [true, false] {
@@ -135,7 +136,7 @@ fn with_requests(rt: &(impl AllocGlobal + Abort), high: bool, requests: usize) -
     world
 }
 
-/// From an empty trace to one that has grown ten times, a telegram finds room behind noise.
+/// From an empty trace to one that has grown ten times, a telegram after noise finds room.
 #[test]
 fn each_room_of_a_trace(rt: HostRuntime) {
     let alloc = rt.alloc();

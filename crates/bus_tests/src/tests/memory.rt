@@ -1,8 +1,10 @@
+//! Calls with one allocation refused.
+
 use super::{due, equal, master, next_change, phase_name, two_masters, usual};
 use pb_world::{AuditFault, Entry, Event, NewFault, World, WorldFault, audit, audit_with_reasons};
 
-/// Two masters form a ring, with one allocation refused: the fault is `NoMemory` then, nothing has changed, and the
-/// same event done again gives what it gives with ample memory.
+/// Two masters form a ring, with one allocation refused: the fault is then `NoMemory`, nothing has changed, and the
+/// same event, applied again, has the result that it has with ample memory.
 #[test]
 fn refused_memory_in_a_world(rt: HostRuntime) {
     let alloc = rt.alloc();
@@ -81,7 +83,7 @@ fn begin_of(entry: &Entry) -> u64 {
     }
 }
 
-/// What can be seen of a world of two taps.
+/// The visible state of a world of two taps.
 #[derive(Clone, Copy, Debug, PartialEq, Eq)]
 struct Seen {
     now: u64,
@@ -103,8 +105,8 @@ impl Seen {
     }
 }
 
-/// Run with one allocation refused: an audit answers what it finds, or `NoMemory`, of the new bus or at the
-/// event that wanted memory.
+/// With one allocation refused, an audit returns what it finds, or `NoMemory`, of the new bus or at the event that
+/// needed memory.
 #[test]
 fn refused_memory_in_an_audit(rt: HostRuntime) {
     let alloc = rt.alloc();

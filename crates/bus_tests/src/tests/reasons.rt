@@ -1,17 +1,17 @@
-//! Why a run breaks a premise, and which rule an illegal record breaks.
+//! Tests of why a run breaks a premise, and which rule an illegal record breaks.
 
 use super::{equal, master, usual};
 use pb_timers::Moment;
 use pb_world::{Audit, Cause, Event, Illegal, Reasons, Rule, TapSpec, audit_with_reasons};
 use std::process::Abort;
 
-/// The reasons in a run of two masters, the second with the given address.
+/// The reasons for a run of two masters, the second with the given address.
 fn reasons(rt: &(impl AllocGlobal + Abort), other: u8, events: &[Event]) -> Reasons {
     let taps: [TapSpec; 2] = [master(1), master(other)];
     audit_with_reasons(rt.alloc(), usual(rt), &taps, events).expect(rt, "an audit")
 }
 
-/// Reasons with a premise that broke, and no illegal record.
+/// Reasons with a broken premise and no illegal record.
 fn broken(rt: &impl Abort, number: u8, clock: u64, cause: Cause) -> Reasons {
     Reasons {
         found: Audit {

@@ -1,3 +1,5 @@
+//! Tests of one station, with turns as lines of text.
+
 ghost use Rattle.std.specs.Prelude.{◌≡◌, ◌≤◌, true, IfOk};
 ghost use Rattle.pb_turn.specs.Marks.{moment_of};
 ghost use Rattle.pb_station.specs.MarkViews.{mark_of, AreOver};
@@ -25,8 +27,8 @@ fn at(bits: u64) -> Result<Moment, Fail>
     Ok(Moment::new(bits).ok_or("the moment is too late")?)
 }
 
-/// A slot of 100, idle times 37 and 60, reply delay 11, no lag, rotation 10,000, GAP factor 10, highest
-/// address 5, one retry.
+/// Slot time 100, idle times 37 and 60, reply delay 11, lag 0, target rotation time 10,000, GAP factor 10, highest
+/// station address 5, one retry, no cable delay.
 fn usual() -> Result<BusParams, Fail> {
     Ok(BusParams::new(100, 37, 60, 11, 0, 10_000, 10, 5, 1, 0)?)
 }
@@ -41,7 +43,7 @@ fn word<'a>(words: &mut SplitWhitespace<'a>) -> Result<&'a str, Fail> {
     Ok(words.next().ok_or("a word is missing")?)
 }
 
-/// The characters of hex digits; `--` is one that is damaged.
+/// The characters of hex digits; `--` is a damaged one.
 fn characters(hex: &str) -> Result<ArrayVec<RxChar, 255>, Fail> {
     let mut characters = ArrayVec::new();
     for place in 0..hex.len() / 2 {
@@ -57,7 +59,7 @@ fn characters(hex: &str) -> Result<ArrayVec<RxChar, 255>, Fail> {
     Ok(characters)
 }
 
-/// `b:AT:SEEN` or `e:AT:SEEN:CHARACTERS`.
+/// Reads a mark: `b:AT:SEEN` or `e:AT:SEEN:CHARACTERS`.
 fn mark(word: &str) -> Result<Mark, Fail> {
     let mut parts = word.split(':');
     let kind = parts.next().ok_or("a mark has no kind")?;
@@ -79,14 +81,14 @@ fn mark(word: &str) -> Result<Mark, Fail> {
     })
 }
 
-/// Whether no mark is of a moment later than the clock.
+/// Whether no mark has a moment later than the clock.
 fn are_over(marks: &[Mark], now: Moment) -> bool
     ensures { result ≡ true → AreOver now marks.now }
 {
     marks.iter().all(|mark| moment(mark) <= now)
 }
 
-/// A mark's own moment.
+/// The moment of the begin or end.
 fn moment(mark: &Mark) -> Moment
     ensures { result ≡ moment_of (mark_of mark.now) }
 {
@@ -95,7 +97,7 @@ fn moment(mark: &Mark) -> Moment
     }
 }
 
-/// A moment, or `-` for none.
+/// Whether a moment is the one in a word; `-` means none.
 fn same_moment(moment: Option<Moment>, word: &str) -> Result<bool, Fail> {
     if word == "-" {
         return Ok(moment.is_none());
@@ -103,7 +105,7 @@ fn same_moment(moment: Option<Moment>, word: &str) -> Result<bool, Fail> {
     Ok(moment.map(|moment| moment.get()) == Some(word.parse::<u64>()?))
 }
 
-/// The octets that a station says, in hex; `-` for none.
+/// Whether octets are those in hex; `-` means none.
 fn same_octets(octets: &Option<ArrayVec<u8, 255>>, hex: &str) -> Result<bool, Fail> {
     match octets {
         None => Ok(hex == "-"),
@@ -118,14 +120,14 @@ fn same_octets(octets: &Option<ArrayVec<u8, 255>>, hex: &str) -> Result<bool, Fa
     }
 }
 
-/// A station after a turn, and whether the turn was as a line says.
+/// A station after a turn, and whether the turn was as its line says.
 #[derive(Drop)]
 struct Step {
     station: Station,
     agrees: bool,
 }
 
-/// The turn of a line.
+/// Takes the turn of a line.
 fn take_turn(alloc: Global, station: Station, line: &str) -> Result<Step, Fail> {
     let mut words = line.split_whitespace();
     let now = at(word(&mut words)?.parse::<u64>()?)?;
@@ -157,7 +159,7 @@ fn take_turn(alloc: Global, station: Station, line: &str) -> Result<Step, Fail> 
     })
 }
 
-/// A master with address 1 listens, and claims the token once silence has lasted its time-out.
+/// A master with address 1 listens, and claims the token when the silence has lasted for its time-out.
 #[test]
 fn a_new_master_listens_and_claims(rt: HostRuntime) -> Result<(), Fail> {
     let alloc = rt.alloc();
@@ -189,7 +191,7 @@ fn passive(alloc: Global, address: u8) -> Result<Station, Fail>
     Ok(station)
 }
 
-/// A station is copied in the room of another, whatever that was, and so is the one after a turn.
+/// A station is copied into the box of another, whatever that was, and so is the station after a turn.
 #[test]
 fn stations_are_copied_in_the_room_of_others(rt: HostRuntime) -> Result<(), Fail> {
     let alloc = rt.alloc();
@@ -206,8 +208,8 @@ fn stations_are_copied_in_the_room_of_others(rt: HostRuntime) -> Result<(), Fail
     Ok(())
 }
 
-/// An inbox keeps marks in their order, each with its characters, be they a token's, noise, an acknowledgement or those
-/// of a damaged telegram; a station is due when the first of them was delivered.
+/// An inbox keeps marks in order, each with its characters: a token's, noise, an acknowledgement or those of a damaged
+/// telegram. A station is due when the first of them was delivered.
 #[test]
 fn an_inbox_keeps_marks_in_their_order(rt: HostRuntime) -> Result<(), Fail> {
     let alloc = rt.alloc();
@@ -246,7 +248,7 @@ fn an_inbox_keeps_marks_in_their_order(rt: HostRuntime) -> Result<(), Fail> {
     Ok(())
 }
 
-/// A moment is past by more than a lag, once time has gone by, however much that is; none never is.
+/// Whether a moment is past by more than a lag after a pass of time of any length. `None` never is.
 #[test]
 fn moments_pass(rt: HostRuntime) -> Result<(), Fail> {
     let moment = Some(at(800)?);
@@ -269,10 +271,10 @@ fn a_passive_station_waits(rt: HostRuntime) -> Result<(), Fail> {
     Ok(())
 }
 
-/// A lone station asks its GAP; a listener learns the ring, joins it, takes and passes the token, and passes
-/// it no more once it has heard anything since, damage too; one that was skipped twice listens anew; and one
-/// that hears its namesake gives way. Over marks that no bus gives, a token that is taken before the answer to a
-/// request is sent leaves that answer, and it is said once the token is lost.
+/// A lone station asks its GAP. A listener learns the ring, joins it, and takes and passes the token; after any
+/// activity, also damage, it does not pass it again. A station that was skipped twice listens again. A station that
+/// hears its namesake goes offline. With marks that no bus gives, a token that is taken before the answer to a request
+/// is sent leaves that answer, and it is sent after the token is lost.
 #[test]
 fn stations_take_their_turns(rt: HostRuntime) -> Result<(), Fail> {
     let alloc = rt.alloc();

@@ -9,8 +9,9 @@ use pb_world::{
 };
 use std::process::Abort;
 
-/// A master alone claims the token after its time-out of 800: until then it has none. Its bound is 9999 of the target
-/// rotation time, 11492 and 11455 of the cycles, and the time-out. Another master that never runs has no stretch.
+/// A lone master claims the token after its time-out of 800; until then there is no token. Its bound is 9999 for the
+/// target rotation time, 11492 and 11455 for the cycles, and the time-out. Another master that never runs has no
+/// stretch.
 #[test]
 fn a_master_waits_for_its_time_out(rt: HostRuntime) {
     let events = [
@@ -32,7 +33,8 @@ fn a_master_waits_for_its_time_out(rt: HostRuntime) {
     equal(&rt, &longest_without(&usual(&rt), 1), &33746);
 }
 
-/// Noise ends a stretch, and so does a stop; the first of two as long counts, and a passive tap has none.
+/// Noise ends a stretch, and so does a stop. Of two stretches of equal length the first is returned. A passive tap has
+/// none.
 #[test]
 fn noise_and_a_stop_end_a_stretch(rt: HostRuntime) {
     let events = [
@@ -56,9 +58,9 @@ fn noise_and_a_stop_end_a_stretch(rt: HostRuntime) {
     equal(&rt, &found.longest_at(1), &None);
 }
 
-/// The second of three masters holds the token for as long as it may, and stops. The third has been without a token for
-/// just its bound then: 256 of the target rotation time, 6165 and 5909 of the two cycles, a time-out of 3000, the lag of
-/// 20 and the cable delay of 10.
+/// The second of three masters holds the token for as long as it may, and stops. The third has then been without a
+/// token for exactly its bound: 256 for the target rotation time, 6165 and 5909 for the two cycles, a time-out of 3000,
+/// the lag of 20 and the cable delay of 10.
 #[test]
 fn the_bound_is_reached(rt: HostRuntime) {
     let params = BusParams::new(300, 236, 236, 259, 20, 257, 100, 2, 0, 10);
@@ -181,7 +183,7 @@ fn the_bound_is_reached(rt: HostRuntime) {
     equal(&rt, &found.longest_at(2), &Some(stretch));
 }
 
-/// An event that is refused is named by its place, and so is a bus that there can't be.
+/// A refused event is reported by its index; a refused bus is reported too.
 #[test]
 fn what_is_refused_has_no_stretches(rt: HostRuntime) {
     let events = [Event::Start(0), Event::Pass(0)];
@@ -195,7 +197,8 @@ fn what_is_refused_has_no_stretches(rt: HostRuntime) {
     equal(&rt, &none.err(), &Some(AuditFault::New(NewFault::NoTaps)));
 }
 
-/// Run with one allocation refused: the stretches, or `NoMemory`, of the new bus or at the event that wanted memory.
+/// With one allocation refused, the result is the stretches or `NoMemory`, of the new bus or at the event that needed
+/// memory.
 #[test]
 fn refused_memory_in_liveness(rt: HostRuntime) {
     let events = [Event::Start(0), Event::Pass(800), Event::Turn(0)];
@@ -216,7 +219,7 @@ fn refused_memory_in_liveness(rt: HostRuntime) {
     }
 }
 
-/// A passive station that replies as many octets as there may be.
+/// A passive station that replies with as many octets as possible.
 fn answering(address: u8) -> TapSpec {
     let mut reply = ArrayVec::new();
     for _ in 0..246 {
@@ -229,7 +232,7 @@ fn answering(address: u8) -> TapSpec {
     }
 }
 
-/// A request to station 100 for data, with as many octets as there may be.
+/// A request to station 100 for data, with as many octets as possible.
 fn longest_request(rt: &impl Abort, high: bool) -> Request {
     let mut unit = ArrayVec::new();
     for _ in 0..246 {

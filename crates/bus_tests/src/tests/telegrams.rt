@@ -1,3 +1,5 @@
+//! Tests of reading the telegram that a burst brings.
+
 use super::equal;
 use arrayvec::ArrayVec;
 use pb_core::{is_for_others, spelled_telegram, whole_telegram};
@@ -5,7 +7,7 @@ use pb_telegram::{Fixed8Telegram, RxChar, ShortTelegram, Telegram, TokenTelegram
 use std::alloc::{AllocError, Global};
 use std::test::Fail;
 
-/// Octets as characters that are all good.
+/// Octets as undamaged characters.
 fn good(alloc: Global, octets: &[u8]) -> Result<Vec<RxChar>, AllocError> {
     octets
         .iter()
@@ -71,9 +73,9 @@ fn telegrams_to_others_are_told_by_their_destination(rt: HostRuntime) -> Result<
         equal(&rt, &is_for_others(octets, 4), &true);
         equal(&rt, &is_for_others(octets, 5), &false);
     }
-    // An acknowledgement is for nobody who doesn't wait for it.
+    // An acknowledgement is for no station that does not wait for it.
     equal(&rt, &is_for_others(&[0xe5], 4), &true);
-    // A token, a telegram to all stations, and octets that end before they tell.
+    // A token, a telegram to all stations, and octets that end before the destination.
     let not_told = [
         [0xdc, 5, 2].as_slice(),
         &[0x10, 127, 2, 0x46, 0xc7, 0x16],

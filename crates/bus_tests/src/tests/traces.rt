@@ -1,4 +1,4 @@
-//! Traces that no world has made: whom they name, their first illegal record, and telegrams made by hand.
+//! Tests of traces that no world has made: which tap they name, their first illegal record, and telegrams made by hand.
 
 use super::{equal, master, usual};
 use arrayvec::ArrayVec;
@@ -6,7 +6,7 @@ use pb_timers::Moment;
 use pb_world::{Entry, Heard, Record, RecordFault, TapSpec, TraceFault, first_illegal, named};
 use std::process::Abort;
 
-/// A telegram of the first of two taps, as the second hears it.
+/// A telegram of the first of two taps, and how the second received it.
 fn by_first(rt: &(impl AllocGlobal + Abort), begin: u64, octets: &[u8], second: Heard) -> Entry {
     let heard = [Heard::Own, second];
     let mut sent = ArrayVec::new();
@@ -24,8 +24,8 @@ fn named_at(rt: &impl Abort, trace: &[Entry], now: u64) -> Option<usize> {
     named(&usual(rt), &taps, trace, now).expect(rt, "a trace in order")
 }
 
-/// A claim, and the token passed to the second: the speaker is named while it sends, then who heard it within the slot, then
-/// the speaker again after a slot in silence.
+/// A claim, and the token passed to the second: the trace names the speaker while it sends, then the station that heard
+/// it, within the slot, then the speaker again after a slot in silence.
 #[test]
 fn traces_from_elsewhere_name_a_station(rt: HostRuntime) {
     let claim = by_first(&rt, 800, &[0xdc, 1, 1], Heard::Whole);
@@ -41,7 +41,7 @@ fn traces_from_elsewhere_name_a_station(rt: HostRuntime) {
     equal(&rt, &named_at(&rt, &lost, 903), &None);
 }
 
-/// A request without the token is illegal; one behind a claim is not. A trace that isn't in order is refused.
+/// A request without the token is illegal; after a claim it is legal. A trace that is not in order is refused.
 #[test]
 fn traces_from_elsewhere_are_judged(rt: HostRuntime) {
     let taps = [master(1), master(2)];
@@ -83,7 +83,7 @@ fn traces_from_elsewhere_are_judged(rt: HostRuntime) {
     );
 }
 
-/// The faults of a telegram that is made by hand, in their order, and what a good one shows.
+/// The faults of a telegram made by hand, in order, and the fields of a valid one.
 #[test]
 fn telegrams_are_made_by_hand(rt: HostRuntime) {
     let made = |tap, begin, end, heard: &[Heard]| -> Result<Record, RecordFault> {

@@ -1,9 +1,11 @@
+//! Texts of telegrams that are cut short or have one octet changed.
+
 use super::equal;
 use pb_decode::decode;
 use std::test::Fail;
 
-/// Beginnings of telegrams, each cut after every octet, and telegrams with one octet changed (one
-/// more, with bit 7 turned, and another start, end or 0 in its place), each with its line of text.
+/// Telegrams cut after every octet, and telegrams with one octet changed (plus one, with bit 7 flipped, or replaced by
+/// another start delimiter, the end delimiter or 0), each with its line of text.
 const ROWS: &str = "\
 dc -> fault 4 Truncated
 dc03 -> fault 4 Truncated

@@ -1,3 +1,5 @@
+//! Tests of initiators and responders.
+
 use super::{equal, octets, request, spelled, telegram, unit};
 use arrayvec::ArrayVec;
 use pb_cycles::{Initiator, Outcome, Responder, Service, status_reply};

@@ -1,8 +1,8 @@
-//! Calls that take memory, where a text is empty or grows: with ample memory none of them says that memory is wanted.
+//! Calls that allocate, on texts that are empty or grow: with ample memory none of them returns `NoMemory`.
 
 use pb_decode::decode;
 
-/// From no line to as many as let the text grow a few times, each line has its text.
+/// From no line to as many lines as make the text grow a few times, each line has its text.
 #[test]
 fn each_number_of_lines(rt: HostRuntime) {
     let alloc = rt.alloc();

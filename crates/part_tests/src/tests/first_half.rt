@@ -1,4 +1,6 @@
-/// Fifty sequences of requests and replies, each of which begins with its stations.
+//! The first fifty sequences of message cycles.
+
+/// Fifty sequences of requests and replies. Each begins with the line of its stations.
 pub const FIRST_HALF: &str = "stations 126 3 7 -
 request 7 sdn high 74b999cc85f190ac a2077e4674b999cc85f190ac0f16
 hears 1 a2077e4674b999cc85f190ac0f16 - 1

@@ -1,3 +1,5 @@
+//! Lists of active stations, compared with those of an independent simulator.
+
 ghost use Rattle.std.specs.Prelude.{◌<◌, IfSome};
 
 use super::equal;
@@ -6,10 +8,10 @@ use std::alloc::Global;
 use std::fmt::Write;
 use std::test::Fail;
 
-/// Lists of active stations, one a line. First how a list begins: L, it listens, or C, it has claimed the
-/// token, and the own address. Then what is heard and done: `2>5` is a token from 2 to 5; +9 enters and -9
-/// leaves; !7 joins the ring. Behind the bar: whether the list is complete, how many tokens have skipped
-/// the own station, its next and its previous station, and the members. An independent simulator made them.
+/// Lists of active stations, one a line. A line begins with the start of the list, L for listening or C for a claim of
+/// the token, and the own address. Then follow its events: `2>5` is a token from 2 to 5; +9 enters and -9 leaves; !7
+/// joins the ring. After the bar are: whether the list is complete, how many tokens have skipped the own station, its
+/// next and its previous station, and the members. They were made by an independent simulator.
 const LISTS: &str = "\
 L21 85>0 80>49 0>30 30>49 49>78 78>80 85>0 85>0 80>85 30>78 30>78 80>85 78>85 85>30 78>80 80>85 85>0 49>0 85>49 78>80 80>78|0 0 21 21\n\
 L8 29>82 29>90 82>90 82>90 90>7 7>29 29>82 29>82 7>90 7>90 7>82 82>90 118>90 90>7 90>7 7>29 29>90|0 0 8 8\n\
@@ -213,7 +215,7 @@ L125 96>66 66>66 96>61 36>96 66>66 66>66 66>66 66>66 66>36 61>96 66>66 66>66 +96
 L100 10>10 59>59 13>13 13>10 -13 13>13 13>13 13>13 13>13 59>59 13>13 13>13 +59 59>59 13>13 13>13 10>10 !100 59>13|1 1 13 59 13 59 100\n\
 ";
 
-/// The address that a word has behind its mark.
+/// The address in a word, after its first character.
 fn address(word: &str) -> Option<u8>
     ensures { IfSome result (λ a. a < 127) }
 {
@@ -221,7 +223,7 @@ fn address(word: &str) -> Option<u8>
     if number < 127 { Some(number) } else { None }
 }
 
-/// A list that has begun.
+/// A new list, with the own address.
 fn begun(word: &str) -> Option<(Las, u8)>
     ensures { IfSome result (λ begun. begun.1 < 127) }
 {
@@ -233,7 +235,7 @@ fn begun(word: &str) -> Option<(Las, u8)>
     }
 }
 
-/// What one word does to a list.
+/// Updates a list by one word.
 fn after_word(las: Las, word: &str) -> Option<Las> {
     let mut las = las;
     if let Some((sa, da)) = word.split_once('>') {
@@ -253,7 +255,7 @@ fn after_word(las: Las, word: &str) -> Option<Las> {
     Some(las)
 }
 
-/// What became of a list.
+/// The final state of a list.
 fn outcome(alloc: Global, las: &Las, ts: u8) -> Result<String, Fail>
     requires { ts < 127 }
 {
@@ -272,7 +274,7 @@ fn outcome(alloc: Global, las: &Las, ts: u8) -> Result<String, Fail>
     Ok(text)
 }
 
-/// What became of the list of a line, if the line can be read.
+/// The final state of a line's list, if the line can be read.
 fn played(alloc: Global, events: &str) -> Result<Option<String>, Fail> {
     let mut list = None;
     for word in events.split_whitespace() {

@@ -1,3 +1,5 @@
+//! Tests of lists of active stations and of GAP rounds.
+
 ghost use Rattle.std.specs.Prelude.{◌<◌};
 
 use super::equal;
@@ -16,7 +18,7 @@ fn members(alloc: Global, las: &Las) -> Result<Vec<u8>, AllocError> {
     Ok(members)
 }
 
-/// What a round asks, from its beginning until it is closed.
+/// The addresses that a round asks, from its begin until it is closed.
 fn asked(alloc: Global, ts: u8, ns: u8, hsa: u8) -> Result<Vec<u8>, AllocError>
     requires own { ts < 127 }
     requires highest { hsa < 127 }
@@ -163,7 +165,7 @@ fn a_round_goes_on_by_the_next_station_of_the_moment(rt: HostRuntime) {
     equal(&rt, &gap.next_to_ask(1, 5, 10, 0), &Some(3));
     // The next station has left: the GAP is longer.
     equal(&rt, &gap.next_to_ask(1, 1, 5, 0), &Some(4));
-    // A station has entered behind those asked: nothing is left.
+    // A station has entered after those that were asked: nothing is left.
     equal(&rt, &gap.next_to_ask(1, 3, 5, 700), &None);
     assert!(rt; !gap.due(955, 256, 1));
     assert!(rt; gap.due(956, 256, 1));

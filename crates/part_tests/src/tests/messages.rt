@@ -1,3 +1,5 @@
+//! Tests of frames and messages.
+
 use super::{equal, octets, telegram, unit};
 use pb_messages::{Frame, Message, Reply};
 use pb_telegram::{Telegram, write};

@@ -1,3 +1,5 @@
+//! Tests of queues.
+
 use super::{equal, request};
 use pb_messages::{Queue, Service};
 use std::test::Fail;

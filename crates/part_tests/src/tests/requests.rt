@@ -1,3 +1,5 @@
+//! Tests of requests: which address a service may have.
+
 use super::{equal, unit};
 use arrayvec::ArrayVec;
 use pb_messages::{Request, RequestFault, Service};

@@ -1,3 +1,5 @@
+//! Tests of rotations: which cycles may start.
+
 use super::{at, equal};
 use pb_rotation::Rotation;
 use std::test::Fail;

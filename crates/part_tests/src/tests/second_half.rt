@@ -1,4 +1,6 @@
-/// Fifty sequences of requests and replies, each of which begins with its stations.
+//! The second fifty sequences of message cycles.
+
+/// Fifty sequences of requests and replies. Each begins with the line of its stations.
 pub const SECOND_HALF: &str = "stations 126 2 7 aabb
 request 127 sdn low 2cf98ac85d07f13a a27f7e442cf98ac85d07f13a4716
 hears 0 a27f7e442cf98ac85d07f13a4716 - 1

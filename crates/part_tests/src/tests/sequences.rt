@@ -1,3 +1,5 @@
+//! Plays a hundred sequences of message cycles, and compares each step.
+
 ghost use Rattle.std.specs.Prelude.{◌≤◌};
 
 use super::first_half::FIRST_HALF;
@@ -25,7 +27,7 @@ fn word<'a>(words: &mut SplitWhitespace<'a>) -> Result<&'a str, Fail> {
     Ok(words.next().ok_or("a word is missing")?)
 }
 
-/// `stations TS RETRIES D DATA`: both begin anew.
+/// Reads `stations TS RETRIES D DATA`: a new initiator and a new responder.
 fn begin(words: &mut SplitWhitespace<'_>) -> Result<Stations, Fail> {
     let ts = word(words)?.parse::<u8>()?.min(126);
     let initiator = Initiator::new(word(words)?.parse::<u8>()?.min(7));
@@ -39,7 +41,7 @@ fn begin(words: &mut SplitWhitespace<'_>) -> Result<Stations, Fail> {
     })
 }
 
-/// `DA SERVICE PRIORITY DATA`.
+/// Reads a request: `DA SERVICE PRIORITY DATA`.
 fn asked(words: &mut SplitWhitespace<'_>) -> Result<Request, Fail> {
     let da = word(words)?.parse::<u8>()?;
     let service = match word(words)? {
@@ -51,7 +53,7 @@ fn asked(words: &mut SplitWhitespace<'_>) -> Result<Request, Fail> {
     Ok(Request::new(da, service, high, unit(word(words)?)?)?)
 }
 
-/// `none`, `acked`, `noresource`, `noanswer`, or `data:` with octets.
+/// Reads an outcome: `none`, `acked`, `noresource`, `noanswer`, or `data:` with octets.
 fn outcome(word: &str) -> Result<Option<Outcome>, Fail> {
     Ok(match word {
         "none" => None,
@@ -65,7 +67,7 @@ fn outcome(word: &str) -> Result<Option<Outcome>, Fail> {
     })
 }
 
-/// Whether a line's step gives what the line says.
+/// Whether a step has the result in its line.
 fn agrees(
     stations: &mut Stations,
     step: &str,

@@ -1,3 +1,5 @@
+//! Tests of services and their function codes.
+
 use super::equal;
 use pb_messages::{Asked, Service};
 use std::test::Fail;

@@ -1,9 +1,11 @@
+//! Tests of the states of a station.
+
 use super::{at, equal};
 use pb_telegram::{ShortTelegram, Telegram, TokenTelegram};
 use pb_tokenfsm::{Checking, Holding, Listening, Phase, Use};
 use std::test::Fail;
 
-/// A station with address 1 that hears nobody claims the token and keeps it.
+/// A station with address 1 that hears no other claims the token and keeps it.
 #[test]
 fn a_lone_station_claims_and_keeps_the_token(rt: HostRuntime) -> Result<(), Fail> {
     let claim = Listening::new().on_timeout(at(800)?);
@@ -30,7 +32,7 @@ fn a_lone_station_claims_and_keeps_the_token(rt: HostRuntime) -> Result<(), Fail
     Ok(())
 }
 
-/// A master that listens joins the ring once it has said that it is ready, and gives way to a namesake.
+/// A listening master joins the ring after it has replied that it is ready, and goes offline for a namesake.
 #[test]
 fn a_listener_joins_or_gives_way(rt: HostRuntime) {
     let listening = Listening::new();
@@ -44,8 +46,8 @@ fn a_listener_joins_or_gives_way(rt: HostRuntime) {
     assert!(rt; !phase.may_initiate());
 }
 
-/// A station with address 1 and the previous station 3 takes a token from it, and one from another
-/// station only when that offers it again.
+/// A station with address 1 and the previous station 3 accepts a token from 3, and a token from another station only at
+/// the second offer.
 #[test]
 fn a_token_is_taken_from_the_previous_station(rt: HostRuntime) -> Result<(), Fail> {
     let from_three = TokenTelegram { da: 1, sa: 3 };
@@ -159,7 +161,7 @@ fn a_request_is_sent_again_until_it_has_an_outcome(rt: HostRuntime) -> Result<()
     Ok(())
 }
 
-/// Activity from before the own telegram leaves the slot as it is.
+/// Activity from before the own telegram does not close the slot.
 #[test]
 fn a_slot_outlasts_older_activity(rt: HostRuntime) -> Result<(), Fail> {
     let waiting = holder()?.ask().on_activity(at(900)?, at(899)?);
@@ -174,7 +176,7 @@ fn a_slot_outlasts_older_activity(rt: HostRuntime) -> Result<(), Fail> {
     Ok(())
 }
 
-/// An SDN is not answered, and the station speaks again; of what it asked it knows as before.
+/// An SDN is not answered, and the station speaks again. Whether it has asked for a status is unchanged.
 #[test]
 fn a_station_goes_on_after_an_sdn(rt: HostRuntime) -> Result<(), Fail> {
     let holder = holder()?.send(at(1026)?);
@@ -187,7 +189,7 @@ fn a_station_goes_on_after_an_sdn(rt: HostRuntime) -> Result<(), Fail> {
     Ok(())
 }
 
-/// That station after it has passed the token to station 2.
+/// The same station after it has passed the token to station 2.
 fn checking() -> Result<Checking, Fail> {
     match holder()?.done().on_sent(2, 1, at(1010)?) {
         Phase::Checking(checking) => Ok(checking),
@@ -195,7 +197,7 @@ fn checking() -> Result<Checking, Fail> {
     }
 }
 
-/// After its token a station that hears nothing passes it again, three times to one successor.
+/// If nothing is heard after its token, the station passes it again, three times to one successor.
 #[test]
 fn a_token_is_passed_again_three_times(rt: HostRuntime) -> Result<(), Fail> {
     let mut silent = checking()?;
@@ -212,8 +214,8 @@ fn a_token_is_passed_again_three_times(rt: HostRuntime) -> Result<(), Fail> {
     Ok(())
 }
 
-/// One that hears anything after its token waits for the token again, and takes the first from the previous
-/// station alone.
+/// If anything is heard after its token, the station waits for the token again, and accepts the first one only from the
+/// previous station.
 #[test]
 fn activity_ends_the_check(rt: HostRuntime) -> Result<(), Fail> {
     let from_three = TokenTelegram { da: 1, sa: 3 };
@@ -232,7 +234,7 @@ fn activity_ends_the_check(rt: HostRuntime) -> Result<(), Fail> {
     Ok(())
 }
 
-/// An equal phase leaves the first as it is.
+/// A copy of a phase is equal, and leaves the original unchanged.
 #[test]
 fn a_phase_has_an_equal_one(rt: HostRuntime) -> Result<(), Fail> {
     let phase = Phase::Claim(Listening::new().on_timeout(at(800)?));

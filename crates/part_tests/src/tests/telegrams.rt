@@ -1,4 +1,4 @@
-//! Telegrams are read and written, from lists of characters and a character at a time; each fault is found.
+//! Telegrams are read and written, from lists of characters and one character at a time; each fault is found.
 
 use super::equal;
 use arrayvec::ArrayVec;
@@ -10,7 +10,7 @@ use std::alloc::{AllocError, Global};
 use std::process::Abort;
 use std::test::Fail;
 
-/// Octets as characters that are all good.
+/// Octets as undamaged characters.
 fn good(alloc: Global, octets: &[u8]) -> Result<Vec<RxChar>, AllocError> {
     octets
         .iter()
@@ -309,7 +309,7 @@ fn a_telegram_gives_its_fields(rt: HostRuntime) -> Result<(), Fail> {
     Ok(())
 }
 
-/// A receiver to which the characters came.
+/// A receiver that was fed these characters.
 fn receiver_of(chars: &[RxChar]) -> Receiver {
     let mut receiver = Receiver::new();
     for char in chars {
@@ -320,7 +320,7 @@ fn receiver_of(chars: &[RxChar]) -> Receiver {
     receiver
 }
 
-/// What a receiver makes of characters.
+/// The result of a receiver for these characters.
 fn fed(chars: &[RxChar]) -> Result<Telegram, TelegramFault> {
     receiver_of(chars).end()
 }
@@ -349,7 +349,7 @@ fn a_receiver_is_fed_a_character_at_a_time(rt: HostRuntime) {
     assert!(rt; !Receiver::new().is_acknowledgement());
 }
 
-/// Octets, and what is found in each front of them: none is Empty, the others are Truncated until they
+/// Octets, and the result for each of their prefixes: `Empty` for the empty one, `Truncated` for the others, until they
 /// spell the telegram or have the fault.
 #[derive(Drop)]
 struct Fronts<'a> {
@@ -365,7 +365,7 @@ struct Found {
 }
 
 impl Fronts<'_> {
-    /// What is found in so many of the octets.
+    /// The result for the first `count` octets.
     fn found(&self, count: usize) -> Result<&Telegram, TelegramFault> {
         match &self.whole {
             _ if count == 0 => Err(TelegramFault::Empty),
@@ -376,7 +376,7 @@ impl Fronts<'_> {
     }
 }
 
-/// Each front of the octets is received as it is parsed, with its answer.
+/// For each prefix of the octets, a receiver and `parse` have the expected result.
 fn fronts_are_received(rt: &impl Abort, alloc: Global, fronts: &Fronts) -> Result<(), Fail> {
     let chars = good(alloc, fronts.octets)?;
     for count in 0..=chars.len() {
@@ -391,8 +391,8 @@ fn fronts_are_received(rt: &impl Abort, alloc: Global, fronts: &Fronts) -> Resul
     Ok(())
 }
 
-/// With a damaged character at each place, each front is received as it is parsed: what it is
-/// without the damage, or the place of it.
+/// With a damaged character at each index, a receiver and `parse` agree on each prefix: the result without damage, or
+/// the index of the damage.
 fn damaged_fronts_are_received(
     rt: &impl Abort,
     alloc: Global,
@@ -413,7 +413,7 @@ fn damaged_fronts_are_received(
     Ok(())
 }
 
-/// With a damaged character at each place a receiver that is fed all of them answers that place.
+/// With a damaged character at each index, a receiver that is fed all characters returns that index.
 fn damage_is_received(rt: &impl Abort, chars: &mut [RxChar]) {
     for place in 0..chars.len() {
         let octet = std::mem::replace(&mut chars[place], RxChar::Bad);

@@ -1,13 +1,16 @@
+//! Tests of bus parameters, durations and moments.
+
 use super::equal;
 use pb_timers::{BusParams, ClockFull, Moment, ParamFault, bits};
 use std::test::Fail;
 
-/// Slot time, idle times 1 and 2, reply delay, lag, rotation, GAP factor, highest address, retries, cable delay.
+/// Slot time, idle times 1 and 2, reply delay, lag, target rotation time, GAP factor, highest station address, retries,
+/// cable delay.
 type Numbers = [u32; 10];
 
 const USUAL: Numbers = [100, 37, 60, 11, 0, 10_000, 10, 5, 1, 0];
 
-/// The usual numbers with one other.
+/// The usual numbers with one of them replaced.
 fn with(place: usize, number: u32) -> Numbers {
     let mut numbers = USUAL;
     if let Some(cell) = numbers.get_mut(place) {

@@ -1,4 +1,4 @@
-//! Segments of each number of taps: with ample memory no call says that memory is wanted.
+//! Segments of each number of taps: with ample memory no call returns `NoMemory`.
 
 ghost use Rattle.std.specs.Prelude.{◌≡◌, ◌+◌, length};
 ghost use Rattle.pb_segment.specs.Origins.{IsNew};
@@ -11,7 +11,7 @@ use std::process::Abort;
 use std::sync::Wait;
 use std::sync::ledger::{Blank, Ledger};
 
-/// Masters of one address that start at so many taps. A world of their own needs a tap at least.
+/// Masters with one address, at `taps` taps. A world needs at least one tap.
 fn masters(rt: &(impl AllocGlobal + Abort), taps: usize) -> World
     ensures new { IsNew result }
 {
@@ -22,7 +22,7 @@ fn masters(rt: &(impl AllocGlobal + Abort), taps: usize) -> World
     World::new(rt.alloc(), usual(rt), &specs).expect(rt, "a world")
 }
 
-/// All start, time passes to the claim, each takes a turn, and the segment is closed.
+/// All taps start, time passes to the claim, each takes a turn, and the segment is closed.
 fn of_taps<L: Ledger, R: AllocGlobal + Abort + Wait>(rt: &R, blank: Blank, world: World)
     requires name { blank.name ≡ L.name }
     requires parts { blank.parts ≡ L.parts }

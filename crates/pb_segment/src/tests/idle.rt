@@ -1,5 +1,5 @@
-//! Turns that find nothing to do, in a world and through a segment. bench/world measures what one takes, by the
-//! difference of a thousand and two thousand.
+//! Turns that have nothing to do, in a world and through a segment. bench/world measures the cost of one, by the
+//! difference between a thousand and two thousand.
 
 ghost use Rattle.std.specs.Prelude.{◌≡◌, ◌+◌, length};
 ghost use Rattle.pb_segment.specs.Origins.{IsNew};
@@ -12,7 +12,7 @@ use std::process::Abort;
 use std::sync::Wait;
 use std::sync::ledger::{Blank, Ledger};
 
-/// Turns of a master that has claimed the token, while its telegram is on its way.
+/// Turns of a master that has claimed the token, while its telegram is on the bus.
 fn in_a_world(rt: &(impl AllocGlobal + Abort), turns: usize) {
     let alloc = rt.alloc();
     let mut world = two_masters(rt);
@@ -31,7 +31,7 @@ fn in_a_world(rt: &(impl AllocGlobal + Abort), turns: usize) {
     equal(rt, &world.trace().len(), &1);
 }
 
-/// The same turns, looked at, decided and committed.
+/// The same turns by glance, decision and commit.
 fn through_a_segment<L: Ledger, R: AllocGlobal + Abort + Wait>(
     rt: &R,
     blank: Blank,

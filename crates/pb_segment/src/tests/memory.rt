@@ -1,5 +1,5 @@
-//! Each allocation refused in turn: the call that it refuses changes nothing of the segment and of its seats, and does what it is
-//! to do the next time.
+//! Each allocation refused in turn: the refused call changes nothing of the segment and its seats, and succeeds the
+//! next time.
 
 ghost use Rattle.std.specs.Prelude.{◌≡◌, ◌+◌, length};
 ghost use Rattle.pb_segment.specs.Origins.{IsNew};
@@ -18,10 +18,10 @@ use std::sync::ledger::{Blank, Ledger};
 /// How many events happen.
 const EVENTS: usize = 6;
 
-/// The place of the one turn among them.
+/// The index of the only turn among them.
 const TURN: usize = 3;
 
-/// The event at a place: a master claims the token, and noise hits it.
+/// The event with this index: a master claims the token, and noise disturbs it.
 fn event(place: usize) -> Event {
     match place {
         0 => Event::Start(0),
@@ -46,7 +46,7 @@ fn refused(rt: &impl Print) {
     let _ = println!(rt; "refused");
 }
 
-/// The event at a place happens. None where memory was refused.
+/// Applies the event with this index; `None` if memory was refused.
 fn tried<L: Ledger, R: AllocGlobal + Abort + Wait>(
     rt: &R,
     used: &mut Used<L>,
@@ -70,7 +70,7 @@ fn tried<L: Ledger, R: AllocGlobal + Abort + Wait>(
     }
 }
 
-/// The event at a place happens, if not at once then the next time.
+/// Applies the event with this index, if not at once then the next time.
 fn happens<L: Ledger, R: AllocGlobal + Abort + Print + Wait>(
     rt: &R,
     used: &mut Used<L>,
@@ -87,7 +87,7 @@ fn happens<L: Ledger, R: AllocGlobal + Abort + Print + Wait>(
     equal(rt, &receipt.place, &place);
 }
 
-/// What the conductor sees after all events.
+/// The outlook after all events.
 fn shown<L: Ledger, R: AllocGlobal + Abort + Print + Wait>(rt: &R, used: &mut Used<L>) -> Outlook {
     match used.segment.outlook(rt, rt.alloc(), &mut used.conductor) {
         Ok(outlook) => outlook,
@@ -102,7 +102,7 @@ fn shown<L: Ledger, R: AllocGlobal + Abort + Print + Wait>(rt: &R, used: &mut Us
     }
 }
 
-/// The segment and its seats are as after so many events, which also happen on a world of their own.
+/// The segment and its seats are as after `count` events, which are also applied to another world.
 fn is_as_after<L: Ledger, R: AllocGlobal + Abort + Wait>(rt: &R, used: &Used<L>, count: usize) {
     let mut world = two_masters(rt);
     let mut replies = Vec::new(rt.alloc());
@@ -166,7 +166,7 @@ fn is_same_tap(rt: &(impl AllocGlobal + Abort), one: &World, other: &World, tap:
     one.station.is_same(&other.station) && one.marks == other.marks && one.now == other.now
 }
 
-/// The history has the first events with their replies, and no others.
+/// The history has exactly the first events, with these replies.
 fn has_happened<L: Ledger>(rt: &impl Abort, locked: &Locked<L>, replies: &[Reply]) {
     equal(rt, &locked.history.len(), &replies.len());
     for (place, reply) in replies.iter().enumerate() {
@@ -178,7 +178,7 @@ fn has_happened<L: Ledger>(rt: &impl Abort, locked: &Locked<L>, replies: &[Reply
     }
 }
 
-/// There are so many receipts, each of an event with its reply.
+/// There are `count` receipts, each of an event with its reply.
 fn are_told(rt: &impl Abort, receipts: &[KeptReceipt], count: usize, replies: &[Reply]) {
     equal(rt, &receipts.len(), &count);
     for receipt in receipts {
@@ -218,7 +218,7 @@ fn refused_once<L: Ledger, R: AllocGlobal + Abort + Print + Wait>(
     is_closed(rt, used, seats);
 }
 
-/// The segment is closed with its seats, of which there is room in an empty list.
+/// The segment is closed with its seats, which are put into an empty list.
 fn is_closed<L: Ledger>(rt: &(impl Abort + Print), used: Used<L>, mut seats: Vec<TapSeat<L>>) {
     let Used {
         segment,

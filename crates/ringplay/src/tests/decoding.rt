@@ -1,3 +1,5 @@
+//! Decoded lines: each form of telegram, each fault, and ends of lines.
+
 use super::equal;
 use pb_cli::{CountedReader, CountedWriter, Status, decode_lines};
 use std::test::Fail;
@@ -69,7 +71,7 @@ fn a_line_of_text_for_each_line(rt: HostRuntime) -> Result<(), Fail> {
     Ok(())
 }
 
-/// Inputs with their outputs and whether some line is refused.
+/// Inputs, with their outputs and statuses.
 const INPUTS: [(&[u8], &str, Status); 9] = [
     (b"", "", Status::Done),
     (b"\n", "fault 1 Empty\n", Status::Refused),

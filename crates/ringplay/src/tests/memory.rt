@@ -1,3 +1,5 @@
+//! Calls with one allocation refused.
+
 use super::equal;
 use pb_cli::{AskFault, CliFault, CountedReader, CountedWriter, ask, decode_lines};
 use std::io;
@@ -7,7 +9,7 @@ const INPUT: &[u8] = b"dc0302\n100302494e16\n--0302\n";
 
 const OUTPUT: &[u8] = b"token da=3 sa=2\nshort da=3 sa=2 fc=49\nfault 2 Faulty 0\n";
 
-/// Compares what it takes with the text, and takes no memory.
+/// Compares what is written with the wanted text, without allocating.
 #[derive(Drop)]
 struct Comparing {
     wanted: &'static [u8],
@@ -31,7 +33,7 @@ impl Write for Comparing {
     }
 }
 
-/// Run with one allocation refused: the full answer, or `NoMemory` and nothing written.
+/// With one allocation refused, `decode_lines` writes the full output, or returns `NoMemory` and writes nothing.
 #[test]
 fn refused_memory_in_decode_lines(rt: HostRuntime) {
     let mut writer = CountedWriter::new(Comparing {
@@ -48,7 +50,7 @@ fn refused_memory_in_decode_lines(rt: HostRuntime) {
     }
 }
 
-/// Run with one allocation refused: `decode` is understood, or the fault is `NoMemory`.
+/// With one allocation refused, `ask` understands `decode` or returns `NoMemory`.
 #[test]
 fn refused_memory_in_ask(rt: HostRuntime) {
     let Ok(program) = String::from_str(rt.alloc(), "ringplay") else {

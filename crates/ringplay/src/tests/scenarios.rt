@@ -1,4 +1,4 @@
-//! Scenario files are played and audited over readers and writers that fail, are interrupted, and give and take a byte.
+//! Scenario files played and audited over readers and writers that fail, are interrupted, or move one byte a call.
 
 use super::equal;
 use pb_cli::{CliFault, CountedReader, CountedWriter, Status, audit_file, bounds_file, play};
@@ -26,7 +26,7 @@ const LAST_LINE: &[u8] = b"1356 1389 b dc0102 w-\n";
 
 const AUDIT: &[u8] = b"premises kept\ntrace legal\n";
 
-/// The same masters, of which the first starts in the very instant in which both time-outs end together.
+/// The same masters: the first one starts at the moment at which both time-outs end.
 const CLASH: &[u8] = b"version = 1
 until = 1100
 bus = { tsl = 100, tid1 = 37, tid2 = 60, tsdr = 11, lag = 0, ttr = 10000, gap = 10, hsa = 5, retries = 1 }
@@ -34,7 +34,7 @@ tap = [{ name = \"a\", kind = \"master\", address = 1 }, { name = \"b\", kind = 
 step = [{ at = 0, do = \"start\", tap = \"b\" }, { at = 200, do = \"start\", tap = \"a\" }]
 ";
 
-/// Gives one byte a call, and answers an error from one call on, once or without end.
+/// Gives one byte a call, and from one call on returns some errors.
 #[derive(Drop)]
 struct ByteReader {
     rest: &'static [u8],
@@ -61,14 +61,14 @@ impl Read for ByteReader {
     }
 }
 
-/// Takes some bytes, one a call, and then fails.
+/// Takes one byte a call until it is full, and then fails.
 #[derive(Drop)]
 struct ByteWriter {
     taken: Vec<u8>,
     room: usize,
 }
 
-/// Is interrupted so many times before each byte that it takes.
+/// Is interrupted the given number of times before each byte that it takes.
 #[derive(Drop)]
 struct InterruptedWriter {
     taken: Vec<u8>,
@@ -145,7 +145,7 @@ fn a_run_prints_its_trace(rt: HostRuntime) {
     }
 }
 
-/// The last lines alone, and all of them where there are no more; memory is ample for any number of them.
+/// The last lines are printed alone, or all lines if there are no more. Memory is ample for any number of them.
 #[test]
 fn a_run_prints_its_last_lines(rt: HostRuntime) {
     for (last, lines) in [
@@ -172,7 +172,7 @@ fn a_run_prints_its_last_lines(rt: HostRuntime) {
     }
 }
 
-/// The line of a fault stands alone, with either call.
+/// A refused file prints only the line of its fault, with either call.
 #[test]
 fn a_refused_file_prints_its_fault(rt: HostRuntime) {
     let line = b"scenario fault 1 NotToml\n".as_slice();
@@ -194,7 +194,7 @@ fn a_refused_file_prints_its_fault(rt: HostRuntime) {
     assert!(rt; writer.writer().as_slice() == line);
 }
 
-/// An audit tells a broken premise and an illegal record, and its status goes by the record.
+/// An audit prints a broken premise and an illegal record; the status depends on the record.
 #[test]
 fn an_audit_tells_premise_and_record(rt: HostRuntime) {
     for (file, told, status) in [
@@ -212,7 +212,7 @@ fn an_audit_tells_premise_and_record(rt: HostRuntime) {
     }
 }
 
-/// A reader that fails at any call is told, and nothing is written; so is one that is interrupted for ever.
+/// A reader that fails at any call is reported, and nothing is written. An endlessly interrupted reader is too.
 #[test]
 fn a_reader_that_fails_at_any_call(rt: HostRuntime) {
     for calls_before in 0..=RING.len() as u32 {
@@ -297,7 +297,7 @@ fn an_interrupted_read_is_tried_again(rt: HostRuntime) {
     }
 }
 
-/// A write that is interrupted is tried again, a thousand times in a row at most: then it is a fault.
+/// An interrupted write is tried again, at most a thousand times in a row. Then it is a fault.
 #[test]
 fn an_interrupted_write_is_tried_again(rt: HostRuntime) {
     let interrupted = |interruptions: u32| {
@@ -349,7 +349,7 @@ fn an_interrupted_write_is_tried_again(rt: HostRuntime) {
     }
 }
 
-/// A write that takes nothing of a text is a fault.
+/// A write that takes no byte is a fault.
 #[test]
 fn a_write_that_takes_nothing_is_a_fault(rt: HostRuntime) {
     let mut writer = CountedWriter::new(FullWriter);
@@ -366,7 +366,7 @@ fn a_write_that_takes_nothing_is_a_fault(rt: HostRuntime) {
     equal(&rt, &answer, &Err(CliFault::Write));
 }
 
-/// A writer that fails at any call is told, and has taken a front of the text.
+/// A writer that fails at any call is reported, and has taken a prefix of the text.
 #[test]
 fn a_writer_that_fails_at_any_call(rt: HostRuntime) {
     for room in 0..AUDIT.len() {
@@ -396,7 +396,7 @@ fn a_writer_that_fails_at_any_call(rt: HostRuntime) {
     }
 }
 
-/// Run with one allocation refused: the full answer, or `NoMemory`.
+/// With one allocation refused, `audit_file` writes the full output or returns `NoMemory`.
 #[test]
 fn refused_memory_in_audit_file(rt: HostRuntime) {
     let mut room = [0; 64];

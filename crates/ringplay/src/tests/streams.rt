@@ -1,3 +1,5 @@
+//! Lines decoded over readers and writers that fail, are interrupted, or move one byte a call; the limits of an input.
+
 use super::equal;
 use pb_cli::{CliFault, CountedReader, CountedWriter, Status, decode_lines};
 use std::io;
@@ -8,7 +10,7 @@ const INPUT: &[u8] = b"dc0302\ne5\nzz\n";
 
 const OUTPUT: &[u8] = b"token da=3 sa=2\nack\nfault 0 NotHex\n";
 
-/// Gives one byte a call, and answers an error at one call.
+/// Gives one byte a call, and returns an error at one call.
 #[derive(Drop)]
 struct ByteReader {
     rest: &'static [u8],
@@ -34,7 +36,7 @@ impl Read for ByteReader {
     }
 }
 
-/// Takes one byte a call, and from one call on answers errors, a few or without end.
+/// Takes one byte a call, and from one call on returns some errors.
 #[derive(Drop)]
 struct ByteWriter {
     taken: Vec<u8>,
@@ -64,7 +66,7 @@ impl Write for ByteWriter {
     }
 }
 
-/// Takes one byte a call, and is interrupted some times before each.
+/// Takes one byte a call, and is interrupted the given number of times before each.
 #[derive(Drop)]
 struct HaltingWriter {
     taken: Vec<u8>,
@@ -160,7 +162,7 @@ fn reading_ends_at_the_limit_of_calls(rt: HostRuntime) {
     assert!(rt; writer.writer().is_empty());
 }
 
-/// Gives one blank a call.
+/// Gives one space a call.
 #[derive(Drop)]
 struct BlankReader {
     left: u32,
@@ -177,7 +179,7 @@ impl Read for BlankReader {
     }
 }
 
-/// The limit of calls leaves one for each byte of the longest input, and one for its end.
+/// The limit of read calls allows one for each byte of the longest input, and one for its end.
 #[test]
 fn the_longest_input_comes_a_byte_a_call(rt: HostRuntime) {
     let mut reader = CountedReader::new(BlankReader { left: 1_048_576 });

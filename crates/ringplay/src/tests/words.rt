@@ -1,3 +1,5 @@
+//! The program's words: what they ask for, and the usage for all others.
+
 use super::equal;
 use pb_cli::{Ask, AskFault, ask};
 use std::alloc::{AllocError, Global};

@@ -1,11 +1,12 @@
-//! Calls that take memory, where a list is empty, full or grows: with ample memory none of them says that memory is wanted.
+//! Calls that allocate, on lists that are empty, full or grow: with ample memory none of them returns `NoMemory`.
 
 use super::{BUS, equal};
 use pb_medium::Entry;
 use pb_scenario::{Scenario, audit_of, events_of, read, trace_text};
 use std::process::Abort;
 
-/// A file of version 2 of a master and so many more taps, which starts the master and has so much noise.
+/// A file of version 2 with a master and `taps` passive stations, which starts the master and makes noise `noises`
+/// times.
 fn scenario(rt: &(impl AllocGlobal + Abort), taps: usize, noises: usize) -> Scenario {
     let alloc = rt.alloc();
     let mut text = format!(in alloc;
@@ -26,7 +27,7 @@ fn scenario(rt: &(impl AllocGlobal + Abort), taps: usize, noises: usize) -> Scen
     read(alloc, text.as_bytes()).expect(rt, "a scenario")
 }
 
-/// From one tap to 127 a scenario is read, played, judged and shown.
+/// From one tap to 127, a scenario is read, played, judged and shown.
 #[test]
 fn each_number_of_taps(rt: HostRuntime) {
     for taps in 0..=126 {
@@ -34,7 +35,7 @@ fn each_number_of_taps(rt: HostRuntime) {
     }
 }
 
-/// From no noise to as much as lets each list grow a few times, a scenario is read, played, judged and shown.
+/// From no noise to as much as makes each list grow a few times, a scenario is read, played, judged and shown.
 #[test]
 fn each_number_of_steps(rt: HostRuntime) {
     for noises in 0..=66 {

@@ -1,10 +1,12 @@
+//! Tests of reviews: which histories are the run of a scenario.
+
 use pb_plan::{Deed, Step, Walk};
 use pb_review::{Look, Report, is_run};
 use pb_taps::Event;
 use pb_timers::Moment;
 use std::alloc::{AllocError, Global};
 
-/// An outlook that shows two taps.
+/// An outlook of two taps.
 #[derive(Drop)]
 struct Shown {
     place: usize,
@@ -12,7 +14,7 @@ struct Shown {
     change: Option<Moment>,
 }
 
-/// A history with its outlooks.
+/// A history and its outlooks.
 #[derive(Drop)]
 struct Kept<'a> {
     events: &'a [Event],
@@ -66,7 +68,7 @@ fn at(bits: Option<u64>) -> Option<Moment> {
     }
 }
 
-/// Whether a history is the run of a scenario with noise of 4 at 5, up to 20, where both taps are due at 7.
+/// Whether a history is the run of a scenario with noise of 4 at 5, up to 20, with both taps due at 7.
 fn reviewed(alloc: Global, events: &[Event]) -> Result<bool, AllocError> {
     let steps = [Step {
         at: 5,
@@ -92,8 +94,8 @@ fn reviewed(alloc: Global, events: &[Event]) -> Result<bool, AllocError> {
     is_run(alloc, &report, walk)
 }
 
-/// The turns of an instant in either order are a run, and a turn left out or doubled, another noise, a
-/// shorter pass or a history that goes on are none.
+/// With the turns of an instant in either order it is a run. With a turn left out or doubled, another noise, a shorter
+/// pass or more events it is not.
 #[test]
 fn judges_histories(rt: HostRuntime) {
     let alloc = rt.alloc();
@@ -118,7 +120,7 @@ fn judges_histories(rt: HostRuntime) {
     assert!(rt; !reviewed(alloc, &other).expect(&rt, "memory"));
 }
 
-/// Run with one allocation refused: a history is judged, or memory was refused.
+/// With one allocation refused, a history is judged or memory was refused.
 #[test]
 fn refused_memory_in_a_review(rt: HostRuntime) {
     match reviewed(rt.alloc(), &[]) {

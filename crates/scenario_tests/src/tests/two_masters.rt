@@ -1,4 +1,4 @@
-//! The file `examples/two-masters.toml` itself: each front of it is read, and it is read, played, judged and shown with each
+//! The file `examples/two-masters.toml`: each prefix of it is read, and it is read, played, judged and shown with each
 //! allocation refused in turn.
 
 use super::equal;
@@ -54,11 +54,11 @@ const TRACE: &str = "800 833 a dc0101 -w
 1356 1389 b dc0102 w-
 ";
 
-/// How many events its run has.
+/// The number of events of its run.
 const EVENTS: usize = 45;
 
-/// The first fault of a front of the file is that it is no TOML, or that a key is missing. Eleven fronts are scenarios: they
-/// end behind a tap or a step, with or without the line's end, and an empty line before the next.
+/// The first fault of a prefix of the file is that it is not TOML, or that a key is missing. Eleven prefixes are
+/// scenarios: they end after a tap or a step, with or without the line end, and an empty line before the next one.
 #[test]
 fn reads_each_front(rt: HostRuntime) {
     let octets = TWO_MASTERS.as_bytes();
@@ -80,7 +80,7 @@ fn refused(rt: &impl Print) {
     let _ = println!(rt; "refused");
 }
 
-/// The scenario of the file. None where memory was refused.
+/// The scenario of the file; `None` if memory was refused.
 fn scenario(rt: &(impl AllocGlobal + Abort + Print)) -> Option<Scenario> {
     match read(rt.alloc(), TWO_MASTERS.as_bytes()) {
         Ok(scenario) => Some(scenario),
@@ -92,7 +92,7 @@ fn scenario(rt: &(impl AllocGlobal + Abort + Print)) -> Option<Scenario> {
     }
 }
 
-/// A run was refused memory, of the new world or at a moment.
+/// The run was refused memory, for the new world or at a moment.
 fn is_refused_memory(rt: &(impl Abort + Print), fault: RunFault) {
     match fault {
         RunFault::New(fault) => equal(rt, &fault, &NewFault::NoMemory),
@@ -101,7 +101,7 @@ fn is_refused_memory(rt: &(impl Abort + Print), fault: RunFault) {
     refused(rt);
 }
 
-/// The events of the run. None where memory was refused.
+/// The events of the run; `None` if memory was refused.
 fn events(rt: &(impl AllocGlobal + Abort + Print), scenario: &Scenario) -> Option<Vec<Event>> {
     match events_of(rt.alloc(), scenario) {
         Ok(events) => Some(events),
@@ -112,7 +112,7 @@ fn events(rt: &(impl AllocGlobal + Abort + Print), scenario: &Scenario) -> Optio
     }
 }
 
-/// Run with one allocation refused: the file is read, or memory was refused.
+/// With one allocation refused, the file is read or memory was refused.
 #[test]
 fn refused_memory_in_reading(rt: HostRuntime) {
     if let Some(scenario) = scenario(&rt) {
@@ -120,7 +120,7 @@ fn refused_memory_in_reading(rt: HostRuntime) {
     }
 }
 
-/// Run with one allocation refused: the run has its events, or memory was refused.
+/// With one allocation refused, the run has its events or memory was refused.
 #[test]
 fn refused_memory_in_a_run(rt: HostRuntime) {
     let Some(scenario) = scenario(&rt) else {
@@ -131,7 +131,7 @@ fn refused_memory_in_a_run(rt: HostRuntime) {
     }
 }
 
-/// Run with one allocation refused: the run is judged, or memory was refused.
+/// With one allocation refused, the run is judged or memory was refused.
 #[test]
 fn refused_memory_in_an_audit(rt: HostRuntime) {
     let Some(scenario) = scenario(&rt) else {
@@ -143,7 +143,7 @@ fn refused_memory_in_an_audit(rt: HostRuntime) {
     }
 }
 
-/// Run with one allocation refused: the trace has its text, or memory was refused.
+/// With one allocation refused, the trace has its text or memory was refused.
 #[test]
 fn refused_memory_in_a_trace(rt: HostRuntime) {
     let alloc = rt.alloc();

@@ -1,3 +1,5 @@
+//! Tests of walks through the steps of a scenario.
+
 use super::equal;
 use pb_plan::{Deed, Step, Walk};
 use pb_taps::Event;
@@ -62,7 +64,7 @@ fn walks_from_step_to_step(rt: HostRuntime) {
     equal(&rt, &walk.pass_to(None), &Some(10));
 }
 
-/// Run with one allocation refused: a walk is made and says whose turn it is, or memory was refused.
+/// With one allocation refused, a walk is made and says whose turn it is, or memory was refused.
 #[test]
 fn refused_memory_in_a_walk(rt: HostRuntime) {
     if turns_at_0(&rt).is_err() {

@@ -1,3 +1,5 @@
+//! Tests of a station's message cycles, with turns as lines of text.
+
 use super::{at, equal, master, take_turn, usual};
 use arrayvec::ArrayVec;
 use pb_cycles::{Outcome, Request, Service};
@@ -6,7 +8,7 @@ use pb_timers::BusParams;
 use std::alloc::Global;
 use std::test::Fail;
 
-/// The station after turns that are as the lines say.
+/// Takes the turns of some lines, and returns the station after them.
 fn play(alloc: Global, station: Station, lines: &str) -> Result<Station, Fail> {
     let mut station = station;
     for line in lines.lines() {
@@ -24,7 +26,7 @@ fn request(da: u8, service: Service, high: bool) -> Result<Request, Fail> {
     Ok(Request::new(da, service, high, ArrayVec::new())?)
 }
 
-/// A master with address 1 that has started at 0, and in whose queue requests wait.
+/// A master with address 1 that has started at 0, with waiting requests.
 fn asking(alloc: Global, requests: &[(u8, Service, bool)]) -> Result<Station, Fail> {
     let mut station = master(alloc)?;
     station.start(at(0)?);
@@ -41,7 +43,7 @@ fn push_all(station: &mut Station, requests: &[(u8, Service, bool)]) -> Result<(
     Ok(())
 }
 
-/// A passive station with address 7 that has started at 0, and replies aa bb.
+/// A passive station with address 7 that has started at 0 and replies with aa bb.
 fn passive(alloc: Global) -> Result<Station, Fail> {
     let reply = ArrayVec::try_from([0xaa, 0xbb].as_slice())?;
     let mut station = Station::new(alloc, 1, usual()?, 7, false, reply)?;
@@ -49,13 +51,13 @@ fn passive(alloc: Global) -> Result<Station, Fail> {
     Ok(station)
 }
 
-/// It claims the token.
+/// The station claims the token.
 const CLAIMS: &str = "\
 800 800 dc0101 Claim 870\n\
 870 870 dc0101 Use 940";
 
-/// Three requests for data of high priority, with the frame count bits 1 (which does not count), 0 and 1; the
-/// second is sent again after a damaged reply.
+/// Three requests for data, of high priority, with the frame count bits 1 (not valid), 0 and 1. The second is sent
+/// again after a damaged reply.
 const THREE_REQUESTS: &str = "\
 940 940 1007016d7516 AwaitData 1106\n\
 1018 1018 - AwaitData - b:1017:1018\n\
@@ -85,7 +87,7 @@ fn requests_are_sent_until_they_are_answered(rt: HostRuntime) -> Result<(), Fail
     Ok(())
 }
 
-/// The other side: the request that comes again gets its reply again.
+/// The other side: a repeated request gets the kept reply.
 const THREE_REPLIES: &str = "\
 941 941 - PassiveIdle - b:940:941\n\
 1006 1006 - PassiveIdle 1017 e:1006:1006:1007016d7516\n\
@@ -113,8 +115,8 @@ fn a_request_that_comes_again_is_executed_once(rt: HostRuntime) -> Result<(), Fa
     Ok(())
 }
 
-/// A target rotation time of 256: one of two requests of high priority may be sent each time that the token
-/// comes, and one of low priority where time is left.
+/// With a target rotation time of 256, one of two requests of high priority may be sent for each receipt of the token,
+/// and one of low priority if time is left.
 const SHORT_ROTATION: &str = "\
 1176 1176 107f0146c616 Use 1302\n\
 1302 1302 dc0101 Use 1372\n\
@@ -140,7 +142,7 @@ fn low_priority_waits_for_time(rt: HostRuntime) -> Result<(), Fail> {
     Ok(())
 }
 
-/// Nobody answers: after its one retry the request is given up, and the next one is a first one again.
+/// There is no answer: after its only retry the request is given up, and the next request is a first one again.
 const NO_ANSWER: &str = "\
 940 940 100701636b16 AwaitData 1106\n\
 1106 1106 100701636b16 AwaitData 1272\n\
@@ -156,7 +158,7 @@ fn a_request_is_given_up(rt: HostRuntime) -> Result<(), Fail> {
     Ok(())
 }
 
-/// A token of another station: the request is given up, and its outcome is not known.
+/// A token of another station is heard: the request is given up, without an outcome.
 #[test]
 fn a_foreign_token_ends_the_wait(rt: HostRuntime) -> Result<(), Fail> {
     let alloc = rt.alloc();
@@ -193,7 +195,7 @@ fn a_master_in_the_ring_is_asked(rt: HostRuntime) -> Result<(), Fail> {
     Ok(())
 }
 
-/// The seventeenth request of a priority is handed back; one of the other priority still has room.
+/// The seventeenth request of a priority is returned. One of the other priority is still accepted.
 #[test]
 fn a_full_queue_hands_back(rt: HostRuntime) -> Result<(), Fail> {
     let alloc = rt.alloc();
@@ -211,8 +213,7 @@ fn a_full_queue_hands_back(rt: HostRuntime) -> Result<(), Fail> {
     Ok(())
 }
 
-/// Marks that begin with an End: damage leaves the reply that waits, and the answer to the next request takes its
-/// place.
+/// With marks that begin with an End: damage leaves a waiting reply, and the answer to the next request replaces it.
 #[test]
 fn an_end_leaves_a_reply(rt: HostRuntime) -> Result<(), Fail> {
     let alloc = rt.alloc();
@@ -229,7 +230,7 @@ fn an_end_leaves_a_reply(rt: HostRuntime) -> Result<(), Fail> {
     Ok(())
 }
 
-/// A station that stops drops its reply, and keeps all else.
+/// A station that stops drops its reply, and keeps everything else.
 #[test]
 fn a_stopped_station_says_nothing(rt: HostRuntime) -> Result<(), Fail> {
     let alloc = rt.alloc();

@@ -1,8 +1,10 @@
-/// Turns of a station with the address 1, in the order in which it takes them, from its start at 0 on: a slot
-/// of 100, idle times 37 and 60, reply delay 11, no lag, rotation 10,000, GAP factor 10, highest address 5. Each
-/// line has the moment of the turn, when the station was due, what it says, the phase after it, and when it is
-/// due then; and the marks that it reads: a begin `b` or an end `e` with its moment, the moment at which it was
-/// delivered, and the characters, `--` for one that is damaged.
+//! Turns of one station, as lines of text.
+
+/// Turns of a station with the address 1, in order, from its start at 0 on, with slot time 100, idle times 37 and 60,
+/// reply delay 11, lag 0, target rotation time 10,000, GAP factor 10 and highest station address 5. Each line has the
+/// moment of the turn, when the station was due, what it sends, the phase after it, and when it is due then; and the
+/// marks that it reads: a begin `b` or an end `e` with its moment, the moment of its delivery, and the characters, with
+/// `--` for a damaged one.
 pub(crate) const TURNS: &str = "\
 start\n\
 800 800 dc0101 Claim 870\n\
