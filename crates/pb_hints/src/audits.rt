@@ -1,5 +1,7 @@
 //! Why a run breaks a premise, and which rule its first illegal record breaks.
 
+ghost use Rattle.std.specs.Prelude.{◌≡◌, [], None, IfOk, IfSome, string_bytes};
+
 use crate::documents::Document;
 use crate::explaining::explain;
 use crate::runs::name_of;
@@ -17,7 +19,9 @@ pub fn explain_audit(
     name: &str,
     file: &[u8],
     reasons: Option<Reasons>,
-) -> Result<String, AllocError> {
+) -> Result<String, AllocError>
+    ensures { IfSome reasons (λ r. r.cause ≡ None → IfOk result (λ text. string_bytes text ≡ [])) }
+{
     let document = Document { alloc, name, file };
     let Some(reasons) = reasons else {
         return explain(alloc, name, file, None);

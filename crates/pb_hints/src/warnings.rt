@@ -1,5 +1,8 @@
 //! What a scenario should not have, though its run is not refused.
 
+ghost use Rattle.std.specs.Prelude.{◌≢◌, [], IfOk, string_bytes};
+ghost use Rattle.pb_hints.specs.Hints.{IsScenario};
+
 use crate::documents::Document;
 use pb_scenario::{Deed, Event, Key, Scenario, Section, read};
 use std::alloc::{AllocError, Global};
@@ -9,7 +12,9 @@ use std::alloc::{AllocError, Global};
 /// people gave it.
 ///
 /// Fault: memory was refused.
-pub fn warn(alloc: Global, name: &str, file: &[u8]) -> Result<String, AllocError> {
+pub fn warn(alloc: Global, name: &str, file: &[u8]) -> Result<String, AllocError>
+    ensures { IfOk result (λ text. string_bytes text ≢ [] → IsScenario file.now) }
+{
     let document = Document { alloc, name, file };
     match read(alloc, file) {
         Ok(scenario) => {
