@@ -1,3 +1,5 @@
+//! `ringplay bounds`: from a scenario file to the numbers of what is proved of its bus.
+
 ghost use Rattle.std.specs.Prelude.{◌≡◌, ◌≢◌, ◌≤◌, ◌<◌, ◌+◌, length, Err, IfOk, IfErr, OnOk, IfSome, IsErrOf};
 ghost use Rattle.std.specs.Io.KnownBytes.{Appends, Keeps};
 ghost use Rattle.pb_show.specs.Shown.{shown_of};

@@ -12,8 +12,10 @@ ghost use Rattle.pb_live.specs.Holding.{Spends, Comes, PhaseSays, IsCycling, lim
 /// A station that starts has all its time left. Marks that it reads in time, timers that end, and what it sends in time
 /// keep it within its time. Thus what a holder sends is a token, or leaves time for all that follows it.
 pub fn a_holder_keeps_within_its_time()
-    ensures started { (p : Params) (d now : ℕ) (s : Station) (master : Bool) → Spends p d (started p s master now) }
-    ensures timer { (p : Params) (d bound : ℕ) (s : Station) → Spends p d s → Spends p d (after_timer p bound s) }
+    ensures started { (p : Params) (d now : ℕ) (s : Station) (master : Bool)
+        → Spends p d (started p s master now) }
+    ensures timer { (p : Params) (d bound : ℕ) (s : Station) → Spends p d s
+        → Spends p d (after_timer p bound s) }
     ensures mark { (p : Params) (d : ℕ) (s : Station) (m : Mark) → Comes p d s m → Spends p d s
         → Spends p d (after_mark p s m) }
     ensures speech { (p : Params) (d : ℕ) (s : Station) (now : ℕ) → p.tid2 + p.lag ≤ p.tsl
@@ -24,6 +26,6 @@ pub fn a_holder_keeps_within_its_time()
 /// A station that uses the token and has to speak does so within the target rotation time and two cycles after its last
 /// receipts.
 pub fn a_holder_speaks_in_time()
-    ensures { (p : Params) (d moment : ℕ) (s : Station) → speaks_at s ≡ Some moment → IsCycling s.phase → Spends p d s
-        → moment + p.lag ≤ limit p d true }
+    ensures { (p : Params) (d moment : ℕ) (s : Station) → speaks_at s ≡ Some moment → IsCycling s.phase
+        → Spends p d s → moment + p.lag ≤ limit p d true }
 {}

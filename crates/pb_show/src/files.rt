@@ -13,9 +13,9 @@ use pb_runs::the_events_of_a_run_lead_to_its_end;
 use pb_scenario::{Reasons, Scenario, ScenarioFault, read, reasons_of};
 use std::alloc::{AllocError, Global};
 
-/// What is written for the audit of a scenario file: a line for the first premise that its run on one thread breaks,
-/// and a line for the first illegal record of its trace; or the line of the fault of the file or of the run. Where there
-/// is an audit, `reasons` becomes what it finds, and why.
+/// The text for the audit of a scenario file: a line for the first premise that its run on one thread breaks, and a
+/// line for the first illegal record of its trace; or the line of the fault of the file or of the run. Where there is an
+/// audit, `reasons` becomes what it found.
 ///
 /// Fault: memory was refused.
 pub fn audited(
