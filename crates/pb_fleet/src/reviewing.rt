@@ -56,7 +56,8 @@ pub(crate) fn review(
     draft: Draft<'_>,
 ) -> Result<bool, AllocError>
     ensures { IfOk result (λ is. is ≡ true
-        → IsRunOf scenario.entry.now.scenario (looks_of draft.entry.outlooks) (events_in draft.entry.history)) }
+        → IsRunOf scenario.entry.now.scenario (looks_of draft.entry.outlooks)
+            (events_in draft.entry.history)) }
 {
     let walk = scenario.walk(alloc)?;
     is_run(alloc, &Played { draft }, walk)

@@ -273,7 +273,8 @@ fn refused<L: Ledger>(
     seats: Vec<TapSeat<L>>,
 ) -> CloseRefused<L>
     ensures fault { result.fault ≡ fault }
-    ensures back { (result.conductor ≡ conductor) × (result.seats ≡ seats) × (result.segment.origin ≡ origin) }
+    ensures back { (result.conductor ≡ conductor) × (result.seats ≡ seats)
+        × (result.segment.origin ≡ origin) }
 {
     let segment = SharedSegment {
         state: Mutex::new(locked),
