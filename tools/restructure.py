@@ -6,14 +6,14 @@ import txtar
 
 C = pathlib.Path('crates')
 # module of a crate: its new name, before merging (src, proofs folder and references by path)
-MODULES = {('pb_messages', 'laws'): 'message_laws', ('pb_theorem', 'examples'): 'judged', ('pb_tickets', 'tests'): 'ticket_tests',
+MODULES = {('pb_plan', 'steps'): 'deeds', ('scenario_tests', 'tests'): 'scenarios', ('pb_messages', 'laws'): 'message_laws', ('pb_theorem', 'examples'): 'judged', ('pb_tickets', 'tests'): 'ticket_tests',
            ('pb_hints', 'audits'): 'audit_hints', ('pb_hints', 'files'): 'file_hints', ('pb_hints', 'runs'): 'run_hints', ('pb_hints', 'keys'): 'key_hints',
            ('pb_hints', 'params'): 'param_hints', ('pb_hints', 'values'): 'file_values', ('pb_hints', 'near'): 'near_words', ('pb_hints', 'tests'): 'hint_tests'}
 # file of specs/ of a crate
 SPECS = {('pb_theorem', 'Runs'): 'RunsAlike', ('pb_theorem', 'Scenarios'): 'JudgedScenarios', ('pb_audit', 'Ends'): 'LatestEnds'}
 PROOFS = {}
 MERGES = {'pb_cycles': ['pb_messages', 'pb_cycles'], 'pb_runs': ['pb_theorem', 'pb_runs'], 'pb_transitions': ['pb_core', 'pb_phases'],
-          'pb_schedule': ['pb_plan', 'pb_review'], 'pb_world': ['pb_bus', 'pb_audit', 'pb_world'], 'pb_fleet': ['pb_tickets', 'pb_fleet'],
+          'pb_scenario': ['pb_plan', 'pb_review', 'pb_scenario'], 'bus_tests': ['bus_tests', 'scenario_tests'], 'pb_world': ['pb_bus', 'pb_audit', 'pb_world'], 'pb_fleet': ['pb_tickets', 'pb_fleet'],
           'pb_texts': [c for c in ('pb_show', 'pb_hints', 'pb_bounds') if (C/c).exists()]}
 RENAMES = {'pb_refusals': 'pb_faults', 'pb_turn': 'law_turn', 'pb_model': 'law_model', 'pb_runs': 'law_runs', 'pb_token': 'law_token',
            'pb_live': 'law_live', 'part_tests': 'station_tests'}
@@ -26,9 +26,10 @@ HEADS = {
 //! contracts are the laws.''',
 'pb_transitions': '''//! What a station keeps, and how it changes: at a begin and an end of activity, at a timer, and at its speaking
 //! moment.''',
-'pb_schedule': '''//! The schedule of a scenario: what its steps trigger at a moment, which taps take their turns then, and which instant is
-//! next. A walk through it costs as much as there are steps. And whether a history with its outlooks is the run of a scenario: a
-//! walk over both that applies no event.''',
+'pb_scenario': '''//! Scenarios: files that describe a bus with named taps and what happens on it from outside; the instants of a run, and
+//! which taps take their turns in each; the run on one thread, as a list of events or judged as they happen; the text
+//! of a trace; and whether a history with its outlooks is the run of a scenario, by a walk over both that applies no event.''',
+'bus_tests': '''//! Tests of one bus, its audit, scenario files and their bounds.''',
 'pb_world': '''//! One bus with its stations: [`World`], its events and its trace; the audit of a run, or of a trace from anywhere.''',
 'pb_texts': '''//! What the program writes for a scenario file, as values: traces, audits, the numbers of proved bounds, the lines of
 //! faults, and hints for people. Contracts name the bytes, but those of hints.''',
@@ -289,8 +290,8 @@ flowchart TB
     ringplay --> pb_cli --> pb_texts & pb_decode
   end
   subgraph playing [scenarios and threads]
-    pb_texts --> pb_fleet --> pb_scenario & pb_segment
-    pb_scenario --> pb_schedule
+    pb_cli --> pb_fleet --> pb_scenario & pb_segment
+    pb_texts --> pb_scenario
   end
   subgraph bus
     pb_world --> pb_medium --> pb_taps
@@ -307,8 +308,8 @@ flowchart TB
     pb_ring
   end
   pb_segment & pb_scenario --> pb_world --> law_live
-  pb_schedule & pb_medium --> law_runs
-  pb_schedule --> pb_taps --> pb_station & law_model
+  pb_medium --> law_runs
+  pb_medium --> pb_taps --> pb_station & law_model
   pb_tokenfsm --> law_turn --> pb_cycles & pb_ring & pb_rotation
   pb_decode --> pb_telegram
   classDef laws fill:none,stroke-dasharray:6 4
@@ -320,7 +321,8 @@ ROWS = {
  'law_runs': "how runs are judged (premises, legal telegrams); a scenario's run on one thread, histories with turns in any order",
  'pb_transitions': 'what a station keeps, and how marks, timers and its speaking moment change it',
  'pb_world': 'one bus (`World`, `run`); the audit of a run, of a bus as events happen, of a trace from anywhere; reasons; the longest stretches without a token',
- 'pb_schedule': "a scenario's steps, and a walk from instant to instant, also over a history; it applies no event",
+ 'pb_scenario': "scenario files; the instants of a run and its turns; the run on one thread as events, audited, with reasons; the text of a trace; whether a history is the run",
+ 'bus_tests': 'tests of one bus, its audit, scenario files and their bounds',
  'pb_fleet': 'workers that play a scenario; numbers that they draw without a lock',
  'pb_texts': 'what the program writes for a file, and what it tells people; no threads',
 }

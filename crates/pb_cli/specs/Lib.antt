@@ -2,6 +2,7 @@ pub mod Asking
 pub mod Bounding
 pub mod Counted
 pub mod Counts
+pub mod Fleets
 pub mod Playing
 pub mod Reading
 pub mod Statuses

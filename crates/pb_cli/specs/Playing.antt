@@ -2,7 +2,7 @@
 use Rattle.std.specs.Prelude.{◌≡◌, ℕ, List, Option, ◌≤◌, IfSome}
 use Rattle.std.specs.Io.KnownBytes.{Appends}
 use Rattle.pb_show.specs.Shown.{Shown}
-use Rattle.pb_show.specs.Plays.{IsRunOf}
+use Rattle.pb_cli.specs.Fleets.{IsRunOf}
 use Rattle.pb_cli.specs.Statuses.{status_of}
 use Rattle.pb_cli.specs.Writing.{AppendsFront}
 use Rattle.pb_cli.specs.declared.faults.Status.{Status}

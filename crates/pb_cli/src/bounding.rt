@@ -10,12 +10,13 @@ ghost use Rattle.pb_cli.specs.Writing.{AppendsFront, IsWriteCause};
 ghost use Rattle.pb_bounds.specs.Bounds.{world_fault};
 
 use crate::faults::{CliFault, Status};
+use crate::fleets::refused_fleet;
 use crate::reading::read_input;
 use crate::streams::{Sink, Source};
 use crate::writing::write_out;
 use pb_bounds::{bounds_json, bounds_text};
 use pb_fleet::FleetFault;
-use pb_show::{Scenario, Shown, described, refused_file, refused_fleet};
+use pb_show::{Scenario, Shown, described, refused_file};
 use std::alloc::{AllocError, Global};
 
 /// The least number of bits a second.

@@ -15,6 +15,7 @@ mod counted_reader;
 mod counted_writer;
 mod decoding;
 mod faults;
+mod fleets;
 mod playing;
 mod reading;
 mod streams;
@@ -32,3 +33,6 @@ pub use playing::play;
 pub use reading::read_input;
 pub use streams::{ReadFault, Sink, Source, WriteFault};
 pub use words::{Ask, AskFault, Asked};
+
+#[cfg(test)]
+mod tests;

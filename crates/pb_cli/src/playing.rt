@@ -2,20 +2,21 @@
 
 ghost use Rattle.std.specs.Prelude.{◌≡◌, ◌≢◌, ◌≤◌, ◌<◌, ◌+◌, length, Err, IfOk, IfErr, OnOk, IfSome, IsErrOf};
 ghost use Rattle.std.specs.Io.KnownBytes.{Keeps};
-ghost use Rattle.pb_show.specs.FleetFaults.{IsCrew};
+ghost use Rattle.pb_fleet.specs.Faults.{IsCrew};
 ghost use Rattle.pb_show.specs.Scenarios.{ScenarioView};
-ghost use Rattle.pb_show.specs.Plays.{IsRun, IsRunOf, crew_of};
+ghost use Rattle.pb_cli.specs.Fleets.{IsRun, IsRunOf, crew_of};
 ghost use Rattle.pb_show.specs.Shown.{shown_of};
 ghost use Rattle.pb_cli.specs.Playing.{IsUpTo, WritesFrontOfRun, WritesRun, line_limit, worker_limit};
 ghost use Rattle.pb_cli.specs.Reading.{byte_limit, call_limit, IsReadCause};
 ghost use Rattle.pb_cli.specs.Writing.{IsWriteCause};
 
 use crate::faults::{CliFault, Status};
+use crate::fleets::refused_fleet;
 use crate::reading::read_input;
 use crate::streams::{Sink, Source};
 use crate::writing::write_out;
 use pb_fleet::{Gate, run_fleet};
-use pb_show::{Scenario, Shown, described, refused_file, refused_fleet, traced};
+use pb_show::{Scenario, Shown, described, refused_file, traced};
 use std::alloc::{AllocError, Global};
 use std::sync::Wait;
 use std::thread;

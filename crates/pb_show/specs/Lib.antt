@@ -4,7 +4,6 @@ pub mod Faults
 pub mod Audits
 pub mod Files
 pub mod Plays
--- the faults of a fleet and of a scenario
-pub use Rattle.pb_fleet.specs.Faults as FleetFaults
+-- the faults of a scenario
 pub use Rattle.pb_scenario.specs.Fields
 pub use Rattle.pb_scenario.specs.Scenarios

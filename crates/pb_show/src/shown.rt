@@ -14,7 +14,7 @@ impl Shown {
     ghost use Rattle.pb_show.specs.Shown.{refusal, shown_of};
 
     /// The text of a refusal.
-    pub(crate) fn refusal(text: Vec<u8>) -> Shown
+    pub fn refusal(text: Vec<u8>) -> Shown
         ensures { shown_of result ≡ refusal text.items }
     {
         Shown {

@@ -1,9 +1,6 @@
-//! Tests of the texts that no run of the program shows, and of an audit.
+//! The text for an audit.
 
-//! What is written for an audit, and the lines of faults that no scenario file brings about.
-
-use crate::{audited, refused_fleet};
-use pb_fleet::{CloseFault, CommitFault, FleetFault};
+use crate::audited;
 
 /// Two masters whose starts are as far apart as their time-outs differ.
 const FILE: &[u8] = b"version = 1
@@ -45,25 +42,4 @@ fn an_audit_names_premise_and_record(rt: HostRuntime) {
         shown.text.as_slice() == b"premise P4 broken at 1000\nrecord 1 illegal\n".as_slice()
     );
     assert!(rt; shown.is_refused);
-}
-
-/// The lines of faults that no scenario file causes.
-#[test]
-fn tells_why_a_fleet_stopped(rt: HostRuntime) {
-    let alloc = rt.alloc();
-    let shown = refused_fleet(alloc, FleetFault::NoThread).expect(&rt, "memory");
-    assert!(rt; shown.text.as_slice() == b"no thread\n".as_slice());
-    assert!(rt; shown.is_refused);
-    let shown = refused_fleet(alloc, FleetFault::GateClosed(3)).expect(&rt, "memory");
-    assert!(rt; shown.text.as_slice() == b"gate closed\n".as_slice());
-    let closing = FleetFault::Closing(CloseFault::Disagree);
-    let shown = refused_fleet(alloc, closing).expect(&rt, "memory");
-    assert!(rt; shown.text.as_slice() == b"disagree\n".as_slice());
-    let full = FleetFault::Commit {
-        tap: 1,
-        now: 800,
-        fault: CommitFault::HistoryFull,
-    };
-    let shown = refused_fleet(alloc, full).expect(&rt, "memory");
-    assert!(rt; shown.text.as_slice() == b"history full\n".as_slice());
 }
