@@ -1,6 +1,8 @@
-//! Tests of the calls of pb_world, pb_station and pb_core. The crate has only tests. Whole buses are tested by event
-//! lists.
+//! Tests of one bus, its audit, scenario files and their bounds.
 #![tactic(auto)]
+
+#[cfg(test)]
+mod scenarios;
 
 #[cfg(test)]
 mod tests;

@@ -1,14 +1,14 @@
 -- What goes out for the bounds of a file's bus.
 use Rattle.std.specs.Prelude.{ℕ, ◌≤◌, Bool, true, false, List, Option, Some, None, Result, Ok, Err}
 use Rattle.pb_taps.specs.Faults.{new_fault}
-use Rattle.pb_model.specs.World.{NewFault}
+use Rattle.law_model.specs.World.{NewFault}
 use Rattle.pb_scenario.specs.Fields.{Fault}
 use Rattle.pb_scenario.specs.Scenarios.{ScenarioView}
-use Rattle.pb_bounds.specs.Bounds.{world_fault}
-use Rattle.pb_bounds.specs.Texts.{bounds_json, bounds_text}
-use Rattle.pb_show.specs.Shown.{Shown, refusal}
-use Rattle.pb_show.specs.Faults.{new_line, scenario_line}
-use Rattle.pb_show.specs.Files.{scenario_of}
+use Rattle.pb_texts.specs.Bounds.{world_fault}
+use Rattle.pb_texts.specs.Texts.{bounds_json, bounds_text}
+use Rattle.pb_texts.specs.Shown.{Shown, refusal}
+use Rattle.pb_texts.specs.Faults.{new_line, scenario_line}
+use Rattle.pb_texts.specs.Files.{scenario_of}
 
 -- bits a second that a bus may have
 abbrev pub IsBaud : ℕ → Type 0

@@ -1,10 +1,10 @@
 -- The text for the run of a scenario by a fleet: its trace, the last lines of it, or the line of the fleet's fault.
 use Rattle.std.specs.Prelude.{◌≡◌, ◌≢◌, ℕ, ◌⊎◌, List, [], length, min, max, codes, Option, Some, None, Result, Ok, Err}
-use Rattle.pb_model.specs.Trace.{Entry}
-use Rattle.pb_model.specs.World.{new_world}
+use Rattle.law_model.specs.Trace.{Entry}
+use Rattle.law_model.specs.World.{new_world}
 use Rattle.pb_taps.specs.declared.faults.NewFault.TheVariants as new
 use Rattle.pb_taps.specs.declared.faults.WorldFault.TheVariants as world
-use Rattle.pb_runs.specs.Scenarios.{trace_of}
+use Rattle.law_runs.specs.Scenarios.{trace_of}
 use Rattle.pb_fleet.specs.CommitFault.{CommitFault}
 use Rattle.pb_fleet.specs.CommitFault.TheVariants as commit
 use Rattle.pb_fleet.specs.declared.faults.FleetFault.{FleetFault}
@@ -12,10 +12,10 @@ use Rattle.pb_fleet.specs.declared.faults.FleetFault.TheVariants as fleet
 use Rattle.pb_fleet.specs.Faults.{RefusesFleet}
 use Rattle.pb_scenario.specs.Fields.{Fault}
 use Rattle.pb_scenario.specs.Scenarios.{ScenarioView}
-use Rattle.pb_show.specs.Shown.{Shown, refusal}
-use Rattle.pb_show.specs.Faults.{new_line, refused_line, scenario_line}
-use Rattle.pb_show.specs.Files.{scenario_of}
-use Rattle.pb_show.specs.Plays.{trace_shown}
+use Rattle.pb_texts.specs.Shown.{Shown, refusal}
+use Rattle.pb_texts.specs.Faults.{new_line, refused_line, scenario_line}
+use Rattle.pb_texts.specs.Files.{scenario_of}
+use Rattle.pb_texts.specs.Plays.{trace_shown}
 
 -- ---- a fleet's fault
 

@@ -1,7 +1,7 @@
 -- What is written for the run of a file.
 use Rattle.std.specs.Prelude.{◌≡◌, ℕ, List, Option, ◌≤◌, IfSome}
 use Rattle.std.specs.Io.KnownBytes.{Appends}
-use Rattle.pb_show.specs.Shown.{Shown}
+use Rattle.pb_texts.specs.Shown.{Shown}
 use Rattle.pb_cli.specs.Fleets.{IsRunOf}
 use Rattle.pb_cli.specs.Statuses.{status_of}
 use Rattle.pb_cli.specs.Writing.{AppendsFront}

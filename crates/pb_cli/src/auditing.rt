@@ -2,7 +2,7 @@
 
 ghost use Rattle.std.specs.Prelude.{◌≡◌, ◌≢◌, ◌≤◌, ◌<◌, ◌+◌, length, Err, IfOk, IfErr, OnOk, IfSome, IsErrOf};
 ghost use Rattle.std.specs.Io.KnownBytes.{Appends, Keeps};
-ghost use Rattle.pb_show.specs.Files.{audit_of};
+ghost use Rattle.pb_texts.specs.Files.{audit_of};
 ghost use Rattle.pb_cli.specs.Statuses.{status_of};
 ghost use Rattle.pb_cli.specs.Reading.{byte_limit, call_limit, IsReadCause};
 ghost use Rattle.pb_cli.specs.Writing.{AppendsFront, IsWriteCause};
@@ -11,7 +11,7 @@ use crate::faults::{CliFault, Status};
 use crate::reading::read_input;
 use crate::streams::{Sink, Source};
 use crate::writing::write_out;
-use pb_show::{Reasons, audited};
+use pb_texts::{Reasons, audited};
 use std::alloc::Global;
 
 /// Reads a scenario file until the reader ends, and writes the audit of its run on one thread: a line for the first

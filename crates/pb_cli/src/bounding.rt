@@ -2,21 +2,20 @@
 
 ghost use Rattle.std.specs.Prelude.{◌≡◌, ◌≢◌, ◌≤◌, ◌<◌, ◌+◌, length, Err, IfOk, IfErr, OnOk, IfSome, IsErrOf};
 ghost use Rattle.std.specs.Io.KnownBytes.{Appends, Keeps};
-ghost use Rattle.pb_show.specs.Shown.{shown_of};
+ghost use Rattle.pb_texts.specs.Shown.{shown_of};
 ghost use Rattle.pb_cli.specs.Bounding.{IsBaud, bounds_of, shown_unless, text_of};
 ghost use Rattle.pb_cli.specs.Statuses.{status_of};
 ghost use Rattle.pb_cli.specs.Reading.{byte_limit, call_limit, IsReadCause};
 ghost use Rattle.pb_cli.specs.Writing.{AppendsFront, IsWriteCause};
-ghost use Rattle.pb_bounds.specs.Bounds.{world_fault};
+ghost use Rattle.pb_texts.specs.Bounds.{world_fault};
 
 use crate::faults::{CliFault, Status};
 use crate::fleets::refused_fleet;
 use crate::reading::read_input;
 use crate::streams::{Sink, Source};
 use crate::writing::write_out;
-use pb_bounds::{bounds_json, bounds_text};
+use pb_texts::{Scenario, Shown, bounds_json, bounds_text, described, refused_file};
 use pb_fleet::FleetFault;
-use pb_show::{Scenario, Shown, described, refused_file};
 use std::alloc::{AllocError, Global};
 
 /// The least number of bits a second.

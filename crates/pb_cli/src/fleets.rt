@@ -2,11 +2,11 @@
 
 ghost use Rattle.std.specs.Prelude.{◌≡◌, ◌≢◌, IfOk, OnOk};
 ghost use Rattle.pb_fleet.specs.declared.faults.FleetFault.{FleetFault};
-ghost use Rattle.pb_show.specs.Shown.{refusal, shown_of};
+ghost use Rattle.pb_texts.specs.Shown.{refusal, shown_of};
 ghost use Rattle.pb_cli.specs.Fleets.{IsToldCommit, IsToldFleet, commit_line, fleet_line};
 
 use pb_fleet::{CommitFault, FleetFault};
-use pb_show::{Shown, new_line, refused_line};
+use pb_texts::{Shown, new_line, refused_line};
 use std::alloc::{AllocError, Global};
 
 /// The text for a fleet's fault. The caller ensures that it is not `BadWorkers`. For refused memory there is no line:

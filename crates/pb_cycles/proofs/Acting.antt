@@ -4,13 +4,13 @@ use Rattle.std.specs.List.{after_last}
 use Rattle.std.proofs.lemmas.Bool.Decides.{nat_tests}
 use Rattle.std.proofs.lemmas.Bool.{eqb-true, eqb-false}
 use Rattle.std.proofs.lemmas.List.{get_or-set_same, get_or-set_other, length-set}
-use Rattle.pb_messages.specs.Fields.{Fields}
-use Rattle.pb_messages.specs.RequestFields.{RequestFields}
-use Rattle.pb_messages.specs.Requests.{IsAddressed}
-use Rattle.pb_messages.specs.declared.messages.Message.{Message}
-use Rattle.pb_messages.specs.declared.messages.Message.TheVariants.{Framed, Acknowledgement, TokenPass}
-use Rattle.pb_messages.specs.declared.services.Service.{Service}
-use Rattle.pb_messages.specs.declared.services.Service.TheVariants.{Sda, Sdn, Srd}
+use Rattle.pb_cycles.specs.Fields.{Fields}
+use Rattle.pb_cycles.specs.RequestFields.{RequestFields}
+use Rattle.pb_cycles.specs.Requests.{IsAddressed}
+use Rattle.pb_cycles.specs.declared.messages.Message.{Message}
+use Rattle.pb_cycles.specs.declared.messages.Message.TheVariants.{Framed, Acknowledgement, TokenPass}
+use Rattle.pb_cycles.specs.declared.services.Service.{Service}
+use Rattle.pb_cycles.specs.declared.services.Service.TheVariants.{Sda, Sdn, Srd}
 use Rattle.pb_cycles.proofs.NewestActs.{reverse-more, after_last-more, after_last-ends, count_by-more}
 use Rattle.pb_cycles.specs.Acts.{Act, Told, Opened, Closed, sending_act, is_opening_to, is_unanswered_at, is_no_answer, number_to, count_of, open_in, retries_in, InitiatorStandsFor}
 use Rattle.pb_cycles.specs.Counts.{count_after, count_at}

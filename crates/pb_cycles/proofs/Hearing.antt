@@ -2,15 +2,15 @@
 use Rattle.std.proofs.Common.{◌≡◌, ◌∙◌, sym, subst, refl, ap, ℕ, ◌+◌, ◌%◌, ◌==◌, ◌⊎◌, inl, inr, Bool, true, false, ◌&&◌, ◌||◌, if◌then◌else◌, cond, List, [], ◌∷◌, ◌++◌, Option, Some, arith, count_by, append-nil}
 use Rattle.std.proofs.lemmas.Bool.{eqb-true, and_parts}
 use Rattle.std.proofs.lemmas.Grind.{flat_map-append}
-use Rattle.pb_messages.specs.Fields.{Fields}
-use Rattle.pb_messages.specs.Messages.{has_bit, address_in}
-use Rattle.pb_messages.specs.Requests.{asked_by}
-use Rattle.pb_messages.specs.declared.messages.Message.{Message}
-use Rattle.pb_messages.specs.declared.messages.Message.TheVariants.{Framed, Acknowledgement, TokenPass}
-use Rattle.pb_messages.specs.declared.messages.Reply.{Reply}
-use Rattle.pb_messages.specs.declared.services.Asked.{Asked}
-use Rattle.pb_messages.specs.declared.services.Asked.TheVariants.{Send, Status, Unknown}
-use Rattle.pb_messages.specs.declared.services.Service.TheVariants.{Sda, Sdn, Srd}
+use Rattle.pb_cycles.specs.Fields.{Fields}
+use Rattle.pb_cycles.specs.Messages.{has_bit, address_in}
+use Rattle.pb_cycles.specs.Requests.{asked_by}
+use Rattle.pb_cycles.specs.declared.messages.Message.{Message}
+use Rattle.pb_cycles.specs.declared.messages.Message.TheVariants.{Framed, Acknowledgement, TokenPass}
+use Rattle.pb_cycles.specs.declared.messages.Reply.{Reply}
+use Rattle.pb_cycles.specs.declared.services.Asked.{Asked}
+use Rattle.pb_cycles.specs.declared.services.Asked.TheVariants.{Send, Status, Unknown}
+use Rattle.pb_cycles.specs.declared.services.Service.TheVariants.{Sda, Sdn, Srd}
 use Rattle.pb_cycles.proofs.NewestActs.{count_by-more}
 use Rattle.pb_cycles.specs.Calls.{Heard, Call, asked_calls, message_calls, calls, is_told_by, is_told, repeats, new_behind, new_calls, executed_in, last_behind, last_new_behind, call_reply, kept_in, ResponderStandsFor}
 use Rattle.pb_cycles.specs.Responding.{same_bit, is_repeat, one_more, counted, executed, once, after_asked, after_message}

@@ -1,3 +1,5 @@
+pub mod SaidOctets
+pub mod Waiting
 pub mod Acting
 pub mod Hearing
 pub mod Linking

@@ -3,17 +3,17 @@ use Rattle.std.proofs.Common.{◌≡◌, ◌∙◌, sym, subst, refl, ap, ℕ, �
 use Rattle.std.proofs.lemmas.Bool.{eq-eqb, both_ways, cases_Bool}
 use Rattle.std.proofs.lemmas.List.{get_or-set_same, get_or-replicate, length-set}
 use Rattle.std.proofs.lemmas.List.Elements.{All-append}
-use Rattle.pb_messages.specs.Fields.{Fields}
-use Rattle.pb_messages.specs.Messages.{has_bit, address_in, heard_as}
-use Rattle.pb_messages.specs.RequestFields.{RequestFields}
-use Rattle.pb_messages.specs.Requests.{is_answered, asked_by, code_of}
-use Rattle.pb_messages.specs.declared.messages.Message.{Message}
-use Rattle.pb_messages.specs.declared.messages.Message.TheVariants.{Framed}
-use Rattle.pb_messages.specs.declared.messages.Reply.{Reply}
-use Rattle.pb_messages.specs.declared.services.Asked.{Asked}
-use Rattle.pb_messages.specs.declared.services.Asked.TheVariants.{Send}
-use Rattle.pb_messages.specs.declared.services.Service.{Service}
-use Rattle.pb_messages.specs.declared.services.Service.TheVariants.{Sda, Sdn, Srd}
+use Rattle.pb_cycles.specs.Fields.{Fields}
+use Rattle.pb_cycles.specs.Messages.{has_bit, address_in, heard_as}
+use Rattle.pb_cycles.specs.RequestFields.{RequestFields}
+use Rattle.pb_cycles.specs.Requests.{is_answered, asked_by, code_of}
+use Rattle.pb_cycles.specs.declared.messages.Message.{Message}
+use Rattle.pb_cycles.specs.declared.messages.Message.TheVariants.{Framed}
+use Rattle.pb_cycles.specs.declared.messages.Reply.{Reply}
+use Rattle.pb_cycles.specs.declared.services.Asked.{Asked}
+use Rattle.pb_cycles.specs.declared.services.Asked.TheVariants.{Send}
+use Rattle.pb_cycles.specs.declared.services.Service.{Service}
+use Rattle.pb_cycles.specs.declared.services.Service.TheVariants.{Sda, Sdn, Srd}
 use Rattle.pb_cycles.specs.Counts.{count_bits, count_after, count_at}
 use Rattle.pb_cycles.specs.Initiating.{with_request, without_request, retry_of, retried, silence_outcome, after_silence, closed_by, outcome_of}
 use Rattle.pb_cycles.specs.Link.{Link, Fate, RequestLost, ReplyLost, Delivered, Cycle, arrive, unanswered, resend, retry, conclude, receive, sendings, cycle, cycles, IsCallTo, ExecutesOnce}

@@ -1,13 +1,13 @@
 -- What a responder replies means what was meant.
 use Rattle.std.proofs.Common.{◌≡◌, ◌∙◌, refl, ap, ℕ, ◌+◌, ◌*◌, ◌≤◌, ◌%◌, ◌==◌, zero, suc, Bool, true, false, not, ◌&&◌, if◌then◌else◌, List, [], ◌∷◌, length, Option, Some, None, arith}
 use Rattle.std.proofs.lemmas.Bool.{eq-eqb, ne_eqb}
-use Rattle.pb_messages.specs.Fields.{Fields}
-use Rattle.pb_messages.specs.Messages.{has_bit, address_in, heard_as}
-use Rattle.pb_messages.specs.Requests.{is_answered}
-use Rattle.pb_messages.specs.declared.messages.Reply.{Reply}
-use Rattle.pb_messages.specs.declared.messages.Reply.TheVariants.{Acknowledge}
-use Rattle.pb_messages.specs.declared.services.Service.{Service}
-use Rattle.pb_messages.specs.declared.services.Service.TheVariants.{Sda, Sdn, Srd}
+use Rattle.pb_cycles.specs.Fields.{Fields}
+use Rattle.pb_cycles.specs.Messages.{has_bit, address_in, heard_as}
+use Rattle.pb_cycles.specs.Requests.{is_answered}
+use Rattle.pb_cycles.specs.declared.messages.Reply.{Reply}
+use Rattle.pb_cycles.specs.declared.messages.Reply.TheVariants.{Acknowledge}
+use Rattle.pb_cycles.specs.declared.services.Service.{Service}
+use Rattle.pb_cycles.specs.declared.services.Service.TheVariants.{Sda, Sdn, Srd}
 use Rattle.pb_cycles.specs.Outcomes.{code_outcome, reply_outcome}
 use Rattle.pb_cycles.specs.Responding.{reply_frame, data_reply, service_reply}
 use Rattle.pb_cycles.specs.declared.outcomes.Outcome.{Outcome}

@@ -1,9 +1,9 @@
 -- What an initiator's table represents: the list of its acts.
 use Rattle.std.specs.Prelude.{◌≡◌, ℕ, ◌+◌, ◌%◌, ◌≤◌, ◌==◌, Bool, true, false, if◌then◌else◌, List, [], ◌∷◌, reverse, length, count_by, Option, Some, None, IfSome, option_map}
 use Rattle.std.specs.List.{after_last}
-use Rattle.pb_messages.specs.Fields.{Fields}
-use Rattle.pb_messages.specs.RequestFields.{RequestFields}
-use Rattle.pb_messages.specs.Requests.{is_answered}
+use Rattle.pb_cycles.specs.Fields.{Fields}
+use Rattle.pb_cycles.specs.RequestFields.{RequestFields}
+use Rattle.pb_cycles.specs.Requests.{is_answered}
 use Rattle.pb_cycles.specs.Counts.{count_at}
 use Rattle.pb_cycles.specs.Tables.{InitiatorTable}
 use Rattle.pb_cycles.specs.declared.counts.FrameCount.{FrameCount}

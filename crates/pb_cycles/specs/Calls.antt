@@ -1,16 +1,16 @@
 -- What a responder's table represents: the list of what the station heard.
 use Rattle.std.specs.Prelude.{◌≡◌, ℕ, ◌+◌, ◌-◌, ◌^◌, ◌%◌, ◌==◌, min, Bool, false, ◌&&◌, ◌||◌, if◌then◌else◌, List, [], ◌∷◌, count_by, Option, Some, None}
 use Rattle.std.specs.List.{flat_map}
-use Rattle.pb_messages.specs.Fields.{Fields}
-use Rattle.pb_messages.specs.Messages.{has_bit, address_in}
-use Rattle.pb_messages.specs.Requests.{asked_by}
-use Rattle.pb_messages.specs.declared.messages.Message.{Message}
-use Rattle.pb_messages.specs.declared.messages.Message.TheVariants.{Framed, Acknowledgement, TokenPass}
-use Rattle.pb_messages.specs.declared.messages.Reply.{Reply}
-use Rattle.pb_messages.specs.declared.services.Asked.{Asked}
-use Rattle.pb_messages.specs.declared.services.Asked.TheVariants.{Send, Status, Unknown}
-use Rattle.pb_messages.specs.declared.services.Service.{Service}
-use Rattle.pb_messages.specs.declared.services.Service.TheVariants.{Sda, Sdn, Srd}
+use Rattle.pb_cycles.specs.Fields.{Fields}
+use Rattle.pb_cycles.specs.Messages.{has_bit, address_in}
+use Rattle.pb_cycles.specs.Requests.{asked_by}
+use Rattle.pb_cycles.specs.declared.messages.Message.{Message}
+use Rattle.pb_cycles.specs.declared.messages.Message.TheVariants.{Framed, Acknowledgement, TokenPass}
+use Rattle.pb_cycles.specs.declared.messages.Reply.{Reply}
+use Rattle.pb_cycles.specs.declared.services.Asked.{Asked}
+use Rattle.pb_cycles.specs.declared.services.Asked.TheVariants.{Send, Status, Unknown}
+use Rattle.pb_cycles.specs.declared.services.Service.{Service}
+use Rattle.pb_cycles.specs.declared.services.Service.TheVariants.{Sda, Sdn, Srd}
 use Rattle.pb_cycles.specs.Responding.{same_bit, service_reply}
 use Rattle.pb_cycles.specs.Tables.{ResponderTable}
 use Rattle.pb_cycles.specs.declared.responders.Kept.{Kept}

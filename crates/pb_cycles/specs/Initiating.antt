@@ -1,9 +1,9 @@
 -- The table of an initiator, and its steps.
 use Rattle.std.specs.Prelude.{ℕ, ◌-◌, ◌≤◌, ◌≡◌, ◌==◌, if◌then◌else◌, length, slice_set, IsBitSet, Option, Some, None, IfSome}
-use Rattle.pb_messages.specs.Fields.{Fields}
-use Rattle.pb_messages.specs.RequestFields.{RequestFields}
-use Rattle.pb_messages.specs.Requests.{is_answered, request_frame}
-use Rattle.pb_messages.specs.declared.messages.Message.{Message}
+use Rattle.pb_cycles.specs.Fields.{Fields}
+use Rattle.pb_cycles.specs.RequestFields.{RequestFields}
+use Rattle.pb_cycles.specs.Requests.{is_answered, request_frame}
+use Rattle.pb_cycles.specs.declared.messages.Message.{Message}
 use Rattle.pb_cycles.specs.Counts.{count_bits, count_after, count_at}
 use Rattle.pb_cycles.specs.Outcomes.{reply_outcome}
 use Rattle.pb_cycles.specs.Tables.{InitiatorTable}

@@ -1,3 +1,8 @@
+pub mod Fields
+pub mod Messages
+pub mod Queued
+pub mod RequestFields
+pub mod Requests
 pub mod Acts
 pub mod Calls
 pub mod Counts

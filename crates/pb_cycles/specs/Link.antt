@@ -1,12 +1,12 @@
 -- A link between one initiator and one responder that loses requests and replies.
 use Rattle.std.specs.Prelude.{◌≡◌, ◌≢◌, ℕ, ◌+◌, ◌≤◌, if◌then◌else◌, List, [], ◌∷◌, ◌++◌, All, Option, Some, None, IsTrue, IsFalse, IsSome}
-use Rattle.pb_messages.specs.Fields.{Fields}
-use Rattle.pb_messages.specs.Messages.{has_bit, heard_as}
-use Rattle.pb_messages.specs.RequestFields.{RequestFields}
-use Rattle.pb_messages.specs.Requests.{is_answered}
-use Rattle.pb_messages.specs.declared.messages.Message.{Message}
-use Rattle.pb_messages.specs.declared.messages.Message.TheVariants.{Framed}
-use Rattle.pb_messages.specs.declared.messages.Reply.{Reply}
+use Rattle.pb_cycles.specs.Fields.{Fields}
+use Rattle.pb_cycles.specs.Messages.{has_bit, heard_as}
+use Rattle.pb_cycles.specs.RequestFields.{RequestFields}
+use Rattle.pb_cycles.specs.Requests.{is_answered}
+use Rattle.pb_cycles.specs.declared.messages.Message.{Message}
+use Rattle.pb_cycles.specs.declared.messages.Message.TheVariants.{Framed}
+use Rattle.pb_cycles.specs.declared.messages.Reply.{Reply}
 use Rattle.pb_cycles.specs.Initiating.{first_sending, after_request, retry_of, after_retry, outcome_of, after_outcome}
 use Rattle.pb_cycles.specs.Responding.{is_repeat, after_message, reply_to_message}
 use Rattle.pb_cycles.specs.Tables.{InitiatorTable, ResponderTable}

@@ -1,9 +1,9 @@
 -- The meaning of replies for the station that asked.
 use Rattle.std.specs.Prelude.{ℕ, ◌%◌, ◌==◌, Bool, not, ◌&&◌, if◌then◌else◌, List, Option, Some, None}
-use Rattle.pb_messages.specs.Fields.{Fields}
-use Rattle.pb_messages.specs.Messages.{has_bit, address_in}
-use Rattle.pb_messages.specs.declared.messages.Message.{Message}
-use Rattle.pb_messages.specs.declared.messages.Message.TheVariants.{Framed, Acknowledgement, TokenPass}
+use Rattle.pb_cycles.specs.Fields.{Fields}
+use Rattle.pb_cycles.specs.Messages.{has_bit, address_in}
+use Rattle.pb_cycles.specs.declared.messages.Message.{Message}
+use Rattle.pb_cycles.specs.declared.messages.Message.TheVariants.{Framed, Acknowledgement, TokenPass}
 use Rattle.pb_cycles.specs.declared.outcomes.Outcome.{Outcome}
 use Rattle.pb_cycles.specs.declared.outcomes.Outcome.TheVariants.{Acked, Data, NoResource}
 

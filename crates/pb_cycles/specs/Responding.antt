@@ -1,16 +1,16 @@
 -- The steps of a responder's table.
 use Rattle.std.specs.Prelude.{ℕ, ◌+◌, ◌*◌, ◌%◌, ◌^◌, ◌-◌, ◌==◌, min, Bool, false, not, ◌&&◌, ◌||◌, if◌then◌else◌, List, [], length, Option, Some, None}
-use Rattle.pb_messages.specs.Fields.{Fields}
-use Rattle.pb_messages.specs.Messages.{has_bit, address_in}
-use Rattle.pb_messages.specs.Requests.{asked_by}
-use Rattle.pb_messages.specs.declared.messages.Message.{Message}
-use Rattle.pb_messages.specs.declared.messages.Message.TheVariants.{Framed, Acknowledgement, TokenPass}
-use Rattle.pb_messages.specs.declared.messages.Reply.{Reply}
-use Rattle.pb_messages.specs.declared.messages.Reply.TheVariants.{Answer, Acknowledge}
-use Rattle.pb_messages.specs.declared.services.Asked.{Asked}
-use Rattle.pb_messages.specs.declared.services.Asked.TheVariants.{Send, Status, Unknown}
-use Rattle.pb_messages.specs.declared.services.Service.{Service}
-use Rattle.pb_messages.specs.declared.services.Service.TheVariants.{Sda, Sdn, Srd}
+use Rattle.pb_cycles.specs.Fields.{Fields}
+use Rattle.pb_cycles.specs.Messages.{has_bit, address_in}
+use Rattle.pb_cycles.specs.Requests.{asked_by}
+use Rattle.pb_cycles.specs.declared.messages.Message.{Message}
+use Rattle.pb_cycles.specs.declared.messages.Message.TheVariants.{Framed, Acknowledgement, TokenPass}
+use Rattle.pb_cycles.specs.declared.messages.Reply.{Reply}
+use Rattle.pb_cycles.specs.declared.messages.Reply.TheVariants.{Answer, Acknowledge}
+use Rattle.pb_cycles.specs.declared.services.Asked.{Asked}
+use Rattle.pb_cycles.specs.declared.services.Asked.TheVariants.{Send, Status, Unknown}
+use Rattle.pb_cycles.specs.declared.services.Service.{Service}
+use Rattle.pb_cycles.specs.declared.services.Service.TheVariants.{Sda, Sdn, Srd}
 use Rattle.pb_cycles.specs.Tables.{ResponderTable}
 use Rattle.pb_cycles.specs.declared.responders.Kept.{Kept}
 

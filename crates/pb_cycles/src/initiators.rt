@@ -3,14 +3,16 @@
 ghost use Rattle.std.specs.Prelude.{◌≡◌, ◌≤◌, if◌then◌else◌, is_some, Some, None, replicate, option_map, IfSome, IsTrue, ◌↔◌};
 ghost use Rattle.pb_telegram.specs.Grammar.{spelling};
 ghost use Rattle.pb_telegram.specs.Initiators as telegram;
-ghost use Rattle.pb_messages.specs.Messages.{frame_octets, message_of};
-ghost use Rattle.pb_messages.specs.declared.messages.Message.TheVariants.{Framed};
+ghost use Rattle.pb_cycles.specs.Messages.{frame_octets, message_of};
+ghost use Rattle.pb_cycles.specs.declared.messages.Message.TheVariants.{Framed};
 ghost use Rattle.pb_cycles.specs.Initiating.{first_sending, after_request, retry_of, after_retry, outcome_of, after_outcome};
 ghost use Rattle.pb_cycles.specs.declared.counts.FrameCount.TheVariants.{First};
 
 use crate::counts::{FrameCount, FrameCounts};
 use crate::outcomes::{Outcome, reply_outcome};
-use pb_messages::{Frame, Message, Request};
+use crate::frames::Frame;
+use crate::messages::Message;
+use crate::requests::Request;
 use pb_telegram::Telegram;
 use std::marker::Model;
 

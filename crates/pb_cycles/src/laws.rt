@@ -1,13 +1,13 @@
 //! Laws of message cycles: what replies mean, what the tables represent, and that a request is executed once.
 
 ghost use Rattle.std.specs.Prelude.{◌≡◌, ℕ, ◌+◌, ◌≤◌, List, [], ◌∷◌, ◌++◌, Some, None, Option, Bool, replicate, IsTrue, IsFalse, All, reverse};
-ghost use Rattle.pb_messages.specs.Fields.{Fields};
-ghost use Rattle.pb_messages.specs.RequestFields.{RequestFields};
-ghost use Rattle.pb_messages.specs.Messages.{has_bit, heard_as};
-ghost use Rattle.pb_messages.specs.Requests.{is_answered, IsAddressed};
-ghost use Rattle.pb_messages.specs.declared.messages.Message.{Message};
-ghost use Rattle.pb_messages.specs.declared.services.Service.{Service};
-ghost use Rattle.pb_messages.specs.declared.services.Service.TheVariants.{Sda, Srd};
+ghost use Rattle.pb_cycles.specs.Fields.{Fields};
+ghost use Rattle.pb_cycles.specs.RequestFields.{RequestFields};
+ghost use Rattle.pb_cycles.specs.Messages.{has_bit, heard_as};
+ghost use Rattle.pb_cycles.specs.Requests.{is_answered, IsAddressed};
+ghost use Rattle.pb_cycles.specs.declared.messages.Message.{Message};
+ghost use Rattle.pb_cycles.specs.declared.services.Service.{Service};
+ghost use Rattle.pb_cycles.specs.declared.services.Service.TheVariants.{Sda, Srd};
 ghost use Rattle.pb_cycles.specs.Acts.{Act, Resent, Closed, sending_act, number_to, kth_bits, open_in, InitiatorStandsFor};
 ghost use Rattle.pb_cycles.specs.Calls.{Heard, ResponderStandsFor};
 ghost use Rattle.pb_cycles.specs.Initiating.{bits_for, first_sending, after_request, retry_of, after_retry, outcome_of, after_outcome};

@@ -1,1 +1,3 @@
+mod Totals
+mod Given
 mod Telling

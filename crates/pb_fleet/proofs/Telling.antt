@@ -4,15 +4,15 @@ use Rattle.std.specs.Prelude.{All, slice_get}
 use Rattle.std.proofs.lemmas.List.{take-map}
 use Rattle.std.proofs.lemmas.Option.{none-some, same_Some, slice_get_within, get_or_from_slice_get}
 use Rattle.pb_timers.specs.Timers.{Params}
-use Rattle.pb_model.specs.Medium.{TapSpec}
-use Rattle.pb_model.specs.Trace.{Entry}
-use Rattle.pb_model.specs.World.{World, Event, new_world}
-use Rattle.pb_theorem.specs.Headline.{specs_of}
-use Rattle.pb_runs.specs.Bus.{bus}
-use Rattle.pb_runs.specs.Histories.{Leads, IsSoAfter}
-use Rattle.pb_runs.specs.Laws.{Look, AreLooks, IsRunOf}
-use Rattle.pb_runs.specs.Scenarios.{Scenario, trace_of}
-use Rattle.pb_runs.proofs.OnTheBus.{history-is-run}
+use Rattle.law_model.specs.Medium.{TapSpec}
+use Rattle.law_model.specs.Trace.{Entry}
+use Rattle.law_model.specs.World.{World, Event, new_world}
+use Rattle.law_runs.specs.Headline.{specs_of}
+use Rattle.law_runs.specs.Bus.{bus}
+use Rattle.law_runs.specs.Histories.{Leads, IsSoAfter}
+use Rattle.law_runs.specs.Laws.{Look, AreLooks, IsRunOf}
+use Rattle.law_runs.specs.Scenarios.{Scenario, trace_of}
+use Rattle.law_runs.proofs.OnTheBus.{history-is-run}
 use Rattle.pb_segment.specs.Histories.{Happened, Replays, events_in}
 use Rattle.pb_segment.specs.Origins.{Origin, IsMadeOf, origin_of}
 use Rattle.pb_segment.specs.Outlooks.{IsOutlookOf}

@@ -1,7 +1,7 @@
 -- Why a fleet returns no report.
 use Rattle.std.specs.Prelude.{◌≡◌, ℕ, ◌≤◌, Result, IsOk, MatchResult}
-use Rattle.pb_model.specs.World as model
-use Rattle.pb_model.specs.World.{World}
+use Rattle.law_model.specs.World as model
+use Rattle.law_model.specs.World.{World}
 use Rattle.pb_taps.specs.Faults.{new_fault}
 use Rattle.pb_fleet.specs.declared.faults.FleetFault.{FleetFault}
 use Rattle.pb_fleet.specs.declared.faults.FleetFault.TheVariants as fault

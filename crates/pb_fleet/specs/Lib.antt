@@ -1,3 +1,5 @@
+pub mod Rules
+pub mod Seats
 pub mod Faults
 pub mod Played
 -- a fault of the segment

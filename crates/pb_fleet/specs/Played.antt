@@ -1,9 +1,9 @@
 -- What a fleet has played.
 use Rattle.std.specs.Prelude.{◌≡◌, List, map, Ok}
-use Rattle.pb_model.specs.World.{World, new_world}
-use Rattle.pb_live.specs.Promises.{KeepsPromises, LeadTo}
-use Rattle.pb_runs.specs.Laws as runs
-use Rattle.pb_runs.specs.Scenarios.{Scenario}
+use Rattle.law_model.specs.World.{World, new_world}
+use Rattle.law_live.specs.Promises.{KeepsPromises, LeadTo}
+use Rattle.law_runs.specs.Laws as runs
+use Rattle.law_runs.specs.Scenarios.{Scenario}
 use Rattle.pb_segment.specs.Histories.{Replays, events_in}
 use Rattle.pb_segment.specs.Origins.{Origin}
 use Rattle.pb_segment.specs.Reports.{ReportView}

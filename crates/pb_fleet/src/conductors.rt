@@ -5,8 +5,7 @@ ghost use Rattle.std.specs.Prelude.{◌≡◌, ◌<◌, ◌≤◌, IfOk, IfSome,
 use crate::faults::PlayFault;
 use crate::gates::Gate;
 use crate::workers::Worker;
-use pb_plan::{Step, Walk, When};
-use pb_scenario::Scenario;
+use pb_scenario::{Scenario, Step, Walk, When};
 use pb_segment::{CommitFault, ConductorSeat, Event, GlanceFault, Outlook, SharedSegment};
 use std::alloc::Global;
 use std::sync::Wait;

@@ -1,9 +1,10 @@
 //! Draws the numbers of offers, without a lock.
 
 ghost use Rattle.std.specs.Prelude.{◌≡◌, ◌≤◌};
-ghost use Rattle.pb_tickets.specs.Seats.{IsOf, parts_of};
+ghost use Rattle.pb_fleet.specs.Seats.{IsOf, parts_of};
 
-use pb_tickets::{TicketSeat, Tickets};
+use crate::seats::TicketSeat;
+use crate::tickets::Tickets;
 use std::alloc::{AllocError, Global};
 
 /// A drawer of the numbers of offers: a seat at the run's tickets.

@@ -4,7 +4,7 @@ ghost use Rattle.std.specs.Prelude.{◌≡◌};
 ghost use Rattle.pb_fleet.specs.Faults.{IsOfPlay};
 ghost use Rattle.pb_fleet.specs.declared.faults.PlayFault.TheVariants as play;
 
-use pb_refusals::NoMemory;
+use pb_faults::NoMemory;
 use pb_segment::{CloseFault, CommitFault, NewFault};
 use std::alloc::AllocError;
 use thiserror::Error;

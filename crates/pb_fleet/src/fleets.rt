@@ -1,9 +1,9 @@
 //! Plays a scenario with a crew of workers.
 
 ghost use Rattle.std.specs.Prelude.{◌≡◌, ◌+◌, ◌≤◌, true, Some, Ok, IfOk, IfErr, OnOk, length, map};
-ghost use Rattle.pb_model.specs.World.{new_world};
-ghost use Rattle.pb_runs.specs.Laws.{IsRunOf};
-ghost use Rattle.pb_runs.specs.Scenarios.{trace_of};
+ghost use Rattle.law_model.specs.World.{new_world};
+ghost use Rattle.law_runs.specs.Laws.{IsRunOf};
+ghost use Rattle.law_runs.specs.Scenarios.{trace_of};
 ghost use Rattle.pb_segment.specs.Histories.{events_in};
 ghost use Rattle.pb_segment.specs.Origins.{IsNew, origin_of};
 ghost use Rattle.pb_segment.specs.Reports.{IsReport};
@@ -19,7 +19,7 @@ use crate::reviewing::review;
 use crate::workers::Worker;
 use pb_scenario::Scenario;
 use pb_segment::{CloseFault, Closed, Draft, NewFault, Report, SharedSegment, World};
-use pb_tickets::Tickets;
+use crate::tickets::Tickets;
 use std::alloc::{AllocError, Global};
 use std::marker::Brand;
 use std::sync::Wait;

@@ -1,5 +1,4 @@
-//! A fleet of workers that plays a scenario. The workers draw turns by tickets and decide them concurrently, and the
-//! trace is that of the scenario's run on one thread, for every number of workers and every schedule.
+//! Workers in threads of their own that play a scenario on one segment, and the tickets that they draw.
 #![tactic(auto)]
 
 mod conductors;
@@ -9,13 +8,20 @@ mod fleets;
 mod gates;
 mod pools;
 mod reviewing;
+mod rules;
+mod seats;
+mod tickets;
 mod workers;
 
 pub use faults::FleetFault;
 pub use fleets::run_fleet;
 pub use gates::Gate;
 pub use pb_segment::{CloseFault, CommitFault};
-pub use pb_tickets::{TicketSeat, Tickets};
+pub use seats::TicketSeat;
+pub use tickets::Tickets;
+
+#[cfg(test)]
+mod ticket_tests;
 
 #[cfg(test)]
 mod tests;

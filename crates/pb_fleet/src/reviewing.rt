@@ -1,12 +1,11 @@
 //! Reviews the history of a segment: whether it is the run of a scenario.
 
 ghost use Rattle.std.specs.Prelude.{◌≡◌, true, IfOk};
-ghost use Rattle.pb_runs.specs.Laws.{IsRunOf};
+ghost use Rattle.law_runs.specs.Laws.{IsRunOf};
 ghost use Rattle.pb_segment.specs.Histories.{events_in};
 ghost use Rattle.pb_fleet.specs.Played.{looks_of};
 
-use pb_review::{Look, is_run};
-use pb_scenario::Scenario;
+use pb_scenario::{Look, Scenario, is_run};
 use pb_segment::{Draft, Event};
 use std::alloc::{AllocError, Global};
 
@@ -16,7 +15,7 @@ struct Played<'a> {
     draft: Draft<'a>,
 }
 
-impl<'a> pb_review::Report for Played<'a> {
+impl<'a> pb_scenario::Report for Played<'a> {
     ghost use Rattle.pb_segment.specs.Histories.{events_in};
     ghost use Rattle.pb_fleet.specs.Played.{looks_of};
 

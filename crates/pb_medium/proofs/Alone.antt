@@ -10,10 +10,10 @@ use Rattle.pb_timers.specs.Timers.{bits}
 use Rattle.pb_telegram.specs.Faults.{is_bad}
 use Rattle.pb_telegram.specs.declared.chars.RxChar.{RxChar}
 use Rattle.pb_telegram.specs.declared.chars.RxChar.TheVariants.{Good, Bad}
-use Rattle.pb_turn.specs.Spans.{Span}
-use Rattle.pb_turn.specs.Marks.{Mark, Begin, End}
-use Rattle.pb_model.specs.Trace.{Record, Entry, Sent, Noise, characters_from, characters_at}
-use Rattle.pb_model.specs.Medium.{Tap, reaches, is_unheard, part_after, overlaps, sends_during, entry_characters, sensed, begins_in, ends_in, begin_mark, end_mark, hears_from, fills_burst, fills_burst_to, burst_characters, is_whole_at, marks_between, new_marks}
+use Rattle.law_turn.specs.Spans.{Span}
+use Rattle.law_turn.specs.Marks.{Mark, Begin, End}
+use Rattle.law_model.specs.Trace.{Record, Entry, Sent, Noise, characters_from, characters_at}
+use Rattle.law_model.specs.Medium.{Tap, reaches, is_unheard, part_after, overlaps, sends_during, entry_characters, sensed, begins_in, ends_in, begin_mark, end_mark, hears_from, fills_burst, fills_burst_to, burst_characters, is_whole_at, marks_between, new_marks}
 use Rattle.pb_medium.specs.Senses.{is_undamaged}
 use Rattle.pb_medium.specs.Settling.{comes_whole, hears_all}
 use Rattle.pb_medium.specs.Lone.{IsPlain, Lone, is_sent_by, brought, lone_begin, lone_end, lone_marks, IsLone}

@@ -3,10 +3,10 @@ use Rattle.std.proofs.Common.{◌≡◌, ◌∙◌, ap, sym, refl, subst, ℕ, �
 use Rattle.std.specs.Prelude.{is_some, take, drop}
 use Rattle.std.proofs.lemmas.Bool.{ltb-false}
 use Rattle.std.proofs.lemmas.List.{take-append-drop, take_all, drop_all}
-use Rattle.pb_turn.specs.Stations.{earlier}
-use Rattle.pb_model.specs.Trace.{Entry, Sent, Noise}
-use Rattle.pb_model.specs.World.{later_end, next_end_of}
-use Rattle.pb_model.specs.Laws.{AllBegun, AllOver, AllFrom}
+use Rattle.law_turn.specs.Stations.{earlier}
+use Rattle.law_model.specs.Trace.{Entry, Sent, Noise}
+use Rattle.law_model.specs.World.{later_end, next_end_of}
+use Rattle.law_model.specs.Laws.{AllBegun, AllOver, AllFrom}
 use Rattle.pb_medium.specs.Airs.{IsCut}
 
 over-later : (delay m n : ℕ) (es : List Entry) → m ≤ n → AllOver delay m es → AllOver delay n es

@@ -7,9 +7,9 @@ use Rattle.std.proofs.lemmas.Bool.{le-ltb, ne_eqb}
 use Rattle.std.proofs.lemmas.List.{take_more, drop-map, drop-drop, take-map, map-append, map-set, length-take-le}
 use Rattle.std.proofs.lemmas.List.Edits.{get_or-insert_at}
 use Rattle.std.proofs.Math.Seq.{take-add, set-append_seam}
-use Rattle.pb_model.specs.Trace.{Own, Pending, Entry, Sent, Noise, entry_begin, rank, goes_before, with_entry, heard_at_first}
-use Rattle.pb_model.specs.Laws.{AllOver}
-use Rattle.pb_model.proofs.Past.{ended-by}
+use Rattle.law_model.specs.Trace.{Own, Pending, Entry, Sent, Noise, entry_begin, rank, goes_before, with_entry, heard_at_first}
+use Rattle.law_model.specs.Laws.{AllOver}
+use Rattle.law_model.proofs.Past.{ended-by}
 use Rattle.pb_medium.specs.Speaking.{with_octets}
 use Rattle.pb_medium.specs.Traces.{place_of}
 use Rattle.pb_medium.proofs.Hitting.{place-at}

@@ -3,7 +3,7 @@ use Rattle.std.proofs.Common.{◌≡◌, ◌∙◌, ap, sym, refl, subst, arith,
 use Rattle.std.specs.Prelude.{slice_get, not, ◌&&◌, ◌==◌}
 use Rattle.std.proofs.lemmas.List.{append-nil, drop_all, take_all}
 use Rattle.std.proofs.lemmas.Option.{none-some, same_Some}
-use Rattle.pb_model.specs.Trace.{Heard, Own, Pending, heard_at_first}
+use Rattle.law_model.specs.Trace.{Heard, Own, Pending, heard_at_first}
 use Rattle.pb_medium.specs.Making.{is_own, is_own_alone, own_or_pending}
 
 both-first : (a b : Bool) → (a && b) ≡ true → a ≡ true

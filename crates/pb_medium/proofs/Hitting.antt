@@ -9,8 +9,8 @@ use Rattle.std.proofs.lemmas.Bool.{ltb-true, ltb-false, lt-ltb, le-ltb}
 use Rattle.std.proofs.lemmas.Option.{none-some, same_Some}
 use Rattle.std.proofs.lemmas.List.{map-set, take_more_set, drop-set-lt, drop-drop, get_or-drop, take-append-drop, length-drop, length-map}
 use Rattle.pb_taps.proofs.Items.{left-at}
-use Rattle.pb_model.specs.Trace.{Entry}
-use Rattle.pb_model.specs.Step.{change_first}
+use Rattle.law_model.specs.Trace.{Entry}
+use Rattle.law_model.specs.Step.{change_first}
 use Rattle.pb_medium.specs.Damaging.{IsFirstPlace}
 
 -- none of the first entries passes the test

@@ -3,7 +3,7 @@ use Rattle.std.proofs.Common.{◌≡◌, ◌∙◌, ap, sym, List, length, map, 
 use Rattle.std.specs.Prelude.{take, drop}
 use Rattle.std.specs.Vec.{with_items}
 use Rattle.pb_taps.proofs.Behind.{lent-back, rest-as}
-use Rattle.pb_model.specs.Trace as model
+use Rattle.law_model.specs.Trace as model
 use Rattle.pb_medium.specs.declared.entries.Entry.{Entry}
 use Rattle.pb_medium.specs.declared.traces.Trace.{Trace}
 use Rattle.pb_medium.specs.Entries.{entry_of}

@@ -2,8 +2,8 @@
 use Rattle.std.proofs.Common.{◌≡◌, ◌≢◌, ◌∙◌, ℕ, zero, suc, ◌+◌, ◌<◌, ◌≤◌, List, [], ◌∷◌, length, set, get_or, take, drop, ◌++◌, refl, ap, sym, arith, Some, None, Bool, true, false, if◌then◌else◌, ◌==◌, inl, inr}
 use Rattle.std.specs.Prelude.{slice_get, nat_lt}
 use Rattle.std.proofs.lemmas.Bool.{ltb-true, ltb-false, cases_Bool}
-use Rattle.pb_model.specs.Trace.{Heard, Own, Pending, heard_at_first}
-use Rattle.pb_model.specs.Medium.{is_unheard, heard_in_the_end}
+use Rattle.law_model.specs.Trace.{Heard, Own, Pending, heard_at_first}
+use Rattle.law_model.specs.Medium.{is_unheard, heard_in_the_end}
 use Rattle.pb_medium.specs.declared.receptions.Reception.TheInside.{Inside}
 use Rattle.pb_medium.specs.Receptions.{holds, listed, heard_as, heard_by_tap, heard_list}
 

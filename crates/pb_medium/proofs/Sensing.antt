@@ -10,11 +10,11 @@ use Rattle.std.specs.Option.{option_map}
 use Rattle.pb_telegram.specs.Faults.{is_bad}
 use Rattle.pb_telegram.specs.declared.chars.RxChar.{RxChar}
 use Rattle.pb_telegram.specs.declared.chars.RxChar.TheVariants.{Good, Bad}
-use Rattle.pb_model.specs.Medium.{Tap, reaches, reaches_taps, is_unheard, sensed, hears_from, overlaps, sends_during, fills_burst, is_whole_at}
-use Rattle.pb_turn.specs.Stations.{earlier}
-use Rattle.pb_model.specs.Trace.{Hit, Record, Entry, hits_place, characters_from, characters_at}
-use Rattle.pb_model.specs.World.{later_end, entry_next_end, next_end_of}
-use Rattle.pb_runs.specs.Bus.{next_known}
+use Rattle.law_model.specs.Medium.{Tap, reaches, reaches_taps, is_unheard, sensed, hears_from, overlaps, sends_during, fills_burst, is_whole_at}
+use Rattle.law_turn.specs.Stations.{earlier}
+use Rattle.law_model.specs.Trace.{Hit, Record, Entry, hits_place, characters_from, characters_at}
+use Rattle.law_model.specs.World.{later_end, entry_next_end, next_end_of}
+use Rattle.law_runs.specs.Bus.{next_known}
 use Rattle.pb_medium.specs.Senses.{is_alone, is_undamaged}
 
 pub list_any-map : {X Y : Type 0} (test : Y → Bool) (f : X → Y) (xs : List X) → list_any test (map f xs) ≡ list_any (λ x. test (f x)) xs

@@ -6,10 +6,10 @@ use Rattle.std.specs.Option.{option_and_then, option_map}
 use Rattle.std.proofs.lemmas.Option.{slice_get-map, slice_get_read, slice_get_past}
 use Rattle.std.proofs.lemmas.List.{length-map, set-get_or}
 use Rattle.pb_telegram.specs.Faults.{is_bad}
-use Rattle.pb_turn.specs.Spans.{Span}
-use Rattle.pb_model.specs.Trace.{Heard, Own, Whole, Damaged, Unheard, Pending, Record, Entry, Sent, Noise, characters_at}
-use Rattle.pb_model.specs.Medium.{Tap, overlaps, part_after, reaches, is_unheard, at_tap, sensed, hears_from, sends_during, fills_burst, is_whole_at, heard_in_the_end, heard_by, ends_between, entry_at}
-use Rattle.pb_model.proofs.Cases.{by_test}
+use Rattle.law_turn.specs.Spans.{Span}
+use Rattle.law_model.specs.Trace.{Heard, Own, Whole, Damaged, Unheard, Pending, Record, Entry, Sent, Noise, characters_at}
+use Rattle.law_model.specs.Medium.{Tap, overlaps, part_after, reaches, is_unheard, at_tap, sensed, hears_from, sends_during, fills_burst, is_whole_at, heard_in_the_end, heard_by, ends_between, entry_at}
+use Rattle.law_model.proofs.Cases.{by_test}
 use Rattle.pb_taps.proofs.Replacing.{replaced-more, replaced-all, replaced-at}
 use Rattle.pb_medium.specs.Settling.{heard_with}
 use Rattle.pb_medium.proofs.Receiving.{replaced-length}

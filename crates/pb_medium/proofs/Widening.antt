@@ -5,18 +5,18 @@ use Rattle.std.specs.List.{list_any}
 use Rattle.std.proofs.lemmas.Bool.{le-ltb, ne_eqb}
 use Rattle.std.proofs.lemmas.List.{take-append-drop, map-append}
 use Rattle.std.proofs.lemmas.List.Folds.{list_any-append}
-use Rattle.pb_refusals.specs.FirstFault.{first_fault}
+use Rattle.pb_faults.specs.FirstFault.{first_fault}
 use Rattle.pb_timers.specs.Timers.{Params}
-use Rattle.pb_turn.specs.Spans.{Span}
-use Rattle.pb_turn.specs.Marks.{Mark}
-use Rattle.pb_turn.specs.Stations.{started}
-use Rattle.pb_model.specs.Trace.{Record, Entry, Sent, Noise, cut_end, cut_at, is_noise_at, noisy_until, begins_from, unheard_at}
-use Rattle.pb_model.specs.Medium.{Tap, is_unheard, new_marks, entry_at, reaches}
-use Rattle.pb_model.specs.World.{World, Reply, Fault, NoSuchTap, Running, NothingInAir, ZeroTime, TooFar, ClockFull, InboxFull, TraceFull, clock_limit, unless, unless_fault, next_end_of, is_in_air_by}
-use Rattle.pb_model.specs.Step.{told, first_full, is_past, step_pass, with_hit, change_first, has_place, step_damage, is_there, reaches_now, step_start, with_noise, is_noisy, step_noise, step_unheard}
-use Rattle.pb_model.specs.Laws.{AllOver, AllFrom}
-use Rattle.pb_model.proofs.Cases.{by_test}
-use Rattle.pb_model.proofs.Past.{marks_between-skip, next_end_of-skip, trace_at-skip}
+use Rattle.law_turn.specs.Spans.{Span}
+use Rattle.law_turn.specs.Marks.{Mark}
+use Rattle.law_turn.specs.Stations.{started}
+use Rattle.law_model.specs.Trace.{Record, Entry, Sent, Noise, cut_end, cut_at, is_noise_at, noisy_until, begins_from, unheard_at}
+use Rattle.law_model.specs.Medium.{Tap, is_unheard, new_marks, entry_at, reaches}
+use Rattle.law_model.specs.World.{World, Reply, Fault, NoSuchTap, Running, NothingInAir, ZeroTime, TooFar, ClockFull, InboxFull, TraceFull, clock_limit, unless, unless_fault, next_end_of, is_in_air_by}
+use Rattle.law_model.specs.Step.{told, first_full, is_past, step_pass, with_hit, change_first, has_place, step_damage, is_there, reaches_now, step_start, with_noise, is_noisy, step_noise, step_unheard}
+use Rattle.law_model.specs.Laws.{AllOver, AllFrom}
+use Rattle.law_model.proofs.Cases.{by_test}
+use Rattle.law_model.proofs.Past.{marks_between-skip, next_end_of-skip, trace_at-skip}
 use Rattle.pb_medium.specs.Airs.{plain, IsCut}
 use Rattle.pb_medium.specs.Losing.{has_nothing_to_lose}
 use Rattle.pb_medium.specs.Noising.{has_noise, has_no_room}

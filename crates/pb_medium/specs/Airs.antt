@@ -1,9 +1,9 @@
 -- The part of a world that an event changes: the clock, the entries that are not over, and the taps.
 use Rattle.std.specs.Prelude.{ℕ, ◌≤◌, List, length, map, take, drop}
 use Rattle.pb_timers.specs.Timers.{Params}
-use Rattle.pb_model.specs.World as model
-use Rattle.pb_model.specs.Trace as trace
-use Rattle.pb_model.specs.Laws.{AllOver, AllFrom}
+use Rattle.law_model.specs.World as model
+use Rattle.law_model.specs.Trace as trace
+use Rattle.law_model.specs.Laws.{AllOver, AllFrom}
 use Rattle.pb_taps.specs.declared.taps.Tap.{Tap}
 use Rattle.pb_taps.specs.Taps.{tap_of}
 

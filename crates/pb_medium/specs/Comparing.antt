@@ -4,7 +4,7 @@ use Rattle.std.specs.Cmp.{IsEquivalence}
 use Rattle.std.specs.Cmp.Lexicographic.{pointwise}
 use Rattle.std.proofs.lemmas.Cmp.{and_equiv, lists_equiv, nat_eq_equiv, nat_list_eq_equiv, on_equiv}
 use Rattle.std.specs.Ordering.{on, eq_of_both}
-use Rattle.pb_model.specs.Trace.{Heard, Own, Whole, Damaged, Unheard, Pending}
+use Rattle.law_model.specs.Trace.{Heard, Own, Whole, Damaged, Unheard, Pending}
 use Rattle.pb_medium.specs.declared.entries.Record.{Record}
 
 -- a number for each way in which a telegram may reach a tap

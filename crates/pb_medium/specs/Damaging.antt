@@ -1,8 +1,8 @@
 -- The damage of a telegram on the bus.
 use Rattle.std.specs.Prelude.{◌≡◌, ℕ, Bool, true, false, not, ◌==◌, ◌||◌, List, ◌∷◌, ◌+◌, ◌<◌, ◌++◌, length, take, drop, Some, find}
-use Rattle.pb_model.specs.Step.{has_place, change_first, with_hit}
-use Rattle.pb_model.specs.Trace.{Entry, Hit}
-use Rattle.pb_model.specs.World.{is_in_air_by}
+use Rattle.law_model.specs.Step.{has_place, change_first, with_hit}
+use Rattle.law_model.specs.Trace.{Entry, Hit}
+use Rattle.law_model.specs.World.{is_in_air_by}
 use Rattle.pb_taps.specs.declared.faults.WorldFault.{WorldFault}
 use Rattle.pb_taps.specs.declared.faults.WorldFault.TheVariants as fault
 

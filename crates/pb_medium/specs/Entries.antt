@@ -1,6 +1,6 @@
 -- An entry of the trace as the model's plain data.
 use Rattle.std.specs.Prelude.{map}
-use Rattle.pb_model.specs.Trace as model
+use Rattle.law_model.specs.Trace as model
 use Rattle.pb_medium.specs.declared.entries.Heard.{Heard}
 use Rattle.pb_medium.specs.declared.entries.Heard.TheVariants as heard
 use Rattle.pb_medium.specs.declared.entries.Hit.{Hit}

@@ -3,10 +3,10 @@ use Rattle.std.specs.Prelude.{◌≡◌, ◌<◌, ◌≤◌, ℕ, Bool, false, n
 use Rattle.std.specs.Option.{option_map}
 use Rattle.pb_telegram.specs.declared.chars.RxChar.{RxChar}
 use Rattle.pb_telegram.specs.declared.chars.RxChar.TheVariants.{Good, Bad}
-use Rattle.pb_turn.specs.Spans.{Span}
-use Rattle.pb_turn.specs.Marks.{Mark, Begin, End}
-use Rattle.pb_model.specs.Trace.{Record, Entry}
-use Rattle.pb_model.specs.Medium.{Tap, is_unheard, hears_from, new_marks}
+use Rattle.law_turn.specs.Spans.{Span}
+use Rattle.law_turn.specs.Marks.{Mark, Begin, End}
+use Rattle.law_model.specs.Trace.{Record, Entry}
+use Rattle.law_model.specs.Medium.{Tap, is_unheard, hears_from, new_marks}
 use Rattle.pb_medium.specs.declared.lone.Lone as declared
 
 -- a telegram has a duration, no damage, and no tap at which it is lost

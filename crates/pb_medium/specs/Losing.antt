@@ -1,8 +1,8 @@
 -- A telegram that is lost at a tap.
 use Rattle.std.specs.Prelude.{◌≡◌, ℕ, Bool, not, ◌==◌, ◌||◌, List}
 use Rattle.std.specs.List.{list_any}
-use Rattle.pb_model.specs.Step.{change_first}
-use Rattle.pb_model.specs.Trace.{Entry, begins_from, unheard_at}
+use Rattle.law_model.specs.Step.{change_first}
+use Rattle.law_model.specs.Trace.{Entry, begins_from, unheard_at}
 use Rattle.pb_taps.specs.declared.faults.WorldFault.{WorldFault}
 use Rattle.pb_taps.specs.declared.faults.WorldFault.TheVariants as fault
 

@@ -1,7 +1,7 @@
 -- A telegram that a user of the library makes, and why it is refused.
 use Rattle.std.specs.Prelude.{◌≡◌, ℕ, ◌+◌, Bool, true, false, ◌==◌, nat_le, nat_lt, not, ◌&&◌, ◌||◌, if◌then◌else◌, List, [], ◌∷◌, length}
-use Rattle.pb_model.specs.Trace.{Heard, Own, Whole, Damaged, Unheard, Pending}
-use Rattle.pb_model.specs.World.{clock_limit, tap_limit}
+use Rattle.law_model.specs.Trace.{Heard, Own, Whole, Damaged, Unheard, Pending}
+use Rattle.law_model.specs.World.{clock_limit, tap_limit}
 use Rattle.pb_medium.specs.declared.making.RecordFault.{RecordFault}
 use Rattle.pb_medium.specs.declared.making.RecordFault.TheVariants.{Ends, ClockFull, Hears}
 

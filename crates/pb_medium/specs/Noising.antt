@@ -1,8 +1,8 @@
 -- Noise on the bus.
 use Rattle.std.specs.Prelude.{◌≡◌, ℕ, Bool, true, false, not, ◌==◌, nat_le, ◌&&◌, List}
 use Rattle.std.specs.List.{list_any}
-use Rattle.pb_model.specs.Trace.{Entry, is_noise_at}
-use Rattle.pb_model.specs.World.{trace_limit}
+use Rattle.law_model.specs.Trace.{Entry, is_noise_at}
+use Rattle.law_model.specs.World.{trace_limit}
 use Rattle.pb_taps.specs.declared.faults.WorldFault.{WorldFault}
 use Rattle.pb_taps.specs.declared.faults.WorldFault.TheVariants as fault
 

@@ -1,7 +1,7 @@
 -- How a telegram reached the taps, in sets of taps.
 use Rattle.std.specs.Prelude.{ℕ, zero, suc, ◌+◌, Bool, true, false, ◌==◌, List, [], ◌∷◌}
 use Rattle.std.specs.Int.{bit_at}
-use Rattle.pb_model.specs.Trace.{Heard, Own, Whole, Damaged, Unheard, Pending}
+use Rattle.law_model.specs.Trace.{Heard, Own, Whole, Damaged, Unheard, Pending}
 use Rattle.pb_medium.specs.declared.tap_sets.TapSet.{TapSet}
 use Rattle.pb_medium.specs.declared.receptions.Reception.TheInside.{Inside}
 

@@ -5,9 +5,9 @@ use Rattle.std.specs.Option.{option_map}
 use Rattle.pb_telegram.specs.Faults.{is_bad}
 use Rattle.pb_telegram.specs.declared.chars.RxChar.{RxChar}
 use Rattle.pb_telegram.specs.declared.chars.RxChar.TheVariants.{Bad}
-use Rattle.pb_turn.specs.Spans.{Span}
-use Rattle.pb_model.specs.Trace.{Record, Entry, characters_at}
-use Rattle.pb_model.specs.Medium.{reaches, is_unheard, sensed, overlaps, sends_during, begins_in, ends_in}
+use Rattle.law_turn.specs.Spans.{Span}
+use Rattle.law_model.specs.Trace.{Record, Entry, characters_at}
+use Rattle.law_model.specs.Medium.{reaches, is_unheard, sensed, overlaps, sends_during, begins_in, ends_in}
 
 -- during a stretch a tap senses exactly one entry, and sends nothing
 abbrev pub is_undisturbed : (delay tap since : ℕ) → List Entry → Span → Bool

@@ -1,8 +1,8 @@
 -- How a pass of time changes the entries of the trace.
 use Rattle.std.specs.Prelude.{ℕ, Bool, not, ◌==◌, nat_lt, ◌&&◌, List, length, map, drop, slice_get, is_some, if◌then◌else◌, Option, Some, None}
-use Rattle.pb_model.specs.Trace.{Heard, Record, Entry, Sent, Noise}
-use Rattle.pb_model.specs.Medium.{Tap, reaches, is_unheard, hears_from, entry_at, is_whole_at, heard_in_the_end}
-use Rattle.pb_model.specs.World.{next_end_of}
+use Rattle.law_model.specs.Trace.{Heard, Record, Entry, Sent, Noise}
+use Rattle.law_model.specs.Medium.{Tap, reaches, is_unheard, hears_from, entry_at, is_whole_at, heard_in_the_end}
+use Rattle.law_model.specs.World.{next_end_of}
 use Rattle.pb_medium.specs.Senses.{is_undamaged}
 
 -- a tap runs, has heard a telegram from its begin, and is not its speaker

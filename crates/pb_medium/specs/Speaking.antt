@@ -1,7 +1,7 @@
 -- What a tap sends is put into the trace.
 use Rattle.std.specs.Prelude.{◌≡◌, ℕ, Bool, true, false, List, Option, is_some, nat_le, ◌&&◌}
-use Rattle.pb_model.specs.Trace.{Entry, Sent, Noise}
-use Rattle.pb_model.specs.World.{trace_limit}
+use Rattle.law_model.specs.Trace.{Entry, Sent, Noise}
+use Rattle.law_model.specs.World.{trace_limit}
 use Rattle.pb_taps.specs.declared.faults.WorldFault.{WorldFault}
 use Rattle.pb_taps.specs.declared.faults.WorldFault.TheVariants as fault
 

@@ -1,8 +1,8 @@
 -- The trace of a medium: what had ended before all else began, and the recent entries.
 use Rattle.std.specs.Prelude.{◌≡◌, ◌≤◌, ◌<◌, ℕ, List, length, map, take, drop, ◌++◌, vec_capacity}
 use Rattle.std.specs.List.{position_or_len}
-use Rattle.pb_model.specs.Trace as model
-use Rattle.pb_model.specs.World.{trace_limit}
+use Rattle.law_model.specs.Trace as model
+use Rattle.law_model.specs.World.{trace_limit}
 use Rattle.pb_medium.specs.Entries.{entry_of}
 use Rattle.pb_medium.specs.declared.traces.Trace.{Trace}
 use Rattle.pb_taps.specs.declared.faults.WorldFault.{WorldFault}

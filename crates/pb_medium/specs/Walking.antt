@@ -1,6 +1,6 @@
 -- The rest of an iteration over taps.
 use Rattle.std.specs.Prelude.{List, drop}
-use Rattle.pb_model.specs.Trace.{Heard}
+use Rattle.law_model.specs.Trace.{Heard}
 use Rattle.pb_medium.specs.declared.hearing.HeardByTap.{HeardByTap}
 
 abbrev pub heard_left : HeardByTap → List Heard

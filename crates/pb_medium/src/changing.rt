@@ -4,7 +4,7 @@ ghost use Rattle.std.specs.Prelude.{◌≡◌, ◌+◌, map};
 ghost use Rattle.std.specs.List.{list_any};
 ghost use Rattle.std.specs.Option.{option_map};
 ghost use Rattle.pb_medium.specs.Entries.{entry_of};
-ghost use Rattle.pb_runs.specs.Bus.{is_in_air, next_known};
+ghost use Rattle.law_runs.specs.Bus.{is_in_air, next_known};
 
 use crate::entries::Entry;
 

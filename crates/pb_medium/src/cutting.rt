@@ -1,7 +1,7 @@
 //! A speaker that stops: its telegram is cut.
 
 ghost use Rattle.std.specs.Prelude.{◌≡◌, length, map};
-ghost use Rattle.pb_model.specs.Trace.{cut_at, cut_end};
+ghost use Rattle.law_model.specs.Trace.{cut_at, cut_end};
 ghost use Rattle.pb_medium.specs.Entries.{entry_of, record_of};
 
 use crate::entries::{Entry, Record};
@@ -10,7 +10,7 @@ use pb_timers::{CHARACTER_BITS, Moment};
 
 impl Trace {
     ghost use Rattle.std.specs.Prelude.{map};
-    ghost use Rattle.pb_model.specs.Trace.{cut_at};
+    ghost use Rattle.law_model.specs.Trace.{cut_at};
     ghost use Rattle.pb_medium.specs.Traces.{RecentBecomes};
 
     /// Ends what a tap sends at the clock with the character being sent.

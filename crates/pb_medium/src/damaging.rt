@@ -1,9 +1,9 @@
 //! Damages a telegram at a tap.
 
 ghost use Rattle.std.specs.Prelude.{◌≡◌, true, false, IfErr, IfSome, OnErr, OnOk, Some, None, length, map, find};
-ghost use Rattle.pb_model.specs.Step as step;
-ghost use Rattle.pb_model.specs.Step.{change_first, with_hit};
-ghost use Rattle.pb_model.specs.World as world;
+ghost use Rattle.law_model.specs.Step as step;
+ghost use Rattle.law_model.specs.Step.{change_first, with_hit};
+ghost use Rattle.law_model.specs.World as world;
 ghost use Rattle.pb_medium.specs.Damaging.{can_hit, damaged, IsFirstPlace, RefusesHit, IsNoMemory};
 ghost use Rattle.pb_medium.specs.Entries.{entry_of, hit_of};
 

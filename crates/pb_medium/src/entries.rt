@@ -67,8 +67,8 @@ pub enum Entry {
 impl Record {
     ghost use Rattle.std.specs.Prelude.{◌≡◌, slice_get};
     ghost use Rattle.std.specs.List.{list_any};
-    ghost use Rattle.pb_model.specs.Medium.{is_unheard, reaches};
-    ghost use Rattle.pb_model.specs.Trace.{hits_place};
+    ghost use Rattle.law_model.specs.Medium.{is_unheard, reaches};
+    ghost use Rattle.law_model.specs.Trace.{hits_place};
     ghost use Rattle.pb_medium.specs.Entries.{record_of};
 
     /// When it is on the bus, at its speaker.
@@ -111,7 +111,7 @@ impl Record {
 
 impl Entry {
     ghost use Rattle.std.specs.Prelude.{◌≡◌};
-    ghost use Rattle.pb_model.specs.Trace.{entry_end};
+    ghost use Rattle.law_model.specs.Trace.{entry_end};
     ghost use Rattle.pb_medium.specs.Entries.{entry_of};
 
     /// When it ends, in bit times.
@@ -127,8 +127,8 @@ impl Entry {
 
 impl Entry {
     ghost use Rattle.std.specs.Prelude.{◌≡◌, nat_lt};
-    ghost use Rattle.pb_model.specs.Trace.{entry_begin, rank, goes_before};
-    ghost use Rattle.pb_model.specs.Medium.{reaches_taps};
+    ghost use Rattle.law_model.specs.Trace.{entry_begin, rank, goes_before};
+    ghost use Rattle.law_model.specs.Medium.{reaches_taps};
     ghost use Rattle.pb_medium.specs.Entries.{entry_of};
 
     /// When it begins, in bit times.

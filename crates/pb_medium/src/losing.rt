@@ -2,7 +2,7 @@
 
 ghost use Rattle.std.specs.Prelude.{◌≡◌, map};
 ghost use Rattle.std.specs.List.{position};
-ghost use Rattle.pb_model.specs.Trace as model;
+ghost use Rattle.law_model.specs.Trace as model;
 ghost use Rattle.pb_medium.specs.Entries.{entry_of};
 
 use crate::entries::Entry;

@@ -1,8 +1,8 @@
 //! Telegrams that a user of the library makes, to judge a trace from anywhere.
 
 ghost use Rattle.std.specs.Prelude.{◌≡◌, ◌≤◌, IfOk, IfErr, OnOk, Some, None, [], map, nat_lt, not, if◌then◌else◌, ◌||◌, ◌==◌};
-ghost use Rattle.pb_refusals.specs.FirstFault.{first_fault};
-ghost use Rattle.pb_model.specs.World.{clock_limit};
+ghost use Rattle.pb_faults.specs.FirstFault.{first_fault};
+ghost use Rattle.law_model.specs.World.{clock_limit};
 ghost use Rattle.pb_medium.specs.Entries.{heard_of, record_of};
 ghost use Rattle.pb_medium.specs.Making.{fits_taps, is_own, is_own_alone, record_faults};
 
@@ -35,7 +35,7 @@ pub enum RecordFault {
 
 impl Record {
     ghost use Rattle.std.specs.Prelude.{◌≡◌, IfOk, IfErr, OnOk, Some, None, [], map};
-    ghost use Rattle.pb_refusals.specs.FirstFault.{first_fault};
+    ghost use Rattle.pb_faults.specs.FirstFault.{first_fault};
     ghost use Rattle.pb_medium.specs.Entries.{heard_of, record_of};
     ghost use Rattle.pb_medium.specs.Making.{record_faults};
 

@@ -2,7 +2,7 @@
 
 ghost use Rattle.std.specs.Prelude.{◌≡◌, map};
 ghost use Rattle.std.specs.List.{position};
-ghost use Rattle.pb_model.specs.Trace as trace;
+ghost use Rattle.law_model.specs.Trace as trace;
 ghost use Rattle.pb_medium.specs.Entries.{entry_of};
 
 use crate::entries::Entry;
@@ -12,8 +12,8 @@ use pb_timers::Moment;
 
 impl Trace {
     ghost use Rattle.std.specs.Prelude.{◌≡◌, ◌==◌, ◌≤◌, ◌+◌, false, IfErr, OnOk, OnErr, length};
-    ghost use Rattle.pb_model.specs.Step.{with_noise};
-    ghost use Rattle.pb_model.specs.World.{clock_limit};
+    ghost use Rattle.law_model.specs.Step.{with_noise};
+    ghost use Rattle.law_model.specs.World.{clock_limit};
     ghost use Rattle.pb_medium.specs.Noising.{has_noise, has_no_room, RefusesNoise};
     ghost use Rattle.pb_medium.specs.Traces.{entries_of, recent_of, RecentBecomes, StaysAs};
 

@@ -22,7 +22,7 @@ pub struct Reception {
 
 impl Model for Reception {
     ghost use Rattle.std.specs.Prelude.{List, ◌≤◌};
-    ghost use Rattle.pb_model.specs.Trace.{Heard};
+    ghost use Rattle.law_model.specs.Trace.{Heard};
     ghost use Rattle.pb_medium.specs.Receptions.{heard_list};
 
     ghost Value = { List Heard };
@@ -35,9 +35,9 @@ impl Model for Reception {
 impl Reception {
     ghost use Rattle.std.specs.Prelude.{◌≡◌, ◌≤◌, ◌<◌, ℕ, IsTrue, List, true, false, get_or, length, map, slice_get, slice_set, Some};
     ghost use Rattle.std.specs.Option.{option_map};
-    ghost use Rattle.pb_model.specs.Medium as model;
-    ghost use Rattle.pb_model.specs.Trace as trace;
-    ghost use Rattle.pb_model.specs.World.{tap_limit};
+    ghost use Rattle.law_model.specs.Medium as model;
+    ghost use Rattle.law_model.specs.Trace as trace;
+    ghost use Rattle.law_model.specs.World.{tap_limit};
     ghost use Rattle.pb_medium.specs.Entries.{heard_of};
     ghost use Rattle.pb_medium.specs.Making.{is_own_alone, own_or_pending};
 

@@ -1,8 +1,8 @@
 //! Settles how telegrams reached the taps, as time passes.
 
 ghost use Rattle.std.specs.Prelude.{◌≡◌, ◌<◌, ◌∷◌, [], ℕ, IsTrue, true, get_or, length, map, slice_get, slice_set};
-ghost use Rattle.pb_model.specs.Medium.{ends_between, entry_at, heard_by, is_whole_at, reaches};
-ghost use Rattle.pb_model.specs.Trace.{Pending, Sent};
+ghost use Rattle.law_model.specs.Medium.{ends_between, entry_at, heard_by, is_whole_at, reaches};
+ghost use Rattle.law_model.specs.Trace.{Pending, Sent};
 ghost use Rattle.pb_medium.specs.Entries.{entry_of, record_of};
 ghost use Rattle.pb_medium.specs.Settling.{comes_whole, hears_all, heard_with, settled, settled_as};
 ghost use Rattle.pb_taps.specs.Taps.{tap_of};
@@ -17,7 +17,7 @@ use pb_timers::Moment;
 
 impl Trace {
     ghost use Rattle.std.specs.Prelude.{◌≡◌, ◌≤◌, ℕ, map};
-    ghost use Rattle.pb_model.specs.Laws.{AllBegun};
+    ghost use Rattle.law_model.specs.Laws.{AllBegun};
     ghost use Rattle.pb_medium.specs.Airs.{IsCut};
     ghost use Rattle.pb_medium.specs.Settling.{over_after, settled};
     ghost use Rattle.pb_medium.specs.Traces.{entries_of, over_of, RecentBecomes};

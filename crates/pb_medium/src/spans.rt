@@ -10,7 +10,7 @@ pub struct Span {
 }
 
 impl Model for Span {
-    ghost use Rattle.pb_turn.specs.Spans as model;
+    ghost use Rattle.law_turn.specs.Spans as model;
 
     ghost Value = { model.Span };
 
@@ -23,7 +23,7 @@ impl Model for Span {
 
 impl Span {
     ghost use Rattle.std.specs.Prelude.{◌≡◌};
-    ghost use Rattle.pb_model.specs.Medium.{lasts_through, contains_moment, overlaps, part_after};
+    ghost use Rattle.law_model.specs.Medium.{lasts_through, contains_moment, overlaps, part_after};
 
     pub(crate) fn new(begin: u64, end: u64) -> Span
         ensures { result ≡ record { begin = begin; end = end } }

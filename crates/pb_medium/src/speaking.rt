@@ -1,10 +1,10 @@
 //! Puts what a tap sends into the trace.
 
 ghost use Rattle.std.specs.Prelude.{◌≡◌, ◌≤◌, ◌∷◌, [], ℕ, List, length};
-ghost use Rattle.pb_model.specs.Medium as model;
-ghost use Rattle.pb_model.specs.Step as step;
-ghost use Rattle.pb_model.specs.Trace.{Sent};
-ghost use Rattle.pb_model.specs.World.{clock_limit, tap_limit};
+ghost use Rattle.law_model.specs.Medium as model;
+ghost use Rattle.law_model.specs.Step as step;
+ghost use Rattle.law_model.specs.Trace.{Sent};
+ghost use Rattle.law_model.specs.World.{clock_limit, tap_limit};
 ghost use Rattle.pb_medium.specs.Entries.{entry_of};
 ghost use Rattle.pb_medium.specs.Speaking.{with_octets};
 
@@ -27,9 +27,9 @@ pub struct Speaker {
 
 impl Trace {
     ghost use Rattle.std.specs.Prelude.{◌≡◌, ◌≤◌, List, true, is_some, length};
-    ghost use Rattle.pb_model.specs.Medium as model;
-    ghost use Rattle.pb_model.specs.Step.{with_said};
-    ghost use Rattle.pb_model.specs.World.{clock_limit, tap_limit};
+    ghost use Rattle.law_model.specs.Medium as model;
+    ghost use Rattle.law_model.specs.Step.{with_said};
+    ghost use Rattle.law_model.specs.World.{clock_limit, tap_limit};
     ghost use Rattle.pb_medium.specs.Traces.{HasRoom, RecentBecomes};
 
     /// Puts what a tap sends at the clock, if anything, into the trace. The caller ensures that the trace has room for

@@ -28,8 +28,8 @@ pub struct Trace {
 impl Trace {
     ghost use Rattle.std.specs.Prelude.{◌≡◌, ◌≤◌, ◌+◌, [], nat_le, IsTrue, ◌↔◌, IfErr, OnOk, length, map};
     ghost use Rattle.std.specs.List.{insert};
-    ghost use Rattle.pb_model.specs.World.{trace_limit};
-    ghost use Rattle.pb_model.specs.Trace.{with_entry};
+    ghost use Rattle.law_model.specs.World.{trace_limit};
+    ghost use Rattle.law_model.specs.Trace.{with_entry};
     ghost use Rattle.pb_medium.specs.Entries.{entry_of};
     ghost use Rattle.pb_medium.specs.Traces.{entries_of, over_of, place_of, recent_of};
     ghost use Rattle.pb_medium.specs.Traces.{HasRoom, RecentBecomes, RefusesRoom, StaysAs};

@@ -1,6 +1,6 @@
 -- What a feed makes of characters that a receiver takes off the line one by one: the beginnings and ends of bursts.
 use Rattle.std.specs.Prelude.{ℕ, ◌+◌, Bool, true, false, not, ◌&&◌, ◌||◌, if◌then◌else◌, nat_lt, nat_le, List, [], ◌∷◌, ◌++◌, length, Option, Some, None, is_some}
-use Rattle.pb_core.specs.Clocks.{last_turn}
+use Rattle.pb_transitions.specs.Clocks.{last_turn}
 use Rattle.pb_telegram.specs.Faults.{fault_of}
 use Rattle.pb_telegram.specs.declared.chars.RxChar.{RxChar}
 use Rattle.pb_port.specs.declared.feeds.FeedMark.{FeedMark}

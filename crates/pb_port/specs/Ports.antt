@@ -1,13 +1,13 @@
 -- A port as contracts see it, why it refuses a call, and what a call does.
 use Rattle.std.specs.Prelude.{◌≡◌, ℕ, Bool, nat_lt, nat_le, List, [], ◌∷◌, ◌++◌, length, take, Option, Some, None, Result, MatchResult}
-use Rattle.pb_core.specs.Clocks.{last_turn}
-use Rattle.pb_messages.specs.RequestFields.{RequestFields}
-use Rattle.pb_refusals.specs.FirstFault.{first_fault}
+use Rattle.pb_transitions.specs.Clocks.{last_turn}
+use Rattle.pb_cycles.specs.RequestFields.{RequestFields}
+use Rattle.pb_faults.specs.FirstFault.{first_fault}
 use Rattle.pb_station.specs.Decisions.{turned}
 use Rattle.pb_station.specs.Stations.{StationView}
 use Rattle.pb_timers.specs.Timers.{Params}
-use Rattle.pb_turn.specs.Marks.{Mark, moment_of, seen_at}
-use Rattle.pb_turn.specs.Stations.{due_of, list_for, new_station, pushed, started, stopped}
+use Rattle.law_turn.specs.Marks.{Mark, moment_of, seen_at}
+use Rattle.law_turn.specs.Stations.{due_of, list_for, new_station, pushed, started, stopped}
 use Rattle.pb_port.specs.declared.faults.PortFault.{PortFault}
 use Rattle.pb_port.specs.declared.faults.PortFault.TheVariants.{TooLate, Backwards, Ahead, TooLong, InboxFull, QueueFull}
 

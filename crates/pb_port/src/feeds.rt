@@ -1,7 +1,7 @@
 //! The beginnings and ends of bursts, from characters that a receiver takes off the line one by one.
 
 ghost use Rattle.std.specs.Prelude.{◌≡◌, List, Some, None};
-ghost use Rattle.pb_refusals.specs.FirstFault.{first_fault};
+ghost use Rattle.pb_faults.specs.FirstFault.{first_fault};
 ghost use Rattle.pb_telegram.specs.Receiving.{StandsFor};
 ghost use Rattle.pb_telegram.specs.declared.chars.RxChar.{RxChar};
 ghost use Rattle.pb_port.specs.Feeds.{is_whole};
@@ -69,7 +69,7 @@ pub struct Feed {
 
 impl Model for Feed {
     ghost use Rattle.std.specs.Prelude.{◌≡◌, ◌≤◌, length};
-    ghost use Rattle.pb_core.specs.Clocks.{last_turn};
+    ghost use Rattle.pb_transitions.specs.Clocks.{last_turn};
     ghost use Rattle.pb_telegram.specs.Receiving.{StandsFor};
     ghost use Rattle.pb_port.specs.Feeds.{FeedView, is_whole};
 
@@ -88,8 +88,8 @@ impl Model for Feed {
 
 impl Feed {
     ghost use Rattle.std.specs.Prelude.{◌≡◌, ◌≤◌, false, [], Some, None, OnOk, MatchResult};
-    ghost use Rattle.pb_refusals.specs.FirstFault.{first_fault};
-    ghost use Rattle.pb_core.specs.Clocks.{last_turn};
+    ghost use Rattle.pb_faults.specs.FirstFault.{first_fault};
+    ghost use Rattle.pb_transitions.specs.Clocks.{last_turn};
     ghost use Rattle.pb_port.specs.Feeds.{with_character, start_faults, after_start, start_mark, character_faults, after_character, character_mark, end_due, after_tick, tick_mark};
 
     /// A feed for a driver that sees start bits, or for one whose station hears late.

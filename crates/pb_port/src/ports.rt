@@ -1,15 +1,15 @@
 //! A station with the marks of what it has heard and not read yet.
 
 ghost use Rattle.std.specs.Prelude.{◌≡◌, ◌≤◌, ◌++◌, ◌∷◌, [], Some, None, MatchResult, length};
-ghost use Rattle.pb_refusals.specs.FirstFault.{first_fault};
-ghost use Rattle.pb_core.specs.Clocks.{last_turn};
+ghost use Rattle.pb_faults.specs.FirstFault.{first_fault};
+ghost use Rattle.pb_transitions.specs.Clocks.{last_turn};
 ghost use Rattle.pb_station.specs.MarkViews.{AllOver};
 ghost use Rattle.pb_port.specs.Ports.{PortView, Sends, clock_faults, mark_faults};
 
 use crate::faults::PortFault;
 use arrayvec::ArrayVec;
 use pb_cycles::{Outcome, Request};
-use pb_refusals::NoMemory;
+use pb_faults::NoMemory;
 use pb_ring::Las;
 use pb_station::{Inbox, MARK_LIMIT, SendBuffer, Station};
 use pb_telegram::RxChar;
@@ -49,7 +49,7 @@ struct Delivery {
 
 impl Model for Port {
     ghost use Rattle.std.specs.Prelude.{◌≤◌};
-    ghost use Rattle.pb_core.specs.Clocks.{last_turn};
+    ghost use Rattle.pb_transitions.specs.Clocks.{last_turn};
     ghost use Rattle.pb_station.specs.MarkViews.{AllOver};
     ghost use Rattle.pb_port.specs.Ports.{PortView};
 
@@ -62,10 +62,10 @@ impl Model for Port {
 
 impl Port {
     ghost use Rattle.std.specs.Prelude.{◌≡◌, ◌≤◌, ◌<◌, ◌∷◌, [], Some, None, IfOk, MatchResult, length, map};
-    ghost use Rattle.pb_refusals.specs.FirstFault.{first_fault};
-    ghost use Rattle.pb_core.specs.Clocks.{last_turn};
+    ghost use Rattle.pb_faults.specs.FirstFault.{first_fault};
+    ghost use Rattle.pb_transitions.specs.Clocks.{last_turn};
     ghost use Rattle.pb_telegram.specs.declared.chars.RxChar.TheVariants.{Good, Bad};
-    ghost use Rattle.pb_turn.specs.Marks as model;
+    ghost use Rattle.law_turn.specs.Marks as model;
     ghost use Rattle.pb_tokenfsm.specs.Phases.{phase_of};
     ghost use Rattle.pb_port.specs.Ports.{new_port, started_port, stopped_port, pushed_port, told_port, turned_port, said_by, due_port, clock_faults, mark_faults, push_faults, Answers, Sends};
 

@@ -5,7 +5,7 @@ ghost use Rattle.std.specs.Prelude.{◌≤◌};
 use crate::{Feed, FeedFault, FeedMark, Port, PortFault};
 use arrayvec::ArrayVec;
 use pb_cycles::{Request, Service};
-use pb_refusals::NoMemory;
+use pb_faults::NoMemory;
 use pb_telegram::RxChar;
 use pb_timers::BusParams;
 use pb_tokenfsm::Phase;

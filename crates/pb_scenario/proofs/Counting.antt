@@ -3,17 +3,17 @@ use Rattle.std.proofs.Common.{◌≡◌, ◌∙◌, ℕ, zero, suc, ◌+◌, Boo
 use Rattle.std.proofs.lemmas.List.{length-map}
 use Rattle.std.specs.Prelude.{slice_get, slice_set, is_some, is_none, nat_le, find}
 use Rattle.std.specs.List.{list_any}
-use Rattle.pb_refusals.specs.FirstFault.{first_fault}
+use Rattle.pb_faults.specs.FirstFault.{first_fault}
 use Rattle.pb_timers.specs.Timers.{Params}
-use Rattle.pb_turn.specs.Turns.{turn_of}
-use Rattle.pb_turn.specs.Stations.{list_for, pushed}
-use Rattle.pb_messages.specs.RequestFields.{RequestFields}
-use Rattle.pb_model.specs.Trace.{Entry, cut_at, begins_from, unheard_at}
-use Rattle.pb_model.specs.Medium.{Tap, TapSpec, entry_at}
-use Rattle.pb_model.specs.World.{World, Event, Turn, Pass, Damage, Start, Stop, Queue, Noise, Unheard, Reply, Fault, NoSuchTap, NotRunning, Running, NothingInAir, ZeroTime, QueueFull, TraceFull, unless, unless_fault, trace_limit, queue_limit, is_in_air_by, new_world, new_faults, stopped_tap}
-use Rattle.pb_model.specs.Step.{step, step_turn, with_said, told, pass_faults, with_hit, change_first, has_place, step_damage, started_tap, step_start, halted, step_stop, step_queue, with_noise, is_noisy, step_unheard}
-use Rattle.pb_runs.specs.Runs.{all, and_then}
-use Rattle.pb_runs.specs.Bus.{bus}
+use Rattle.law_turn.specs.Turns.{turn_of}
+use Rattle.law_turn.specs.Stations.{list_for, pushed}
+use Rattle.pb_cycles.specs.RequestFields.{RequestFields}
+use Rattle.law_model.specs.Trace.{Entry, cut_at, begins_from, unheard_at}
+use Rattle.law_model.specs.Medium.{Tap, TapSpec, entry_at}
+use Rattle.law_model.specs.World.{World, Event, Turn, Pass, Damage, Start, Stop, Queue, Noise, Unheard, Reply, Fault, NoSuchTap, NotRunning, Running, NothingInAir, ZeroTime, QueueFull, TraceFull, unless, unless_fault, trace_limit, queue_limit, is_in_air_by, new_world, new_faults, stopped_tap}
+use Rattle.law_model.specs.Step.{step, step_turn, with_said, told, pass_faults, with_hit, change_first, has_place, step_damage, started_tap, step_start, halted, step_stop, step_queue, with_noise, is_noisy, step_unheard}
+use Rattle.law_runs.specs.Runs.{all, and_then}
+use Rattle.law_runs.specs.Bus.{bus}
 
 -- where no refusal applies, the outcome is the one that was made
 made : {X F : Type 0} (tests : List (Bool × F)) (x y : X) → unless tests x ≡ Ok y → x ≡ y

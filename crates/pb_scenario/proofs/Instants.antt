@@ -2,12 +2,12 @@
 use Rattle.std.proofs.Common.{◌≡◌, ◌∙◌, ℕ, zero, suc, ◌+◌, ◌<◌, ◌≤◌, List, [], ◌++◌, length, Option, Some, None, Result, Ok, Err, refl, ap, sym, subst, arith}
 use Rattle.std.specs.Prelude.{IfSome}
 use Rattle.std.proofs.lemmas.List.{length-map}
-use Rattle.pb_model.specs.World.{World, Event, Fault, new_world}
-use Rattle.pb_runs.specs.Runs.{all, next, passing, with_front, turns, run}
-use Rattle.pb_runs.specs.Bus.{bus, due_in, dues, next_change}
-use Rattle.pb_runs.specs.Scenarios as runs
-use Rattle.pb_runs.specs.Scenarios.{Scenario, outcome_of, run_from, with_end}
-use Rattle.pb_plan.specs.Walks.{WalkView, plan_in}
+use Rattle.law_model.specs.World.{World, Event, Fault, new_world}
+use Rattle.law_runs.specs.Runs.{all, next, passing, with_front, turns, run}
+use Rattle.law_runs.specs.Bus.{bus, due_in, dues, next_change}
+use Rattle.law_runs.specs.Scenarios as runs
+use Rattle.law_runs.specs.Scenarios.{Scenario, outcome_of, run_from, with_end}
+use Rattle.pb_scenario.specs.Walks.{WalkView, plan_in}
 use Rattle.pb_scenario.specs.declared.faults.RunFault.{RunFault}
 use Rattle.pb_scenario.specs.declared.faults.RunFault.TheVariants.{New, At}
 use Rattle.pb_scenario.specs.Faults.{EndsBy}

@@ -1,3 +1,8 @@
+pub mod Left
+pub mod Cuts
+pub mod Said
+pub mod Joined
+pub mod Going
 pub mod Counting
 pub mod Playing
 pub mod Moving

@@ -7,8 +7,8 @@ use Rattle.toml.specs.Data.{no_items, item, Members}
 use Rattle.toml.specs.View.{view, items_view}
 use Rattle.toml.specs.declared.value.Value.{Value}
 use Rattle.toml.proofs.Views.{items_view-drop}
-use Rattle.pb_model.specs.Medium.{TapSpec}
-use Rattle.pb_runs.specs.Scenarios.{Planned}
+use Rattle.law_model.specs.Medium.{TapSpec}
+use Rattle.law_runs.specs.Scenarios.{Planned}
 use Rattle.pb_scenario.specs.declared.keys.Section.TheVariants.{Tap, Step}
 use Rattle.pb_scenario.specs.declared.faults.ScenarioFault.{ScenarioFault}
 use Rattle.pb_scenario.specs.Fields.{Fault, TooMany, Tells, and_then}

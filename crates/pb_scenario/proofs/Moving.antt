@@ -3,20 +3,20 @@ use Rattle.std.proofs.Common.{◌≡◌, ◌∙◌, ℕ, zero, suc, ◌+◌, ◌
 use Rattle.std.specs.Prelude.{min}
 use Rattle.std.proofs.lemmas.List.{drop_all, length-map}
 use Rattle.std.specs.Result.{IsErrAnd}
-use Rattle.pb_turn.specs.Stations.{earlier}
+use Rattle.law_turn.specs.Stations.{earlier}
 use Rattle.std.specs.Option.{option_to_list, option_and_then}
-use Rattle.pb_model.specs.Medium.{Tap}
-use Rattle.pb_model.specs.World.{World, Event, Turn, Reply, Fault}
-use Rattle.pb_model.specs.Step.{step}
-use Rattle.pb_bus.specs.Worlds.{due_at}
-use Rattle.pb_runs.specs.Runs.{Plan, all, and_then, comes, next_turn, places, turns, wanted, wants}
-use Rattle.pb_runs.specs.Bus.{bus, due_in, dues}
-use Rattle.pb_runs.proofs.OnTheBus.{turns-leave-others}
-use Rattle.pb_plan.specs.declared.steps.Step.{Step}
-use Rattle.pb_plan.specs.declared.steps.When.{When}
-use Rattle.pb_plan.specs.Steps.{deed_of, steps_of}
-use Rattle.pb_plan.specs.Said.{said_in, said_by}
-use Rattle.pb_plan.proofs.Said.{said-cut, said-more}
+use Rattle.law_model.specs.Medium.{Tap}
+use Rattle.law_model.specs.World.{World, Event, Turn, Reply, Fault}
+use Rattle.law_model.specs.Step.{step}
+use Rattle.pb_world.specs.Worlds.{due_at}
+use Rattle.law_runs.specs.Runs.{Plan, all, and_then, comes, next_turn, places, turns, wanted, wants}
+use Rattle.law_runs.specs.Bus.{bus, due_in, dues}
+use Rattle.law_runs.proofs.OnTheBus.{turns-leave-others}
+use Rattle.pb_scenario.specs.declared.deeds.Step.{Step}
+use Rattle.pb_scenario.specs.declared.deeds.When.{When}
+use Rattle.pb_scenario.specs.Steps.{deed_of, steps_of}
+use Rattle.pb_scenario.specs.Said.{said_in, said_by}
+use Rattle.pb_scenario.proofs.Said.{said-cut, said-more}
 use Rattle.pb_scenario.specs.declared.faults.RunFault.{RunFault}
 use Rattle.pb_scenario.specs.Stages.{StageView, ComesOn, IsReady}
 use Rattle.pb_scenario.specs.Plays.{Happened, Stops, turn_if}

@@ -3,10 +3,10 @@ use Rattle.std.proofs.Common.{◌≡◌, ◌≤◌, ℕ, ◌+◌, List, Bool, tr
 use Rattle.std.specs.Prelude.{if◌then◌else◌}
 use Rattle.std.proofs.lemmas.Bool.Decides.{nat_tests}
 use Rattle.toml.specs.Data.{Items, no_items, item, Members, as_str}
-use Rattle.pb_model.specs.World as model
-use Rattle.pb_runs.specs.Scenarios.{Deed, Happens, Withhold, Planned}
-use Rattle.pb_runs.specs.Laws.{deed_is_from_outside, AreFromOutside}
-use Rattle.pb_plan.specs.Walks.{AreFrom}
+use Rattle.law_model.specs.World as model
+use Rattle.law_runs.specs.Scenarios.{Deed, Happens, Withhold, Planned}
+use Rattle.law_runs.specs.Laws.{deed_is_from_outside, AreFromOutside}
+use Rattle.pb_scenario.specs.Walks.{AreFrom}
 use Rattle.pb_scenario.specs.declared.keys.Key.TheVariants as key
 use Rattle.pb_scenario.specs.declared.keys.Section.{Section}
 use Rattle.pb_scenario.specs.declared.keys.Section.TheVariants.{Step}

@@ -1,13 +1,13 @@
 -- What is played is the run.
 use Rattle.std.proofs.Common.{◌≡◌, ◌∙◌, ℕ, suc, List, [], ◌∷◌, ◌++◌, append_assoc, Option, Some, None, Ok, Err, Result, refl, ap, sym, subst}
 use Rattle.std.specs.Prelude.{IfSome}
-use Rattle.pb_model.specs.World as model
-use Rattle.pb_model.specs.World.{World, Event, Reply, Fault}
-use Rattle.pb_model.specs.Step.{step}
+use Rattle.law_model.specs.World as model
+use Rattle.law_model.specs.World.{World, Event, Reply, Fault}
+use Rattle.law_model.specs.Step.{step}
 use Rattle.pb_taps.specs.declared.faults.WorldFault.{WorldFault}
 use Rattle.pb_taps.specs.Faults.{Refuses, world_fault}
-use Rattle.pb_runs.specs.Runs.{Plan, all, and_then, next, passing, on_ok, with_front, ending, instant, turns, run}
-use Rattle.pb_runs.specs.Bus.{bus, dues, next_change}
+use Rattle.law_runs.specs.Runs.{Plan, all, and_then, next, passing, on_ok, with_front, ending, instant, turns, run}
+use Rattle.law_runs.specs.Bus.{bus, dues, next_change}
 use Rattle.pb_scenario.specs.declared.faults.RunFault.{RunFault}
 use Rattle.pb_scenario.specs.declared.faults.RunFault.TheVariants.{New, At}
 use Rattle.pb_scenario.specs.Faults.{model_fault}

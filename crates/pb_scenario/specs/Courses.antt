@@ -1,5 +1,5 @@
 -- A bus that counts its events.
-use Rattle.pb_bus.specs.Buses.{world_of, IsKept}
+use Rattle.pb_world.specs.Buses.{world_of, IsKept}
 use Rattle.pb_scenario.specs.declared.courses.Counted.{Counted}
 use Rattle.pb_scenario.specs.Stages.{StageView}
 

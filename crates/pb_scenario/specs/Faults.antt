@@ -1,12 +1,12 @@
 -- Why the run of a scenario ends early.
 use Rattle.std.specs.Prelude.{◌≡◌, Option, Some, None, Err, IfSome}
-use Rattle.pb_model.specs.World as model
-use Rattle.pb_model.specs.World.{new_world}
+use Rattle.law_model.specs.World as model
+use Rattle.law_model.specs.World.{new_world}
 use Rattle.pb_taps.specs.declared.faults.WorldFault.{WorldFault}
 use Rattle.pb_taps.specs.declared.faults.WorldFault.TheVariants as fault
 use Rattle.pb_taps.specs.Faults.{RefusesNew}
-use Rattle.pb_runs.specs.Scenarios as runs
-use Rattle.pb_runs.specs.Scenarios.{Scenario}
+use Rattle.law_runs.specs.Scenarios as runs
+use Rattle.law_runs.specs.Scenarios.{Scenario}
 use Rattle.pb_scenario.specs.declared.faults.RunFault.{RunFault}
 use Rattle.pb_scenario.specs.declared.faults.RunFault.TheVariants.{New, At}
 

@@ -5,18 +5,18 @@ use Rattle.std.specs.Option.{ok_or}
 use Rattle.std.specs.Ordering.{int_eq}
 use Rattle.toml.specs.Data.{Data, Items, no_items, item, Members, get_member, as_str, as_integer, as_bool, as_array, as_table}
 use Rattle.toml.specs.Parse.{parse_document}
-use Rattle.pb_refusals.specs.FirstFault.{first_fault}
+use Rattle.pb_faults.specs.FirstFault.{first_fault}
 use Rattle.pb_timers.specs.Timers.{Params}
 use Rattle.pb_timers.specs.declared.params.ParamFault.{ParamFault}
 use Rattle.pb_timers.specs.ParamRules.{param_faults}
-use Rattle.pb_messages.specs.declared.services.Service.{Service}
-use Rattle.pb_messages.specs.declared.requests.RequestFault.{RequestFault}
-use Rattle.pb_messages.specs.Requests.{request_faults}
-use Rattle.pb_messages.specs.RequestFields.{RequestFields}
-use Rattle.pb_model.specs.Medium.{TapSpec}
-use Rattle.pb_model.specs.World as model
+use Rattle.pb_cycles.specs.declared.services.Service.{Service}
+use Rattle.pb_cycles.specs.declared.requests.RequestFault.{RequestFault}
+use Rattle.pb_cycles.specs.Requests.{request_faults}
+use Rattle.pb_cycles.specs.RequestFields.{RequestFields}
+use Rattle.law_model.specs.Medium.{TapSpec}
+use Rattle.law_model.specs.World as model
 use Rattle.pb_taps.specs.Taps.{is_master}
-use Rattle.pb_runs.specs.Scenarios.{Deed, Happens, Withhold, Planned}
+use Rattle.law_runs.specs.Scenarios.{Deed, Happens, Withhold, Planned}
 use Rattle.pb_scenario.specs.declared.keys.Key.{Key}
 use Rattle.pb_scenario.specs.declared.keys.Key.TheVariants as key
 use Rattle.pb_scenario.specs.declared.keys.Section.{Section}

@@ -1,10 +1,10 @@
 -- What an audit of a scenario's run finds.
 use Rattle.std.specs.Prelude.{◌≡◌, List, Some, Ok}
-use Rattle.pb_model.specs.World.{Event}
-use Rattle.pb_runs.specs.Scenarios as runs
-use Rattle.pb_runs.specs.Scenarios.{Scenario}
-use Rattle.pb_audit.specs.Auditing.{Finds, IsLegalIfKept}
-use Rattle.pb_audit.specs.declared.findings.Audit.{Audit}
+use Rattle.law_model.specs.World.{Event}
+use Rattle.law_runs.specs.Scenarios as runs
+use Rattle.law_runs.specs.Scenarios.{Scenario}
+use Rattle.pb_world.specs.Auditing.{Finds, IsLegalIfKept}
+use Rattle.pb_world.specs.declared.findings.Audit.{Audit}
 
 -- the run has events, and this is what an audit of them finds
 abbrev pub FindsInRun : Scenario → Audit → Type 0

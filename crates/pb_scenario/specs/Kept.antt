@@ -1,9 +1,9 @@
 -- The plain data of a scenario, and its invariant.
 use Rattle.std.specs.Prelude.{◌≡◌, ◌≤◌, length, map}
 use Rattle.pb_taps.specs.Taps.{spec_of}
-use Rattle.pb_runs.specs.Laws.{AreFromOutside}
-use Rattle.pb_plan.specs.Steps.{steps_of}
-use Rattle.pb_plan.specs.Walks.{AreFrom}
+use Rattle.law_runs.specs.Laws.{AreFromOutside}
+use Rattle.pb_scenario.specs.Steps.{steps_of}
+use Rattle.pb_scenario.specs.Walks.{AreFrom}
 use Rattle.pb_scenario.specs.Scenarios.{ScenarioView, names_of, until_limit}
 use Rattle.pb_scenario.specs.declared.scenarios.Scenario.TheInside.{Inside}
 

@@ -1,3 +1,12 @@
+pub mod Steps
+pub mod Said
+pub mod Walks
+pub mod Coming
+pub mod Walking
+pub mod Cutting
+pub mod Looks
+pub mod Reading
+pub mod Nexts
 pub mod Scenarios
 pub mod Kept
 pub mod Texts

@@ -1,11 +1,11 @@
 -- The results of playing events and instants.
 use Rattle.std.specs.Prelude.{◌≡◌, ℕ, suc, ◌<◌, ◌≤◌, Bool, List, [], ◌∷◌, ◌++◌, length, Option, Some, None, Result, Ok, Err, MatchResult, IfSome, if◌then◌else◌}
-use Rattle.pb_model.specs.World as model
-use Rattle.pb_runs.specs.Runs.{Plan, all, run, with_front}
-use Rattle.pb_runs.specs.Bus.{bus}
-use Rattle.pb_runs.specs.Scenarios as runs
-use Rattle.pb_runs.specs.Scenarios.{Scenario}
-use Rattle.pb_plan.specs.Walks.{WalkView, plan_in}
+use Rattle.law_model.specs.World as model
+use Rattle.law_runs.specs.Runs.{Plan, all, run, with_front}
+use Rattle.law_runs.specs.Bus.{bus}
+use Rattle.law_runs.specs.Scenarios as runs
+use Rattle.law_runs.specs.Scenarios.{Scenario}
+use Rattle.pb_scenario.specs.Walks.{WalkView, plan_in}
 use Rattle.pb_scenario.specs.declared.faults.RunFault.{RunFault}
 use Rattle.pb_scenario.specs.declared.faults.RunFault.TheVariants.{New, At}
 use Rattle.pb_scenario.specs.Faults.{model_fault}

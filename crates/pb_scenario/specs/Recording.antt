@@ -1,8 +1,8 @@
 -- A bus with its events.
 use Rattle.std.specs.Prelude.{◌≡◌, List, map}
-use Rattle.pb_model.specs.World.{World, Event}
+use Rattle.law_model.specs.World.{World, Event}
 use Rattle.pb_taps.specs.Events.{event_of}
-use Rattle.pb_bus.specs.Buses.{world_of, IsKept}
+use Rattle.pb_world.specs.Buses.{world_of, IsKept}
 use Rattle.pb_scenario.specs.declared.recorded.Recorded.{Recorded}
 use Rattle.pb_scenario.specs.Stages.{StageView}
 

@@ -1,9 +1,9 @@
 -- A scenario with the names of its taps.
 use Rattle.std.specs.Prelude.{ℕ, List, length, map, String}
 use Rattle.pb_timers.specs.Timers.{Params}
-use Rattle.pb_plan.specs.Walks.{WalkView, new_walk}
+use Rattle.pb_scenario.specs.Walks.{WalkView, new_walk}
 use Rattle.std.specs.String.{string_bytes}
-use Rattle.pb_runs.specs.Scenarios as runs
+use Rattle.law_runs.specs.Scenarios as runs
 
 pub record ScenarioView : Type 0 where
   pub scenario : runs.Scenario

@@ -1,7 +1,7 @@
 -- What the events of a run happen on.
 use Rattle.std.specs.Prelude.{◌≡◌, List, [], ◌∷◌, ◌++◌, Result, Ok, Err, MatchResult, IfSome}
-use Rattle.pb_model.specs.World.{World, Event, Reply}
-use Rattle.pb_model.specs.Step.{step}
+use Rattle.law_model.specs.World.{World, Event, Reply}
+use Rattle.law_model.specs.Step.{step}
 use Rattle.pb_taps.specs.declared.faults.WorldFault.{WorldFault}
 use Rattle.pb_scenario.specs.Faults.{model_fault}
 

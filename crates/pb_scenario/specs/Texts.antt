@@ -1,8 +1,8 @@
 -- The text of a trace.
 use Rattle.std.specs.Prelude.{ℕ, ◌<◌, List, [], ◌∷◌, ◌++◌, map, codes, decimal, slice_index_or}
 use Rattle.hex.specs.Hex.{encode_lower}
-use Rattle.pb_model.specs.Trace as trace
-use Rattle.pb_model.specs.Trace.{Heard, Own, Whole, Damaged, Unheard, Pending, Record, Entry, Sent}
+use Rattle.law_model.specs.Trace as trace
+use Rattle.law_model.specs.Trace.{Heard, Own, Whole, Damaged, Unheard, Pending, Record, Entry, Sent}
 
 -- the letter for how a telegram reached a tap
 abbrev pub letter_of : Heard → ℕ

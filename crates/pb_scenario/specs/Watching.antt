@@ -1,7 +1,7 @@
 -- A watched bus, as a stage for a run's events.
-use Rattle.pb_audit.specs.declared.causes.Inquiry.{Inquiry}
-use Rattle.pb_audit.specs.declared.watched.Watched.{Watched}
-use Rattle.pb_audit.specs.Watched.{HasCome, world_in}
+use Rattle.pb_world.specs.declared.causes.Inquiry.{Inquiry}
+use Rattle.pb_world.specs.declared.watched.Watched.{Watched}
+use Rattle.pb_world.specs.Watched.{HasCome, world_in}
 use Rattle.pb_scenario.specs.Stages.{StageView}
 
 abbrev pub watched_view : Watched → StageView

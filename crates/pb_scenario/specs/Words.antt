@@ -2,8 +2,8 @@
 use Rattle.std.specs.Prelude.{ℕ, Bool, ◌&&◌, nat_le, List, length, codes, bytes_eq, Option, Some, None, if◌then◌else◌}
 use Rattle.std.specs.List.{list_all}
 use Rattle.std.specs.Char.{is_ascii_alphanumeric}
-use Rattle.pb_messages.specs.declared.services.Service.{Service}
-use Rattle.pb_messages.specs.declared.services.Service.TheVariants.{Sda, Sdn, Srd}
+use Rattle.pb_cycles.specs.declared.services.Service.{Service}
+use Rattle.pb_cycles.specs.declared.services.Service.TheVariants.{Sda, Sdn, Srd}
 use Rattle.pb_taps.specs.declared.taps.Kind.{Kind}
 use Rattle.pb_taps.specs.declared.taps.Kind.TheVariants.{Master, Passive}
 use Rattle.pb_scenario.specs.declared.words.Word.{Word}

@@ -2,9 +2,9 @@
 
 ghost use Rattle.std.specs.Prelude.{◌≡◌, [], IfErr, IfOk};
 ghost use Rattle.toml.specs.View.{table_view, view};
-ghost use Rattle.pb_runs.specs.Laws.{AreFromOutside};
-ghost use Rattle.pb_plan.specs.Steps.{steps_of};
-ghost use Rattle.pb_plan.specs.Walks.{AreFrom};
+ghost use Rattle.law_runs.specs.Laws.{AreFromOutside};
+ghost use Rattle.pb_scenario.specs.Steps.{steps_of};
+ghost use Rattle.pb_scenario.specs.Walks.{AreFrom};
 ghost use Rattle.pb_scenario.specs.declared.keys.Key.TheVariants as keys;
 ghost use Rattle.pb_scenario.specs.Scenarios.{names_of};
 ghost use Rattle.pb_scenario.specs.Fields.{Answers};
@@ -19,7 +19,7 @@ use crate::steps::steps_in;
 use crate::taps::taps_in;
 use crate::versions::{Version, version_in};
 use indexmap::IndexSet;
-use pb_plan::Step;
+use crate::deeds::Step;
 use pb_timers::BusParams;
 use std::alloc::Global;
 use toml::{Table, Value};

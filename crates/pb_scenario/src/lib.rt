@@ -1,32 +1,45 @@
-//! Scenarios: a bus with named taps, and steps that act on it from outside; the run on one thread, as a list of events
-//! or judged as they happen; and the text of a trace.
+//! Scenarios: files that describe a bus with named taps and what happens on it from outside; the instants of a run, and
+//! which taps take their turns in each; the run on one thread, as a list of events or judged as they happen; the text
+//! of a trace; and whether a history with its outlooks is the run of a scenario, by a walk over both that applies no event.
 #![tactic(auto)]
 
+mod advancing;
+mod coming;
 mod courses;
+mod deeds;
 mod faults;
 mod fields;
 mod files;
+mod instants;
 mod keys;
 mod plays;
+mod reading;
 mod recorded;
+mod reports;
+mod reviews;
 mod runs;
 mod scenarios;
 mod stages;
 mod steps;
 mod taps;
 mod texts;
+mod turning;
 mod versions;
+mod walks;
 mod words;
 
 pub use courses::{Course, course_of};
+pub use deeds::{Deed, Step, When};
 pub use faults::{RunFault, ScenarioFault};
 pub use files::read;
 pub use keys::{Key, Path, Section, UnknownKey};
-pub use pb_audit::{Audit, Cause, Illegal, Reasons, Rule};
+pub use pb_faults::NoMemory;
 pub use pb_medium::Entry;
-pub use pb_plan::{Deed, Step};
-pub use pb_refusals::NoMemory;
 pub use pb_taps::{Event, Kind, NewFault, TapSpec, WorldFault};
+pub use pb_world::{Audit, Cause, Illegal, Reasons, Rule};
+pub use reports::{Look, Report};
+pub use reviews::is_run;
 pub use runs::{audit_of, events_of, reasons_of};
 pub use scenarios::Scenario;
 pub use texts::{push_number, push_trace, trace_text};
+pub use walks::Walk;

@@ -3,7 +3,7 @@
 ghost use Rattle.std.specs.Prelude.{◌≡◌, []};
 
 use crate::stages::Stage;
-use pb_bus::Bus;
+use pb_world::Bus;
 use pb_taps::{Event, WorldFault};
 use std::alloc::Global;
 

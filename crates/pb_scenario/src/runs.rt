@@ -2,7 +2,7 @@
 
 ghost use Rattle.std.specs.Prelude.{◌≡◌, Some, Ok, IfOk, IfErr, map};
 ghost use Rattle.pb_taps.specs.Events.{event_of};
-ghost use Rattle.pb_runs.specs.Scenarios as runs;
+ghost use Rattle.law_runs.specs.Scenarios as runs;
 ghost use Rattle.pb_scenario.specs.Faults.{EndsBy};
 ghost use Rattle.pb_scenario.specs.Judged.{FindsInRun};
 
@@ -10,8 +10,7 @@ use crate::faults::RunFault;
 use crate::plays::play;
 use crate::recorded::Recorded;
 use crate::scenarios::Scenario;
-use pb_audit::{Audit, Inquiry, Reasons, new_watched};
-use pb_bus::new_bus;
+use pb_world::{Audit, Inquiry, Reasons, new_bus, new_watched};
 use pb_taps::Event;
 use std::alloc::Global;
 

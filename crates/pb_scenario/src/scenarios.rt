@@ -1,12 +1,13 @@
 //! A scenario as a value.
 
 ghost use Rattle.std.specs.Prelude.{◌≡◌, ◌<◌, IfOk, IfErr, length, slice_get, Some, None};
-ghost use Rattle.pb_refusals.specs.FirstFault.{first_fault};
+ghost use Rattle.pb_faults.specs.FirstFault.{first_fault};
 ghost use Rattle.pb_timers.specs.ParamRules.{param_faults};
 ghost use Rattle.pb_scenario.specs.Scenarios.{names_of, params_with};
 
 use indexmap::IndexSet;
-use pb_plan::{Step, Walk};
+use crate::deeds::Step;
+use crate::walks::Walk;
 use pb_taps::TapSpec;
 use pb_timers::{BusParams, ParamFault};
 use std::alloc::{AllocError, Global};
@@ -37,12 +38,12 @@ impl Model for Scenario {
 
 impl Scenario {
     ghost use Rattle.std.specs.Prelude.{◌≡◌, ◌≤◌, ◌<◌, IfOk, IfErr, length, map, slice_get, Some, None};
-    ghost use Rattle.pb_refusals.specs.FirstFault.{first_fault};
+    ghost use Rattle.pb_faults.specs.FirstFault.{first_fault};
     ghost use Rattle.pb_timers.specs.ParamRules.{param_faults};
     ghost use Rattle.pb_taps.specs.Taps.{spec_of};
-    ghost use Rattle.pb_runs.specs.Laws.{AreFromOutside};
-    ghost use Rattle.pb_plan.specs.Steps.{steps_of};
-    ghost use Rattle.pb_plan.specs.Walks.{AreFrom};
+    ghost use Rattle.law_runs.specs.Laws.{AreFromOutside};
+    ghost use Rattle.pb_scenario.specs.Steps.{steps_of};
+    ghost use Rattle.pb_scenario.specs.Walks.{AreFrom};
     ghost use Rattle.pb_scenario.specs.Scenarios.{delayed, names_of, params_with, until_limit, walk_of};
 
     /// A scenario of taps with as many names, up to the moment `until`, in bit times. The caller ensures that the steps

@@ -1,12 +1,11 @@
 //! Stages: what a scenario's run is played on.
 
 ghost use Rattle.std.specs.Prelude.{◌≡◌};
-ghost use Rattle.pb_bus.specs.Buses.{world_of, IsKept};
+ghost use Rattle.pb_world.specs.Buses.{world_of, IsKept};
 ghost use Rattle.pb_taps.specs.Events.{event_of};
 ghost use Rattle.pb_scenario.specs.Stages.{StageView, IsReady, Takes};
 
-use pb_audit::{Inquiry, Watched};
-use pb_bus::Bus;
+use pb_world::{Bus, Inquiry, Watched};
 use pb_taps::{Event, WorldFault};
 use std::alloc::Global;
 

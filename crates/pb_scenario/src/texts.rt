@@ -10,7 +10,7 @@ use crate::scenarios::Scenario;
 use arrayvec::ArrayVec;
 use itoa::{Buffer, Integer};
 use pb_medium::{Entry, Heard, Reception, Record};
-use pb_refusals::NoMemory;
+use pb_faults::NoMemory;
 use std::alloc::{AllocError, Global};
 
 /// The most octets of a telegram.

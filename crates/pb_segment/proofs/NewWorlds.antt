@@ -3,10 +3,10 @@ use Rattle.std.proofs.Common.{◌≡◌, ℕ, ◌+◌, zero, suc, List, [], ◌�
 use Rattle.std.specs.Prelude.{slice_get}
 use Rattle.std.proofs.lemmas.Option.{none-some, same_Some}
 use Rattle.pb_timers.specs.Timers.{Params}
-use Rattle.pb_model.specs.Medium.{Tap, TapSpec}
-use Rattle.pb_model.specs.World.{World, stopped_tap, new_faults, new_world}
-use Rattle.pb_model.proofs.Worlds.{unless-Ok}
-use Rattle.pb_theorem.specs.Headline.{specs_of}
+use Rattle.law_model.specs.Medium.{Tap, TapSpec}
+use Rattle.law_model.specs.World.{World, stopped_tap, new_faults, new_world}
+use Rattle.law_model.proofs.Worlds.{unless-Ok}
+use Rattle.law_runs.specs.Headline.{specs_of}
 use Rattle.pb_segment.specs.Origins.{Origin, IsMadeOf, IsMade, IsNew}
 
 abbrev made : Params → List TapSpec → World

@@ -1,10 +1,10 @@
 -- What is kept of an event that happens, and the fault of one that doesn't.
 use Rattle.std.proofs.Common.{◌≡◌, ◌∙◌, ℕ, ◌<◌, [], ◌∷◌, ◌++◌, length, Ok, Err, refl, sym, ap, subst}
 use Rattle.std.specs.Prelude.{Result}
-use Rattle.pb_model.specs.World.{World, Event, Reply, Fault}
-use Rattle.pb_model.specs.Step.{step}
-use Rattle.pb_bus.specs.Refusals.{fault_of}
-use Rattle.pb_live.specs.Promises.{LeadOn}
+use Rattle.law_model.specs.World.{World, Event, Reply, Fault}
+use Rattle.law_model.specs.Step.{step}
+use Rattle.pb_world.specs.Refusals.{fault_of}
+use Rattle.law_live.specs.Promises.{LeadOn}
 use Rattle.pb_segment.specs.declared.faults.CommitFault.{CommitFault}
 use Rattle.pb_segment.specs.declared.faults.CommitFault.TheVariants as commit
 use Rattle.pb_segment.specs.declared.notes.Note.{Note}

@@ -5,15 +5,15 @@ use Rattle.std.proofs.lemmas.Grind.{common_steps, elements}
 use Rattle.std.proofs.lemmas.Bool.Decides.{nat_tests}
 use Rattle.std.proofs.lemmas.List.{length-set, append-nil, length-replicate, get_or-replicate, length-map}
 use Rattle.std.proofs.lemmas.List.Elements.{All-weaker, All-push, All-nil}
-use Rattle.pb_model.specs.Medium.{TapSpec}
-use Rattle.pb_model.specs.World.{World, Event, Turn, Pass, Damage, Start, Stop, Queue, Noise, Unheard}
-use Rattle.pb_model.specs.Step.{step, RunsTo}
-use Rattle.pb_model.specs.Trace.{Entry}
-use Rattle.pb_theorem.specs.Headline.{specs_of}
-use Rattle.pb_live.specs.Promises.{KeepsPromises, LeadOn, LeadTo}
-use Rattle.pb_token.proofs.JoinedRuns.{runs_same}
-use Rattle.pb_live.proofs.Promising.{kept_promises}
-use Rattle.pb_token.proofs.Stays.{same_bus}
+use Rattle.law_model.specs.Medium.{TapSpec}
+use Rattle.law_model.specs.World.{World, Event, Turn, Pass, Damage, Start, Stop, Queue, Noise, Unheard}
+use Rattle.law_model.specs.Step.{step, RunsTo}
+use Rattle.law_model.specs.Trace.{Entry}
+use Rattle.law_runs.specs.Headline.{specs_of}
+use Rattle.law_live.specs.Promises.{KeepsPromises, LeadOn, LeadTo}
+use Rattle.law_token.proofs.whole.JoinedRuns.{runs_same}
+use Rattle.law_live.proofs.Promising.{kept_promises}
+use Rattle.law_token.proofs.whole.Stays.{same_bus}
 use Rattle.pb_segment.specs.declared.outlooks.Outlook.{Outlook}
 use Rattle.pb_segment.specs.Counts.{counted, counted_drives}
 use Rattle.pb_segment.specs.Histories.{Happened, Receipt, Replays, events_in, is_turn_of, is_driven, told_if, told_from, told}

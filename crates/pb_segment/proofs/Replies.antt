@@ -2,13 +2,13 @@
 use Rattle.std.proofs.Common.{◌≡◌, ℕ, ◌+◌, Bool, false, List, [], ◌∷◌, length, map, Some, None, Ok, sym, ap}
 use Rattle.std.specs.List.{list_any}
 use Rattle.std.specs.Prelude.{Option, Result, Err, OnOk, slice_get, slice_set, find, is_none, nat_le, not, ◌&&◌, ◌||◌, ◌==◌}
-use Rattle.pb_messages.specs.RequestFields.{RequestFields}
-use Rattle.pb_turn.specs.Stations.{list_for, pushed}
-use Rattle.pb_model.specs.Medium.{Tap, entry_at}
-use Rattle.pb_model.specs.Trace.{begins_from, cut_at, unheard_at}
-use Rattle.pb_model.specs.World.{World, Event, Turn, Pass, Damage, Start, Stop, Queue, Noise, Unheard, Reply, Fault, NoSuchTap, Running, NotRunning, NothingInAir, ZeroTime, QueueFull, TraceFull, unless, is_in_air_by, trace_limit, queue_limit}
-use Rattle.pb_model.specs.Step.{step, step_start, step_stop, step_queue, told, pass_faults, has_place, change_first, with_hit, started_tap, halted, with_noise, is_noisy}
-use Rattle.pb_model.proofs.Worlds.{unless-Ok}
+use Rattle.pb_cycles.specs.RequestFields.{RequestFields}
+use Rattle.law_turn.specs.Stations.{list_for, pushed}
+use Rattle.law_model.specs.Medium.{Tap, entry_at}
+use Rattle.law_model.specs.Trace.{begins_from, cut_at, unheard_at}
+use Rattle.law_model.specs.World.{World, Event, Turn, Pass, Damage, Start, Stop, Queue, Noise, Unheard, Reply, Fault, NoSuchTap, Running, NotRunning, NothingInAir, ZeroTime, QueueFull, TraceFull, unless, is_in_air_by, trace_limit, queue_limit}
+use Rattle.law_model.specs.Step.{step, step_start, step_stop, step_queue, told, pass_faults, has_place, change_first, with_hit, started_tap, halted, with_noise, is_noisy}
+use Rattle.law_model.proofs.Worlds.{unless-Ok}
 use Rattle.pb_segment.specs.Histories.{Receipt, is_turn}
 use Rattle.pb_segment.specs.Locked.{LockedView, AppendsTo}
 use Rattle.pb_segment.specs.Seats.{IsSilent, IsTold}

@@ -2,9 +2,9 @@
 use Rattle.std.proofs.Common.{◌≡◌, ℕ, ◌+◌, ◌<◌, zero, suc, List, [], ◌∷◌, ◌++◌, length, map, take, Option, refl, ap, ◌∙◌, arith}
 use Rattle.std.specs.Prelude.{slice_get}
 use Rattle.std.specs.Option.{option_and_then}
-use Rattle.pb_model.specs.World.{World}
-use Rattle.pb_bus.specs.Worlds.{due_at}
-use Rattle.pb_runs.specs.Bus.{dues}
+use Rattle.law_model.specs.World.{World}
+use Rattle.pb_world.specs.Worlds.{due_at}
+use Rattle.law_runs.specs.Bus.{dues}
 
 next_suc : {A : Type 0} (f : A → Option ℕ) (xs : List A) (i : ℕ) → i < length xs → take (suc i) (map f xs) ≡ take i (map f xs) ++ option_and_then f (slice_get xs i) ∷ []
 next_suc f [] i small = absurd (omega arith)

@@ -5,7 +5,7 @@ use Rattle.std.proofs.lemmas.Grind.{common_steps, elements}
 use Rattle.std.proofs.lemmas.Bool.Decides.{nat_tests}
 use Rattle.std.proofs.lemmas.List.{drop_all}
 use Rattle.std.proofs.lemmas.Option.{none-some, same_Some}
-use Rattle.pb_model.specs.World.{Event, Reply}
+use Rattle.law_model.specs.World.{Event, Reply}
 use Rattle.pb_segment.specs.Histories.{Happened, Receipt, told_if, told_from, told, StandsFrom, StandInOrder}
 
 -- ---- lists

@@ -1,6 +1,6 @@
 -- The counts of accepted events after one more.
 use Rattle.std.specs.Prelude.{ℕ, ◌+◌, List, slice_set, slice_index, nat_lt, length, if◌then◌else◌}
-use Rattle.pb_model.specs.World.{Event, Turn, Pass, Damage, Start, Stop, Queue, Noise, Unheard}
+use Rattle.law_model.specs.World.{Event, Turn, Pass, Damage, Start, Stop, Queue, Noise, Unheard}
 
 abbrev pub counted_at : List ℕ → ℕ → List ℕ
 counted_at turns tap = if nat_lt tap (length turns) then slice_set turns tap (slice_index turns tap + 1) else turns

@@ -1,7 +1,7 @@
 -- Histories: the events that a segment has accepted, each with its reply, and the receipts of one seat in them.
 use Rattle.std.specs.Prelude.{◌≡◌, ◌≤◌, ℕ, ◌+◌, ◌==◌, Bool, true, false, not, List, [], ◌∷◌, map, Some, Ok, slice_get, if◌then◌else◌}
-use Rattle.pb_model.specs.World.{World, Event, Turn, Pass, Damage, Start, Stop, Queue, Noise, Unheard, Reply}
-use Rattle.pb_model.specs.Step.{step}
+use Rattle.law_model.specs.World.{World, Event, Turn, Pass, Damage, Start, Stop, Queue, Noise, Unheard, Reply}
+use Rattle.law_model.specs.Step.{step}
 use Rattle.pb_segment.specs.declared.receipts.Owner.{Owner}
 use Rattle.pb_segment.specs.declared.receipts.Owner.TheVariants as owner
 

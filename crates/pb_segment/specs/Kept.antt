@@ -1,7 +1,7 @@
 -- What a seat keeps of a reply.
 use Rattle.std.specs.Prelude.{None}
 use Rattle.std.specs.Arc.{arc_value}
-use Rattle.pb_model.specs.World as model
+use Rattle.law_model.specs.World as model
 use Rattle.pb_taps.specs.Events.{reply_of}
 use Rattle.pb_segment.specs.declared.receipts.KeptReply.{KeptReply}
 use Rattle.pb_segment.specs.declared.receipts.KeptReply.TheVariants as kept

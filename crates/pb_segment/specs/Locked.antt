@@ -1,12 +1,12 @@
 -- The state under the lock, and what an event of a seat does to it.
 use Rattle.std.specs.Prelude.{◌≡◌, ◌≢◌, ℕ, ◌<◌, ◌≤◌, true, false, List, [], ◌∷◌, ◌++◌, length, slice_index, Ok, IsOk, MatchResult}
-use Rattle.pb_model.specs.World.{World, Event, Turn}
-use Rattle.pb_model.specs.Step.{step}
+use Rattle.law_model.specs.World.{World, Event, Turn}
+use Rattle.law_model.specs.Step.{step}
 use Rattle.pb_taps.specs.Faults.{world_fault}
 use Rattle.pb_taps.specs.declared.faults.WorldFault.TheVariants as world
 use Rattle.pb_station.specs.Decisions.{DecisionView}
-use Rattle.pb_bus.specs.Glances.{Fits}
-use Rattle.pb_live.specs.Promises.{KeepsPromises, LeadTo}
+use Rattle.pb_world.specs.Glances.{Fits}
+use Rattle.law_live.specs.Promises.{KeepsPromises, LeadTo}
 use Rattle.pb_segment.specs.declared.faults.CommitFault.{CommitFault}
 use Rattle.pb_segment.specs.declared.faults.CommitFault.TheVariants as commit
 use Rattle.pb_segment.specs.declared.faults.GlanceFault.{GlanceFault}

@@ -1,7 +1,7 @@
 -- What is kept of an event, and why an event is not kept.
 use Rattle.std.specs.Prelude.{◌≡◌, ℕ, ◌<◌, Option, Some, None, Ok}
-use Rattle.pb_model.specs.World.{World, Event, Reply}
-use Rattle.pb_model.specs.Step.{step}
+use Rattle.law_model.specs.World.{World, Event, Reply}
+use Rattle.law_model.specs.Step.{step}
 use Rattle.pb_taps.specs.declared.faults.WorldFault.{WorldFault}
 use Rattle.pb_taps.specs.declared.faults.WorldFault.TheVariants as world
 use Rattle.pb_segment.specs.declared.faults.CommitFault.{CommitFault}

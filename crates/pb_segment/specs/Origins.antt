@@ -1,10 +1,10 @@
 -- The definition of a new world.
 use Rattle.std.specs.Prelude.{◌≡◌, List, [], Ok}
 use Rattle.pb_timers.specs.Timers.{Params}
-use Rattle.pb_model.specs.Medium.{TapSpec}
-use Rattle.pb_model.specs.World.{World, new_world}
-use Rattle.pb_theorem.specs.Headline.{specs_of}
-use Rattle.pb_live.specs.Promises.{LeadTo}
+use Rattle.law_model.specs.Medium.{TapSpec}
+use Rattle.law_model.specs.World.{World, new_world}
+use Rattle.law_runs.specs.Headline.{specs_of}
+use Rattle.law_live.specs.Promises.{LeadTo}
 
 -- the parameters of its bus, and the definition of each tap
 pub record Origin : Type 0 where

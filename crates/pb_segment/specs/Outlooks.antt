@@ -1,7 +1,7 @@
 -- Outlooks, as the conductor sees them.
 use Rattle.std.specs.Prelude.{◌≡◌, ◌≤◌, List, All, length, take}
-use Rattle.pb_model.specs.World.{World}
-use Rattle.pb_runs.specs.Bus.{dues, next_change}
+use Rattle.law_model.specs.World.{World}
+use Rattle.law_runs.specs.Bus.{dues, next_change}
 use Rattle.pb_segment.specs.Histories.{Happened, Replays}
 use Rattle.pb_segment.specs.declared.outlooks.Outlook.{Outlook}
 

@@ -1,8 +1,8 @@
 -- The contents of a report.
 use Rattle.std.specs.Prelude.{◌≡◌, ℕ, ◌<◌, List, length, slice_index}
-use Rattle.pb_model.specs.Trace.{Entry}
-use Rattle.pb_model.specs.World.{World}
-use Rattle.pb_live.specs.Promises.{KeepsPromises, LeadTo}
+use Rattle.law_model.specs.Trace.{Entry}
+use Rattle.law_model.specs.World.{World}
+use Rattle.law_live.specs.Promises.{KeepsPromises, LeadTo}
 use Rattle.pb_segment.specs.Histories.{Happened, Replays, events_in, is_turn_of, told}
 use Rattle.pb_segment.specs.Origins.{Origin, IsMadeOf}
 use Rattle.pb_segment.specs.Outlooks.{AreOutlooksOf}

@@ -1,6 +1,6 @@
 -- Seats as contracts see them.
 use Rattle.std.specs.Prelude.{◌≡◌, ℕ, List, [], ◌∷◌, ◌++◌, length, None}
-use Rattle.pb_model.specs.World.{Reply}
+use Rattle.law_model.specs.World.{Reply}
 use Rattle.pb_station.specs.Decisions.{DecisionView}
 use Rattle.pb_segment.specs.declared.faults.CommitFault.{CommitFault}
 use Rattle.pb_segment.specs.declared.faults.CommitFault.TheVariants as commit

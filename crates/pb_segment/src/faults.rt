@@ -5,7 +5,7 @@ ghost use Rattle.pb_segment.specs.declared.faults.GlanceFault.TheVariants as gla
 ghost use Rattle.pb_taps.specs.declared.faults.WorldFault.TheVariants as world;
 ghost use Rattle.std.specs.Prelude.{◌≡◌};
 
-use pb_refusals::NoMemory;
+use pb_faults::NoMemory;
 use pb_world::WorldFault;
 use std::alloc::AllocError;
 use thiserror::Error;

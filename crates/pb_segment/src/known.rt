@@ -2,7 +2,7 @@
 
 ghost use Rattle.std.specs.Arc.{arc_value};
 ghost use Rattle.std.specs.Prelude.{◌≡◌, ◌↔◌, IfOk, IsTrue, None, Some};
-ghost use Rattle.pb_model.specs.World.{Pass, Turn};
+ghost use Rattle.law_model.specs.World.{Pass, Turn};
 ghost use Rattle.pb_taps.specs.Events.{event_of, reply_of};
 
 use crate::receipts::is_silent_at;

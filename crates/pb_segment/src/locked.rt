@@ -57,9 +57,9 @@ impl<L: Ledger> Model for Locked<L> {
 
 impl<L: Ledger> Locked<L> {
     ghost use Rattle.std.specs.Prelude.{◌≡◌, ◌++◌, ◌∷◌, [], false, IfOk, IfErr, OnOk, OnErr, length};
-    ghost use Rattle.pb_model.specs.World.{Turn};
+    ghost use Rattle.law_model.specs.World.{Turn};
     ghost use Rattle.pb_taps.specs.Events.{event_of};
-    ghost use Rattle.pb_bus.specs.Glances.{CanBeDecided, Fits, IsGlance};
+    ghost use Rattle.pb_world.specs.Glances.{CanBeDecided, Fits, IsGlance};
     ghost use Rattle.pb_segment.specs.Histories.{is_turn};
     ghost use Rattle.pb_segment.specs.Locked.{AppendsTo, IsAllowed, IsPresent, KnowsDrives, KnowsTurns};
     ghost use Rattle.pb_segment.specs.Locked.{RefusesDecision, RefusesEvent, RefusesToKeep, RefusesToShow};

@@ -10,7 +10,7 @@ use crate::locked::Locked;
 use crate::origins::Origin;
 use crate::seats::{ConductorSeat, TapSeat};
 use crate::segments::SharedSegment;
-use pb_refusals::NoMemory;
+use pb_faults::NoMemory;
 use pb_world::World;
 use std::alloc::{AllocError, Global};
 use std::sync::Mutex;

@@ -2,11 +2,11 @@
 
 ghost use Rattle.std.specs.Arc.{arc_value};
 ghost use Rattle.std.specs.Prelude.{◌≡◌, ◌<◌, ◌≤◌, IfOk, IfErr, OnOk, false, length, vec_len, vec_capacity};
-ghost use Rattle.pb_model.specs.Step.{step};
-ghost use Rattle.pb_model.specs.World.{Turn};
+ghost use Rattle.law_model.specs.Step.{step};
+ghost use Rattle.law_model.specs.World.{Turn};
 ghost use Rattle.pb_taps.specs.Events.{event_of, reply_of};
-ghost use Rattle.pb_bus.specs.Glances.{Fits};
-ghost use Rattle.pb_bus.specs.Refusals.{TellsSpeech, fault_of};
+ghost use Rattle.pb_world.specs.Glances.{Fits};
+ghost use Rattle.pb_world.specs.Refusals.{TellsSpeech, fault_of};
 ghost use Rattle.pb_segment.specs.Blocks.{HasRoom, happened_in};
 ghost use Rattle.pb_segment.specs.Histories.{is_turn};
 ghost use Rattle.pb_segment.specs.Notes.{IsClockAfter, IsNoteOf, IsReplyTo, IsWantOfRoom, earlier_fault};

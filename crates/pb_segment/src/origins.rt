@@ -1,7 +1,7 @@
 //! The definition of a segment's new world.
 
 ghost use Rattle.std.specs.Prelude.{◌≡◌, ◌<◌, ◌↔◌, IsTrue, IfOk, Some, length, slice_get};
-ghost use Rattle.pb_theorem.specs.Headline.{specs_of};
+ghost use Rattle.law_runs.specs.Headline.{specs_of};
 ghost use Rattle.pb_segment.specs.Origins.{IsMade};
 
 use pb_timers::BusParams;
@@ -34,7 +34,7 @@ struct Member {
 }
 
 impl Model for Member {
-    ghost use Rattle.pb_model.specs.Medium.{TapSpec};
+    ghost use Rattle.law_model.specs.Medium.{TapSpec};
 
     ghost Value = { TapSpec };
 

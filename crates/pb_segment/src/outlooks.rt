@@ -1,7 +1,7 @@
 //! Outlooks: when each tap is due, and when something else changes.
 
 ghost use Rattle.std.specs.Prelude.{◌≡◌, ◌↔◌, ◌≤◌, IsTrue, IfOk, length};
-ghost use Rattle.pb_runs.specs.Bus.{dues};
+ghost use Rattle.law_runs.specs.Bus.{dues};
 ghost use Rattle.pb_segment.specs.Dues.{moments_in};
 ghost use Rattle.pb_segment.specs.Outlooks.{ShowsWorld};
 

@@ -47,7 +47,7 @@ pub struct CloseRefused<L: Ledger> {
 impl<L: Ledger> SharedSegment<L> {
     ghost use Rattle.std.specs.Prelude.{◌≡◌, ◌≢◌, ◌+◌, ◌++◌, ◌∷◌, [], All, Err, ◌↔◌, IsTrue};
     ghost use Rattle.std.specs.Prelude.{IfOk, IfErr, OnErr, OnOk, length, map, sum};
-    ghost use Rattle.pb_bus.specs.Glances.{CanBeDecided};
+    ghost use Rattle.pb_world.specs.Glances.{CanBeDecided};
     ghost use Rattle.pb_taps.specs.Events.{event_of};
     ghost use Rattle.pb_segment.specs.declared.faults.CommitFault.TheVariants.{WrongTap};
     ghost use Rattle.pb_segment.specs.Closing.{IsClosed, IsMissing};

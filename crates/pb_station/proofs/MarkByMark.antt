@@ -3,10 +3,10 @@ use Rattle.std.proofs.Common.{◌≡◌, ◌∙◌, ap, sym, ℕ, List, ◌∷�
 use Rattle.std.specs.Prelude.{drop}
 use Rattle.std.proofs.lemmas.List.{at_drop_all, drop-map}
 use Rattle.pb_timers.specs.Timers.{Params}
-use Rattle.pb_turn.specs.Marks.{Mark, moment_of}
-use Rattle.pb_turn.specs.Stations.{Station}
-use Rattle.pb_turn.specs.Hearing.{after_timer, after_mark}
-use Rattle.pb_turn.specs.Turns.{after_marks}
+use Rattle.law_turn.specs.Marks.{Mark, moment_of}
+use Rattle.law_turn.specs.Stations.{Station}
+use Rattle.law_turn.specs.Hearing.{after_timer, after_mark}
+use Rattle.law_turn.specs.Turns.{after_marks}
 
 -- a mark more is read
 pub read-more : (p : Params) (first : Station) (all : List Mark) (i : ℕ) (s timed after : Station) (m : Mark) (limit : ℕ)

@@ -4,10 +4,10 @@ use Rattle.std.specs.Prelude.{take, drop, slice_index_or}
 use Rattle.std.proofs.lemmas.List.{take-append-le, drop-append-le, take_all, drop_all, at_drop_more}
 use Rattle.pb_telegram.specs.declared.chars.RxChar.{RxChar}
 use Rattle.pb_timers.specs.Timers.{Params}
-use Rattle.pb_turn.specs.Hearing.{after_timer, after_mark}
-use Rattle.pb_turn.specs.Marks.{Mark, moment_of}
-use Rattle.pb_turn.specs.Stations.{Station}
-use Rattle.pb_turn.specs.Turns.{after_marks}
+use Rattle.law_turn.specs.Hearing.{after_timer, after_mark}
+use Rattle.law_turn.specs.Marks.{Mark, moment_of}
+use Rattle.law_turn.specs.Stations.{Station}
+use Rattle.law_turn.specs.Turns.{after_marks}
 use Rattle.pb_station.specs.MarkViews.{AllOver}
 use Rattle.pb_station.specs.Notes.{chars_of, octets_of, mark_with, marks_in, AreOf}
 use Rattle.pb_station.specs.declared.notes.Note.{Note}

@@ -3,8 +3,8 @@ use Rattle.std.proofs.Common.{◌≡◌, refl, arith, ℕ, ◌+◌, ◌≤◌, �
 use Rattle.std.specs.Prelude.{nat_lt, min}
 use Rattle.std.proofs.lemmas.Bool.{lt-ltb, le-ltb, ltb-true, ltb-false}
 use Rattle.std.proofs.Math.Nat.{min-le_left, min-le_right, le-min}
-use Rattle.pb_turn.specs.Stations.{earlier}
-use Rattle.pb_core.specs.Clocks.{is_past}
+use Rattle.law_turn.specs.Stations.{earlier}
+use Rattle.pb_transitions.specs.Clocks.{is_past}
 
 past-min : (lag to a b : ℕ) → nat_lt (min a b + lag) to ≡ (nat_lt (a + lag) to || nat_lt (b + lag) to)
 past-min lag to a b = by-tests (nat_lt (a + lag) to) (nat_lt (b + lag) to) refl refl

@@ -6,24 +6,24 @@ use Rattle.pb_timers.specs.Timers.{Params}
 use Rattle.pb_ring.specs.Gap.{last_asked, next_asked, round_after}
 use Rattle.pb_ring.specs.Las.{place_of, skips_of}
 use Rattle.pb_rotation.specs.Rotation.{Receipt, used}
-use Rattle.pb_messages.specs.Fields.{Fields}
-use Rattle.pb_messages.specs.Messages.{has_bit}
-use Rattle.pb_messages.specs.RequestFields.{RequestFields}
-use Rattle.pb_messages.specs.Requests.{is_answered}
-use Rattle.pb_messages.specs.declared.messages.Message.{Message}
-use Rattle.pb_messages.specs.declared.messages.Message.TheVariants as message
+use Rattle.pb_cycles.specs.Fields.{Fields}
+use Rattle.pb_cycles.specs.Messages.{has_bit}
+use Rattle.pb_cycles.specs.RequestFields.{RequestFields}
+use Rattle.pb_cycles.specs.Requests.{is_answered}
+use Rattle.pb_cycles.specs.declared.messages.Message.{Message}
+use Rattle.pb_cycles.specs.declared.messages.Message.TheVariants as message
 use Rattle.pb_cycles.specs.Initiating.{retry_of, outcome_of}
 use Rattle.pb_cycles.specs.declared.outcomes.Outcome.{Outcome}
 use Rattle.pb_cycles.specs.Outcomes.{status_reply}
-use Rattle.pb_turn.specs.Arrivals.{Arrival, Token, Framed, Acknowledgement, NoTelegram, arrival_of}
-use Rattle.pb_turn.specs.Hearing.{not_answered, data_told, awaiting_data_hears, passive_hears, phase_timed_out, timed_out, after_timer, tries_limit, taking, is_taken_from, skips_limit, own_token, foreign_token, idle_hears, listening_hears, holder_hears, status_told, awaiting_status_hears, with_token, lost, phase_ended, heard, after_mark}
-use Rattle.pb_turn.specs.Marks.{Mark, Begin, End, moment_of}
-use Rattle.pb_turn.specs.Phases.{Phase, Offline, PassiveIdle, Listening, Idle, Claim, Use, AwaitData, AwaitStatus, Pass, Checking, is_offline}
-use Rattle.pb_turn.specs.Stations.{Station, Reply, timer_of, next_station, previous_station}
-use Rattle.pb_turn.specs.Turns.{after_marks, settled, token_octets, saying, received_own, says_token, looks_at_gap, says_look, says_no_request, says_request, says_low, says_high, says_in_use, high_request, low_request, high_taken, low_taken, says_again, joining, replying, says_reply, says_ready, phase_says, speech}
-use Rattle.pb_turn.proofs.Cases.{by_test}
-use Rattle.pb_turn.proofs.Paths.{phase-doubled}
-use Rattle.pb_core.specs.Cores.{has_received, HasReceived}
+use Rattle.law_turn.specs.Arrivals.{Arrival, Token, Framed, Acknowledgement, NoTelegram, arrival_of}
+use Rattle.law_turn.specs.Hearing.{not_answered, data_told, awaiting_data_hears, passive_hears, phase_timed_out, timed_out, after_timer, tries_limit, taking, is_taken_from, skips_limit, own_token, foreign_token, idle_hears, listening_hears, holder_hears, status_told, awaiting_status_hears, with_token, lost, phase_ended, heard, after_mark}
+use Rattle.law_turn.specs.Marks.{Mark, Begin, End, moment_of}
+use Rattle.law_turn.specs.Phases.{Phase, Offline, PassiveIdle, Listening, Idle, Claim, Use, AwaitData, AwaitStatus, Pass, Checking, is_offline}
+use Rattle.law_turn.specs.Stations.{Station, Reply, timer_of, next_station, previous_station}
+use Rattle.law_turn.specs.Turns.{after_marks, settled, token_octets, saying, received_own, says_token, looks_at_gap, says_look, says_no_request, says_request, says_low, says_high, says_in_use, high_request, low_request, high_taken, low_taken, says_again, joining, replying, says_reply, says_ready, phase_says, speech}
+use Rattle.law_turn.proofs.Cases.{by_test}
+use Rattle.law_turn.proofs.Paths.{phase-doubled}
+use Rattle.pb_transitions.specs.Cores.{has_received, HasReceived}
 
 -- ---- timers
 

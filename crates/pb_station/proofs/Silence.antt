@@ -2,9 +2,9 @@
 use Rattle.std.proofs.Common.{refl, ◌≡◌, ap, sym, subst, ℕ, List, Bool, false, Option, Some, None}
 use Rattle.std.specs.Prelude.{if◌then◌else◌}
 use Rattle.pb_timers.specs.Timers.{Params}
-use Rattle.pb_turn.specs.Marks.{Mark}
-use Rattle.pb_turn.specs.Stations.{Station, speaks_at}
-use Rattle.pb_turn.specs.Turns.{phase_says, speech}
+use Rattle.law_turn.specs.Marks.{Mark}
+use Rattle.law_turn.specs.Stations.{Station, speaks_at}
+use Rattle.law_turn.specs.Turns.{phase_says, speech}
 use Rattle.pb_station.specs.Decisions.{turned}
 use Rattle.pb_station.specs.Halves.{at_clock, has_come, spoken}
 use Rattle.pb_station.specs.Stations.{StationView}

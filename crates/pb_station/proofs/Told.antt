@@ -4,7 +4,7 @@ use Rattle.std.specs.Prelude.{slice_set}
 use Rattle.std.proofs.Math.Seq.{set-append_seam}
 use Rattle.std.proofs.lemmas.List.{map-append}
 use Rattle.pb_telegram.specs.declared.chars.RxChar.{RxChar}
-use Rattle.pb_turn.specs.Marks as turn
+use Rattle.law_turn.specs.Marks as turn
 use Rattle.pb_station.specs.MarkViews.{mark_of, bringing}
 use Rattle.pb_station.specs.declared.marks.Mark.{Mark}
 

@@ -1,8 +1,8 @@
 -- What a decision is.
 use Rattle.std.specs.Prelude.{◌≡◌, ℕ, List, Option, map, option_map}
-pub use Rattle.pb_core.specs.Sending.{octets_of}
-use Rattle.pb_turn.specs.Marks as turn
-use Rattle.pb_turn.specs.Turns.{turn_of}
+pub use Rattle.pb_transitions.specs.Sending.{octets_of}
+use Rattle.law_turn.specs.Marks as turn
+use Rattle.law_turn.specs.Turns.{turn_of}
 use Rattle.pb_station.specs.MarkViews.{mark_of}
 use Rattle.pb_station.specs.Stations.{StationView}
 use Rattle.pb_station.specs.declared.decisions.Decided.TheInside as decided

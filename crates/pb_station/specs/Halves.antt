@@ -1,8 +1,8 @@
 -- The two halves of a station's turn.
 use Rattle.std.specs.Prelude.{ℕ, List, Option, None, Some, Bool, false, nat_le}
-use Rattle.pb_turn.specs.Marks as turn
-use Rattle.pb_turn.specs.Stations.{speaks_at}
-use Rattle.pb_turn.specs.Turns.{settled, speech}
+use Rattle.law_turn.specs.Marks as turn
+use Rattle.law_turn.specs.Stations.{speaks_at}
+use Rattle.law_turn.specs.Turns.{settled, speech}
 use Rattle.pb_station.specs.Stations.{StationView}
 
 -- a station that has read its marks, and its timers up to the clock

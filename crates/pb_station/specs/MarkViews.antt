@@ -1,8 +1,8 @@
 -- A mark as plain data.
 use Rattle.std.specs.Prelude.{ℕ, ◌≤◌, List, [], ◌∷◌, All}
 use Rattle.pb_telegram.specs.declared.chars.RxChar.{RxChar}
-use Rattle.pb_turn.specs.Marks as turn
-use Rattle.pb_turn.specs.Marks.{moment_of}
+use Rattle.law_turn.specs.Marks as turn
+use Rattle.law_turn.specs.Marks.{moment_of}
 use Rattle.pb_station.specs.declared.marks.Mark.{Mark}
 use Rattle.pb_station.specs.declared.marks.Mark.TheVariants as mark
 

@@ -3,7 +3,7 @@
 use Rattle.std.specs.Prelude.{◌≡◌, ◌≤◌, ℕ, List, [], ◌∷◌, length, map, take, drop}
 use Rattle.pb_telegram.specs.declared.chars.RxChar.{RxChar}
 use Rattle.pb_telegram.specs.declared.chars.RxChar.TheVariants.{Good, Bad}
-use Rattle.pb_turn.specs.Marks.{Mark, Begin, End}
+use Rattle.law_turn.specs.Marks.{Mark, Begin, End}
 use Rattle.pb_station.specs.declared.notes.Note.{Note}
 use Rattle.pb_station.specs.declared.notes.Note.TheVariants as note
 

@@ -1,8 +1,8 @@
 -- A station, as contracts see it.
 use Rattle.std.specs.Prelude.{ℕ, Bool, List}
 use Rattle.pb_timers.specs.Timers.{Params}
-use Rattle.pb_turn.specs.Stations as turn
-use Rattle.pb_core.specs.Cores.{station_of}
+use Rattle.law_turn.specs.Stations as turn
+use Rattle.pb_transitions.specs.Cores.{station_of}
 use Rattle.pb_station.specs.declared.stations.Station.TheInside.{Inside}
 
 pub record StationView : Type 0 where

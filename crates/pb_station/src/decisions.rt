@@ -2,15 +2,15 @@
 
 ghost use Rattle.std.specs.Prelude.{◌≡◌, ◌≤◌, IfOk, map, option_map};
 ghost use Rattle.pb_station.specs.Decisions.{IsDecision, octets_of};
-ghost use Rattle.pb_turn.specs.Stations as turn;
-ghost use Rattle.pb_core.specs.Clocks.{last_turn};
+ghost use Rattle.law_turn.specs.Stations as turn;
+ghost use Rattle.pb_transitions.specs.Clocks.{last_turn};
 ghost use Rattle.pb_station.specs.MarkViews.{mark_of, AreOver};
 
 use crate::marks::Mark;
 use crate::stations::Station;
 use arrayvec::ArrayVec;
-use pb_core::SendBuffer;
-use pb_refusals::NoMemory;
+use pb_transitions::SendBuffer;
+use pb_faults::NoMemory;
 use pb_telegram::copy_octets;
 use pb_timers::Moment;
 use std::alloc::Global;

@@ -4,8 +4,8 @@ ghost use Rattle.std.specs.Prelude.{◌≡◌, ◌+◌, ◌≤◌, ◌<◌, ◌+
 ghost use Rattle.std.specs.Vec.{vec_capacity};
 ghost use Rattle.pb_telegram.specs.declared.chars.RxChar.{RxChar};
 ghost use Rattle.pb_telegram.specs.declared.chars.RxChar.TheVariants.{Good};
-ghost use Rattle.pb_turn.specs.Marks.{End};
-ghost use Rattle.pb_turn.specs.Stations.{first_seen};
+ghost use Rattle.law_turn.specs.Marks.{End};
+ghost use Rattle.law_turn.specs.Stations.{first_seen};
 ghost use Rattle.pb_station.specs.MarkViews.{mark_of};
 ghost use Rattle.pb_station.specs.Notes.{AreOf, mark_with, marks_in};
 
@@ -35,7 +35,7 @@ pub struct Inbox {
 impl Model for Inbox {
     ghost use Rattle.std.specs.Prelude.{◌≤◌, List, length};
     ghost use Rattle.std.specs.Vec.{vec_capacity};
-    ghost use Rattle.pb_turn.specs.Marks as model;
+    ghost use Rattle.law_turn.specs.Marks as model;
     ghost use Rattle.pb_station.specs.Notes.{AreOf, marks_in};
 
     ghost Value = { List model.Mark };
@@ -58,8 +58,8 @@ pub(crate) struct Unread<'a> {
 impl Inbox {
     ghost use Rattle.std.specs.Prelude.{◌≡◌, ◌≤◌, ◌<◌, ◌++◌, [], ◌∷◌, IsTrue, ◌↔◌, IfOk, length, map};
     ghost use Rattle.pb_telegram.specs.declared.chars.RxChar.TheVariants.{Good, Bad};
-    ghost use Rattle.pb_turn.specs.Marks as model;
-    ghost use Rattle.pb_turn.specs.Stations.{first_seen};
+    ghost use Rattle.law_turn.specs.Marks as model;
+    ghost use Rattle.law_turn.specs.Stations.{first_seen};
     ghost use Rattle.pb_station.specs.MarkViews.{mark_of};
     ghost use Rattle.pb_station.specs.Notes.{AreOf, chars_of, octets_of, mark_with, marks_in};
 

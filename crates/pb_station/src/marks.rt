@@ -2,7 +2,7 @@
 
 ghost use Rattle.std.specs.Prelude.{◌≡◌, ◌≤◌, ◌+◌, ◌++◌, [], length, map};
 ghost use Rattle.pb_telegram.specs.declared.chars.RxChar.TheVariants.{Good};
-ghost use Rattle.pb_turn.specs.Marks.{End, moment_of, seen_at};
+ghost use Rattle.law_turn.specs.Marks.{End, moment_of, seen_at};
 ghost use Rattle.pb_station.specs.MarkViews.{mark_of, bringing, brought};
 
 use arrayvec::ArrayVec;

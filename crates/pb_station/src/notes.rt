@@ -2,7 +2,7 @@
 
 ghost use Rattle.std.specs.Prelude.{◌≡◌, ◌≤◌, [], ◌∷◌, IsTrue, ◌↔◌, length, map, take, drop};
 ghost use Rattle.pb_telegram.specs.declared.chars.RxChar.TheVariants.{Good, Bad};
-ghost use Rattle.pb_turn.specs.Marks.{End, moment_of, seen_at};
+ghost use Rattle.law_turn.specs.Marks.{End, moment_of, seen_at};
 ghost use Rattle.pb_station.specs.MarkViews.{mark_of};
 ghost use Rattle.pb_station.specs.Notes.{chars_of, octets_of, mark_with};
 

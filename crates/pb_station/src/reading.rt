@@ -2,24 +2,21 @@
 
 ghost use Rattle.std.specs.Prelude.{◌≡◌, ◌≤◌, ℕ, [], ◌∷◌, length, map, take, drop};
 ghost use Rattle.pb_timers.specs.Timers.{Params};
-ghost use Rattle.pb_turn.specs.Arrivals.{Token, arrival_of};
-ghost use Rattle.pb_turn.specs.Hearing.{after_mark, ended};
-ghost use Rattle.pb_turn.specs.Marks.{moment_of, Begin, End};
-ghost use Rattle.pb_turn.specs.Phases.{is_offline};
-ghost use Rattle.pb_turn.specs.Turns.{after_marks};
+ghost use Rattle.law_turn.specs.Arrivals.{Token, arrival_of};
+ghost use Rattle.law_turn.specs.Hearing.{after_mark, ended};
+ghost use Rattle.law_turn.specs.Marks.{moment_of, Begin, End};
+ghost use Rattle.law_turn.specs.Phases.{is_offline};
+ghost use Rattle.law_turn.specs.Turns.{after_marks};
 ghost use Rattle.pb_tokenfsm.specs.Phases.{phase_of};
-ghost use Rattle.pb_core.specs.Clocks.{last_turn};
-ghost use Rattle.pb_core.specs.Cores.{Becomes};
+ghost use Rattle.pb_transitions.specs.Clocks.{last_turn};
+ghost use Rattle.pb_transitions.specs.Cores.{Becomes};
 ghost use Rattle.pb_station.specs.MarkViews.{mark_of, AreOver, AllOver};
 ghost use Rattle.pb_station.specs.Notes.{chars_of, octets_of, mark_with, marks_in, AreOf};
 ghost use Rattle.pb_telegram.specs.declared.chars.RxChar.TheVariants.{Good, Bad};
 
 use crate::marks::Mark;
 use crate::notes::Note;
-use pb_core::{Kept, is_for_others, spelled_telegram, spelled_token, token_in, whole_telegram};
-use pb_phases::{
-    after_timer, begun, ended, ended_with_noise, ended_with_token, fall_quiet, only_answers,
-};
+use pb_transitions::{Kept, after_timer, begun, ended, ended_with_noise, ended_with_token, fall_quiet, is_for_others, only_answers, spelled_telegram, spelled_token, token_in, whole_telegram};
 use pb_telegram::RxChar;
 use pb_timers::{BusParams, Moment};
 use pb_tokenfsm::Phase;

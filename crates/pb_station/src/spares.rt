@@ -3,7 +3,7 @@
 ghost use Rattle.std.specs.Prelude.{◌≡◌, IfOk};
 
 use crate::stations::{Parts, Station};
-use pb_refusals::NoMemory;
+use pb_faults::NoMemory;
 use std::alloc::Global;
 
 /// The most boxes that are kept.

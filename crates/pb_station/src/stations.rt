@@ -1,19 +1,19 @@
 //! A station at a tap: its state, and what is done to it.
 
 ghost use Rattle.std.specs.Prelude.{◌≡◌, ◌≤◌, [], length};
-ghost use Rattle.pb_turn.specs.Stations as turn;
-ghost use Rattle.pb_core.specs.Clocks.{last_turn};
-ghost use Rattle.pb_core.specs.Cores.{station_with, station_of};
-ghost use Rattle.pb_turn.specs.Phases as phases;
+ghost use Rattle.law_turn.specs.Stations as turn;
+ghost use Rattle.pb_transitions.specs.Clocks.{last_turn};
+ghost use Rattle.pb_transitions.specs.Cores.{station_with, station_of};
+ghost use Rattle.law_turn.specs.Phases as phases;
 ghost use Rattle.pb_tokenfsm.specs.Phases.{phase_of};
 
 use crate::inboxes::Inbox;
 use crate::marks::Mark;
 use crate::turns::{due_of, due_on, is_overdue, read_on, speak_on, take_turn, would_speak};
 use arrayvec::ArrayVec;
-use pb_core::{Address, Core, Cycles, Kept, Past, SendBuffer, Waiting, beginning, copy_outcome};
+use pb_transitions::{Address, Core, Cycles, Kept, Past, SendBuffer, Waiting, beginning, copy_outcome};
 use pb_cycles::{Outcome, Queue, Request};
-use pb_refusals::NoMemory;
+use pb_faults::NoMemory;
 use pb_ring::{Gap, Las};
 use pb_rotation::Rotation;
 use pb_telegram::{copy_octets, put_octets};
@@ -42,7 +42,7 @@ pub(crate) struct Parts {
 }
 
 impl Model for Station {
-    ghost use Rattle.pb_core.specs.Cores.{station_of, HasReceived};
+    ghost use Rattle.pb_transitions.specs.Cores.{station_of, HasReceived};
     ghost use Rattle.pb_station.specs.Stations.{StationView, station_view};
 
     ghost Value = { StationView };
@@ -68,9 +68,9 @@ impl Parts {
 impl Station {
     ghost use Rattle.std.specs.Prelude.{◌≡◌, ◌+◌, ◌≤◌, ◌<◌, List, nat_le, length, Some, None, map, is_some, IsTrue, ◌↔◌, IfOk, OnOk, OnErr, MatchResult};
     ghost use Rattle.pb_timers.specs.Timers.{Params};
-    ghost use Rattle.pb_turn.specs.Stations as turn;
+    ghost use Rattle.law_turn.specs.Stations as turn;
     ghost use Rattle.pb_tokenfsm.specs.Phases.{phase_of};
-    ghost use Rattle.pb_core.specs.Clocks.{last_turn, is_past};
+    ghost use Rattle.pb_transitions.specs.Clocks.{last_turn, is_past};
     ghost use Rattle.pb_station.specs.Decisions.{turned};
     ghost use Rattle.pb_station.specs.Halves.{at_clock, has_come, spoken};
     ghost use Rattle.pb_station.specs.MarkViews.{mark_of, AllOver, AreOver};

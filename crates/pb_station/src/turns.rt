@@ -1,19 +1,18 @@
 //! The turn of a station, and when it is due.
 
 ghost use Rattle.std.specs.Prelude.{◌≡◌, ◌+◌, ◌≤◌, map, is_some};
-ghost use Rattle.pb_turn.specs.Stations.{earlier, first_seen, due_of, timer_of, speaks_at};
-ghost use Rattle.pb_turn.specs.Turns.{settled, speech, turn_of};
+ghost use Rattle.law_turn.specs.Stations.{earlier, first_seen, due_of, timer_of, speaks_at};
+ghost use Rattle.law_turn.specs.Turns.{settled, speech, turn_of};
 ghost use Rattle.pb_tokenfsm.specs.Phases.{phase_of};
-ghost use Rattle.pb_core.specs.Clocks.{last_turn, is_past};
-ghost use Rattle.pb_core.specs.Cores.{station_of, Becomes, HasReceived};
+ghost use Rattle.pb_transitions.specs.Clocks.{last_turn, is_past};
+ghost use Rattle.pb_transitions.specs.Cores.{station_of, Becomes, HasReceived};
 ghost use Rattle.pb_station.specs.Halves.{has_come};
 ghost use Rattle.pb_station.specs.MarkViews.{mark_of, AllOver, AreOver};
 
 use crate::inboxes::{Inbox, Unread};
 use crate::marks::Mark;
 use crate::reading::{after_marks, after_notes};
-use pb_core::{Core, Kept, SendBuffer, after, earlier, is_past};
-use pb_phases::{after_timer, speak, speaks_at, timer, would_say};
+use pb_transitions::{Core, Kept, SendBuffer, after, after_timer, earlier, is_past, speak, speaks_at, timer, would_say};
 use pb_timers::{BusParams, Moment};
 use pb_tokenfsm::Phase;
 

@@ -3,9 +3,9 @@ use Rattle.std.proofs.Common.{◌≡◌, ◌∙◌, ap, sym, subst, ℕ, ◌+◌
 use Rattle.std.specs.Prelude.{slice_get, slice_set, slice_index_or}
 use Rattle.std.proofs.lemmas.Option.{none-some, same_Some}
 use Rattle.pb_timers.specs.Timers.{Params}
-use Rattle.pb_turn.specs.Marks as turn
-use Rattle.pb_turn.specs.Marks.{moment_of}
-use Rattle.pb_model.specs.Laws.{AllInOrder, InOrder}
+use Rattle.law_turn.specs.Marks as turn
+use Rattle.law_turn.specs.Marks.{moment_of}
+use Rattle.law_model.specs.Laws.{AllInOrder, InOrder}
 use Rattle.pb_station.specs.MarkViews.{mark_of, AllOver}
 use Rattle.pb_station.specs.declared.marks.Mark.{Mark}
 use Rattle.pb_taps.specs.Taps.{Seat, tap_of, seat_of, AreSeated}

@@ -2,10 +2,10 @@
 use Rattle.std.proofs.Common.{◌≡◌, ◌∙◌, ap, arith, ℕ, zero, suc, ◌+◌, ◌<◌, ◌≤◌, List, [], ◌∷◌, length, map, Bool, true, false, if◌then◌else◌, Some}
 use Rattle.std.specs.Prelude.{slice_index_or}
 use Rattle.pb_timers.specs.Timers.{Params}
-use Rattle.pb_turn.specs.Laws.{Fits}
-use Rattle.pb_model.specs.Laws.{AllFit}
-use Rattle.pb_model.specs.Medium.{TapSpec}
-use Rattle.pb_model.specs.World.{has_bad_address, first_bad_address}
+use Rattle.law_turn.specs.Laws.{Fits}
+use Rattle.law_model.specs.Laws.{AllFit}
+use Rattle.law_model.specs.Medium.{TapSpec}
+use Rattle.law_model.specs.World.{has_bad_address, first_bad_address}
 use Rattle.pb_taps.specs.Taps.{spec_of}
 use Rattle.pb_taps.specs.declared.taps.TapSpec as declared
 

@@ -1,10 +1,10 @@
 -- A turn leaves a station at its seat, and the tap as it was but for its station's state and its marks.
 use Rattle.std.proofs.Common.{◌≡◌, ap, ℕ, refl, []}
-use Rattle.pb_turn.specs.Turns.{turn_of}
+use Rattle.law_turn.specs.Turns.{turn_of}
 use Rattle.pb_taps.specs.Taps.{tap_of, seat_of}
 use Rattle.pb_taps.specs.Turning.{turned_tap}
 use Rattle.pb_taps.specs.declared.taps.Tap.{Tap}
-use Rattle.pb_turn.proofs.Addresses.{turn-address}
+use Rattle.law_turn.proofs.Addresses.{turn-address}
 
 pub turned-seat : (t : Tap) (now : ℕ) → seat_of (turned_tap t now) ≡ seat_of t
 turned-seat t now = refl

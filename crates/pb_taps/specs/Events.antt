@@ -1,6 +1,6 @@
 -- Events and replies as the model's plain data.
 use Rattle.std.specs.Option.{option_map}
-use Rattle.pb_model.specs.World as model
+use Rattle.law_model.specs.World as model
 use Rattle.pb_taps.specs.declared.events.Event.{Event}
 use Rattle.pb_taps.specs.declared.events.Event.TheVariants as event
 use Rattle.pb_taps.specs.declared.events.Reply.{Reply}

@@ -1,7 +1,7 @@
 -- The faults of a world, as numbers and as those of the model.
 use Rattle.std.specs.Prelude.{◌≡◌, ℕ, Bool, true, false, Result, Ok, Err, is_some, not}
-use Rattle.pb_model.specs.World as model
-use Rattle.pb_model.specs.Step.{is_noisy}
+use Rattle.law_model.specs.World as model
+use Rattle.law_model.specs.Step.{is_noisy}
 use Rattle.pb_taps.specs.declared.faults.NewFault.{NewFault}
 use Rattle.pb_taps.specs.declared.faults.NewFault.TheVariants as new
 use Rattle.pb_taps.specs.declared.faults.WorldFault.{WorldFault}

@@ -1,6 +1,6 @@
 -- The taps of a new world.
 use Rattle.std.specs.Prelude.{◌≡◌, ◌≤◌, List, All, length}
-use Rattle.pb_model.specs.World.{tap_limit}
+use Rattle.law_model.specs.World.{tap_limit}
 use Rattle.pb_taps.specs.declared.faults.NewFault.{NewFault}
 use Rattle.pb_taps.specs.declared.faults.NewFault.TheVariants as new
 use Rattle.pb_taps.specs.declared.taps.TapSpec.{TapSpec}

@@ -1,8 +1,8 @@
 -- A request that is appended at a tap.
 use Rattle.std.specs.Prelude.{◌≡◌, ℕ, Bool, true, false, ◌&&◌, nat_le, length, List, Some, None, slice_get, slice_set}
-use Rattle.pb_messages.specs.RequestFields.{RequestFields}
-use Rattle.pb_turn.specs.Stations.{pushed, list_for}
-use Rattle.pb_model.specs.World.{queue_limit}
+use Rattle.pb_cycles.specs.RequestFields.{RequestFields}
+use Rattle.law_turn.specs.Stations.{pushed, list_for}
+use Rattle.law_model.specs.World.{queue_limit}
 use Rattle.pb_taps.specs.declared.faults.WorldFault.{WorldFault}
 use Rattle.pb_taps.specs.declared.faults.WorldFault.TheVariants as fault
 use Rattle.pb_taps.specs.declared.taps.Tap.{Tap}

@@ -1,6 +1,6 @@
 -- A tap as the model's plain data.
 use Rattle.std.specs.Prelude.{◌≡◌, ℕ, ◌+◌, Bool, true, false, List, [], ◌∷◌}
-use Rattle.pb_model.specs.Medium as model
+use Rattle.law_model.specs.Medium as model
 use Rattle.pb_taps.specs.declared.taps.Kind.{Kind}
 use Rattle.pb_taps.specs.declared.taps.Kind.TheVariants.{Master, Passive}
 use Rattle.pb_taps.specs.declared.taps.TapSpec.{TapSpec}

@@ -1,6 +1,6 @@
 -- The turn of a tap.
 use Rattle.std.specs.Prelude.{◌≡◌, ℕ, true, false, List, [], slice_get, slice_set, Option, Some, None}
-use Rattle.pb_turn.specs.Turns.{turn_of}
+use Rattle.law_turn.specs.Turns.{turn_of}
 use Rattle.pb_taps.specs.declared.faults.WorldFault.{WorldFault}
 use Rattle.pb_taps.specs.declared.faults.WorldFault.TheVariants as fault
 use Rattle.pb_taps.specs.declared.taps.Tap.{Tap}

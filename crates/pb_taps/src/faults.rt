@@ -5,7 +5,7 @@ ghost use Rattle.pb_taps.specs.Faults.{number_of, number_of_new};
 ghost use Rattle.pb_taps.specs.declared.faults.NewFault.TheVariants as new;
 ghost use Rattle.pb_taps.specs.declared.faults.WorldFault.TheVariants as world;
 
-use pb_refusals::NoMemory;
+use pb_faults::NoMemory;
 use std::alloc::{AllocError, AllocFailed};
 use thiserror::Error;
 

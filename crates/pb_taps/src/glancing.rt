@@ -6,7 +6,7 @@ ghost use Rattle.pb_taps.specs.Glancing.{Shows, FitsTap};
 ghost use Rattle.pb_taps.specs.declared.taps.Tap as declared;
 
 use crate::taps::Tap;
-use pb_refusals::NoMemory;
+use pb_faults::NoMemory;
 use pb_station::{Decided, Decision, Glance, Mark, Spares, Station};
 use pb_timers::Moment;
 use std::alloc::Global;

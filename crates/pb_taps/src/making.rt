@@ -2,15 +2,15 @@
 
 ghost use Rattle.std.specs.Prelude.{◌≡◌, ◌≤◌, ◌<◌, ◌+◌, false, None, Some, IfOk, IfErr, OnOk, MatchResult, All, map};
 ghost use Rattle.std.specs.Option.{option_map};
-ghost use Rattle.pb_refusals.specs.FirstFault.{first_fault};
+ghost use Rattle.pb_faults.specs.FirstFault.{first_fault};
 ghost use Rattle.pb_timers.specs.Timers.{Params};
-ghost use Rattle.pb_model.specs.Laws.{AllFit};
-ghost use Rattle.pb_model.specs.World as world;
-ghost use Rattle.pb_model.specs.World.{new_faults, stopped_tap};
+ghost use Rattle.law_model.specs.Laws.{AllFit};
+ghost use Rattle.law_model.specs.World as world;
+ghost use Rattle.law_model.specs.World.{new_faults, stopped_tap};
 ghost use Rattle.pb_timers.specs.ParamRules.{IsValid};
 ghost use Rattle.pb_taps.specs.Faults.{new_fault};
-ghost use Rattle.pb_turn.specs.Laws.{Fits};
-ghost use Rattle.pb_turn.specs.Stations as turn;
+ghost use Rattle.law_turn.specs.Laws.{Fits};
+ghost use Rattle.law_turn.specs.Stations as turn;
 ghost use Rattle.pb_taps.specs.Making.{AreStations, IsNoMemory};
 ghost use Rattle.pb_taps.specs.Taps.{is_master, spec_of, seat_of, tap_of, AreSeated};
 

@@ -1,7 +1,7 @@
 //! Appends a request to those that wait at a tap's station.
 
 ghost use Rattle.std.specs.Prelude.{◌≡◌, IfErr, OnErr, OnOk};
-ghost use Rattle.pb_turn.specs.Laws.{IsRequest};
+ghost use Rattle.law_turn.specs.Laws.{IsRequest};
 ghost use Rattle.pb_taps.specs.Queueing.{has_no_room, takes_requests, CanQueue, IsQueued, RefusesQueue};
 
 use crate::faults::WorldFault;

@@ -1,7 +1,7 @@
 //! What a tap is, and its state.
 
 ghost use Rattle.std.specs.Prelude.{◌≡◌, ℕ, List};
-ghost use Rattle.pb_model.specs.Medium.{hears_from};
+ghost use Rattle.law_model.specs.Medium.{hears_from};
 ghost use Rattle.pb_taps.specs.Taps.{is_master, tap_of};
 
 use arrayvec::ArrayVec;

@@ -1,8 +1,8 @@
 //! Turns of the stations at the taps.
 
 ghost use Rattle.std.specs.Prelude.{◌≡◌, ◌≤◌, ◌<◌, [], is_some, option_map, OnOk, IfErr, Some, slice_get, length, map};
-ghost use Rattle.pb_model.specs.Laws.{AllInOrder, InOrder};
-ghost use Rattle.pb_model.specs.World.{clock_limit};
+ghost use Rattle.law_model.specs.Laws.{AllInOrder, InOrder};
+ghost use Rattle.law_model.specs.World.{clock_limit};
 ghost use Rattle.pb_taps.specs.Glancing.{FitsTap};
 ghost use Rattle.pb_taps.specs.Taps.{tap_of};
 ghost use Rattle.pb_taps.specs.Turning.{says, turned_tap, Runs, TakesTurn, RefusesStopped};

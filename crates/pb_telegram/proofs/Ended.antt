@@ -4,7 +4,7 @@ use Rattle.std.specs.Prelude.{sum, slice_index, slice_range, ◌==◌, ◌||◌,
 use Rattle.std.proofs.lemmas.Bool.Decides.{nat_tests}
 use Rattle.std.proofs.lemmas.Grind.{elements, common_steps}
 use Rattle.std.proofs.lemmas.List.Sums.{sum_by-append}
-use Rattle.pb_refusals.specs.FirstFault.{first_fault}
+use Rattle.pb_faults.specs.FirstFault.{first_fault}
 use Rattle.pb_telegram.specs.Grammar.{sd1, sd2, sd3, sd4, sc, ed, fcs_of, spelling, Spells}
 use Rattle.pb_telegram.specs.Faults.{octets, place_of_bad, octet_faults, fault_of}
 use Rattle.pb_telegram.specs.Receiving.{Received, Keeps, StandsFor, da_from, check_at, is_length, var_octet, framed_faults, plain_faults, var_faults, token_faults, form_faults, HasParts, Finds}

@@ -4,7 +4,7 @@ use Rattle.std.specs.Prelude.{slice_index, slice_range}
 use Rattle.std.specs.List.{position_from}
 use Rattle.std.proofs.lemmas.Bool.Decides.{nat_tests}
 use Rattle.std.proofs.lemmas.Grind.{common_steps}
-use Rattle.pb_refusals.specs.FirstFault.{first_fault}
+use Rattle.pb_faults.specs.FirstFault.{first_fault}
 use Rattle.pb_telegram.specs.Grammar.{sd2, sd3, ed, fcs_of, length_of, spelling}
 use Rattle.pb_telegram.specs.Faults.{octets, is_bad, place_of_bad, octet_faults, end_faults, fault_of}
 use Rattle.pb_telegram.specs.declared.chars.RxChar.{RxChar}

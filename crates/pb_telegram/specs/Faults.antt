@@ -1,7 +1,7 @@
 -- Why characters spell no telegram: each fault with the test of its condition on the whole input, in order.
 use Rattle.std.specs.Prelude.{ℕ, ◌+◌, ◌-◌, ◌%◌, Bool, true, false, ◌==◌, nat_lt, nat_le, not, ◌||◌, ◌&&◌, if◌then◌else◌, List, [], ◌∷◌, length, map, slice_index, slice_range, Option, is_some, unwrap_or}
 use Rattle.std.specs.List.{position_from}
-use Rattle.pb_refusals.specs.FirstFault.{first_fault}
+use Rattle.pb_faults.specs.FirstFault.{first_fault}
 use Rattle.pb_telegram.specs.Grammar.{sd1, sd2, sd3, sd4, sc, ed, fcs_of}
 use Rattle.pb_telegram.specs.declared.chars.RxChar.{RxChar}
 use Rattle.pb_telegram.specs.declared.chars.RxChar.TheVariants.{Good, Bad}

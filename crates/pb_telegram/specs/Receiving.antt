@@ -1,6 +1,6 @@
 -- What a receiver keeps of the characters that it was fed, and how one more changes it.
 use Rattle.std.specs.Prelude.{◌≡◌, ℕ, ◌+◌, ◌-◌, ◌%◌, Bool, true, ◌==◌, nat_lt, nat_le, not, ◌||◌, ◌&&◌, if◌then◌else◌, List, [], ◌∷◌, ◌++◌, length, slice_index, slice_range, sum, Option, Some, None, Result, Ok, Err}
-use Rattle.pb_refusals.specs.FirstFault.{first_fault}
+use Rattle.pb_faults.specs.FirstFault.{first_fault}
 use Rattle.pb_telegram.specs.Grammar.{sd1, sd2, sd3, sd4, sc, ed}
 use Rattle.pb_telegram.specs.Faults.{octets, place_of_bad}
 use Rattle.pb_telegram.specs.declared.chars.RxChar.{RxChar}

@@ -1,7 +1,7 @@
 //! Laws of spellings and faults: each telegram has one spelling, and the fault of characters is the first of the table.
 
 ghost use Rattle.std.specs.Prelude.{◌≡◌, ℕ, List, [], ◌++◌, Some, None};
-ghost use Rattle.pb_refusals.specs.FirstFault.{IsFirst};
+ghost use Rattle.pb_faults.specs.FirstFault.{IsFirst};
 ghost use Rattle.pb_telegram.specs.Grammar.{spelling, Spells};
 ghost use Rattle.pb_telegram.specs.Faults.{octets, unit_of, faults, fault_of};
 ghost use Rattle.pb_telegram.specs.declared.chars.RxChar.{RxChar};
@@ -12,7 +12,7 @@ ghost use Rattle.pb_telegram.specs.declared.telegrams.Fixed8Telegram.{Fixed8Tele
 ghost use Rattle.pb_telegram.specs.declared.faults.TelegramFault.{TelegramFault};
 
 use crate::faults::TelegramFault;
-use pb_refusals::first_fault_is_first;
+use pb_faults::first_fault_is_first;
 
 /// Characters spell at most one telegram, and a telegram has one spelling.
 pub fn one_telegram_for_octets()

@@ -1,7 +1,7 @@
 //! A receiver: takes characters one at a time, and gives the telegram or the first fault.
 
 ghost use Rattle.std.specs.Prelude.{◌≡◌, ◌+◌, ◌-◌, ◌%◌, ◌^◌, ◌<◌, ◌≤◌, ◌⊎◌, List, [], ◌∷◌, ◌++◌, IsTrue, ◌↔◌, Ok, Some, None, IfOk, IfErr, OnOk, length};
-ghost use Rattle.pb_refusals.specs.FirstFault.{first_fault};
+ghost use Rattle.pb_faults.specs.FirstFault.{first_fault};
 ghost use Rattle.pb_telegram.specs.Grammar.{sd1, sd2, sd3, sd4, Spells};
 ghost use Rattle.pb_telegram.specs.Faults.{fault_of};
 ghost use Rattle.pb_telegram.specs.Receiving.{nothing_received, taken, with_length, with_head, with_unit, with_end, da_from, check_at, received_more, StandsFor, plain_faults, var_faults, token_faults, form_faults, faults_from_addresses, Finds};

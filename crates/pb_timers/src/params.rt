@@ -1,7 +1,7 @@
 //! The bus parameters that all stations of a segment share, and the ten rules that they meet.
 
 ghost use Rattle.std.specs.Prelude.{◌≡◌, Some, None, IsTrue, ◌↔◌, IfOk, IfErr, OnOk};
-ghost use Rattle.pb_refusals.specs.FirstFault.{first_fault};
+ghost use Rattle.pb_faults.specs.FirstFault.{first_fault};
 ghost use Rattle.pb_timers.specs.Timers.{tto};
 ghost use Rattle.pb_timers.specs.ParamRules.{is_outside, late_faults};
 

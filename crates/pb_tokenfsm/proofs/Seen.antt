@@ -1,6 +1,6 @@
 -- A state is what is seen of it.
 use Rattle.std.proofs.Common.{◌≡◌, ◌∙◌, ap, sym, refl}
-use Rattle.pb_turn.specs.Phases as turn
+use Rattle.law_turn.specs.Phases as turn
 use Rattle.pb_tokenfsm.specs.Phases.{phase_of}
 use Rattle.pb_tokenfsm.specs.declared.phases.Phase.{Phase}
 use Rattle.pb_tokenfsm.specs.declared.phases.Phase.TheVariants as phase

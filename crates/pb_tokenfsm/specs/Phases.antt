@@ -1,7 +1,7 @@
 -- The phase of a turn that a state is, and what follows it.
 use Rattle.std.specs.Prelude.{ℕ, ◌+◌, ◌==◌, nat_le, min, Bool, false, if◌then◌else◌, Option, Some, List, codes}
-use Rattle.pb_turn.specs.Phases as turn
-use Rattle.pb_turn.specs.Hearing.{tries_limit, is_taken_from}
+use Rattle.law_turn.specs.Phases as turn
+use Rattle.law_turn.specs.Hearing.{tries_limit, is_taken_from}
 use Rattle.pb_tokenfsm.specs.declared.phases.Phase.{Phase}
 use Rattle.pb_tokenfsm.specs.declared.phases.Phase.TheVariants as phase
 use Rattle.pb_tokenfsm.specs.declared.waiting.Listening.{Listening}

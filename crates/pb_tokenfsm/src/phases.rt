@@ -1,8 +1,8 @@
 //! The states of a station as one enum.
 
 ghost use Rattle.std.specs.Prelude.{◌≡◌};
-ghost use Rattle.pb_turn.specs.Phases as turn;
-ghost use Rattle.pb_turn.specs.Phases.{may_initiate};
+ghost use Rattle.law_turn.specs.Phases as turn;
+ghost use Rattle.law_turn.specs.Phases.{may_initiate};
 ghost use Rattle.pb_tokenfsm.specs.Phases.{phase_of, name_of};
 
 use crate::states::{AwaitData, AwaitStatus, Checking, Claim, Holding, Pass, Use};

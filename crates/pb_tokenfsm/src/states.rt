@@ -3,7 +3,7 @@
 ghost use Rattle.std.specs.Prelude.{◌≡◌, ℕ, Bool, true, false, ◌&&◌, nat_lt, Some, None};
 ghost use Rattle.pb_telegram.specs.Grammar.{spelling};
 ghost use Rattle.pb_telegram.specs.Initiators.{IsInitiator};
-ghost use Rattle.pb_turn.specs.Phases as turn;
+ghost use Rattle.law_turn.specs.Phases as turn;
 ghost use Rattle.pb_tokenfsm.specs.Phases.{phase_of, claims_sent, has_asked, was_asked, retry_at, has_data_slot, asked_station, has_slot, tries_of, claim_sent, token_sent, not_taken};
 
 use crate::phases::Phase;

@@ -1,7 +1,7 @@
 //! The states of a station without the token.
 
 ghost use Rattle.std.specs.Prelude.{◌≡◌, true, false, Some, None};
-ghost use Rattle.pb_turn.specs.Phases as turn;
+ghost use Rattle.law_turn.specs.Phases as turn;
 ghost use Rattle.pb_tokenfsm.specs.Phases.{phase_of, refused_by, is_doubled, token_heard};
 
 use crate::phases::Phase;

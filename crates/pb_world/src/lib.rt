@@ -1,18 +1,45 @@
-//! Stations on one medium: the world, its events, the trace of the bus, and its audit.
-//!
-//! [`World::new`] takes the bus parameters and the taps. [`World::apply`] applies an event (a station's turn, a pass of
-//! time, damage, noise, a lost telegram, a start, a stop, a request) and returns its result. The trace, the clock, and
-//! each station with the moment of its next turn are read from it. [`audit`] judges a whole run. All times are in bit
-//! times.
+//! One bus with its stations: [`World`], its events and its trace; the audit of a run, or of a trace from anywhere.
 #![tactic(auto)]
 
+mod activity;
+mod addresses;
+mod auditing;
+mod buses;
+mod causes;
+mod changes;
+mod clocks;
+mod ends;
+mod findings;
+mod initiators;
+mod last;
+mod legality;
+mod longest;
+mod making;
+mod passes;
+mod premises;
+mod reasons;
+mod refusing;
+mod rooms;
+mod rules;
+mod starting;
+mod stopping;
+mod stretches;
+mod traces;
+mod watched;
 mod worlds;
 
-pub use pb_audit::{
-    Audit, AuditFault, Cause, Illegal, LongestStretches, Reasons, Rule, Stretch, TraceFault, audit,
-    audit_shared, audit_with_reasons, first_illegal, liveness, longest_without, named,
-};
+pub use auditing::{audit, audit_shared};
+pub use buses::Bus;
+pub use causes::{Cause, Inquiry};
+pub use findings::{Audit, AuditFault};
+pub use longest::{LongestStretches, liveness};
+pub use making::new_bus;
 pub use pb_medium::{Entry, Heard, HeardByTap, Reception, Record, RecordFault};
 pub use pb_station::Station;
 pub use pb_taps::{Event, Kind, NewFault, Reply, TapSpec, WorldFault};
+pub use reasons::{Reasons, audit_with_reasons};
+pub use rules::{Illegal, Rule};
+pub use stretches::{Stretch, longest_without};
+pub use traces::{TraceFault, first_illegal, named};
+pub use watched::{Watched, new_watched};
 pub use worlds::{World, run, run_shared};

@@ -2,14 +2,15 @@
 
 ghost use Rattle.std.specs.Prelude.{◌≡◌, ◌≤◌, OnOk, IfErr, Some, length, map, take};
 ghost use Rattle.pb_taps.specs.Events.{event_of, reply_of};
-ghost use Rattle.pb_bus.specs.Worlds.{lent_event, StopsAt};
-ghost use Rattle.pb_model.specs.Step.{RunsTo};
-ghost use Rattle.pb_model.specs.Laws.{IsEvent};
-ghost use Rattle.pb_live.specs.Promises.{LeadOn};
+ghost use Rattle.pb_world.specs.Worlds.{lent_event, StopsAt};
+ghost use Rattle.law_model.specs.Step.{RunsTo};
+ghost use Rattle.law_model.specs.Laws.{IsEvent};
+ghost use Rattle.law_live.specs.Promises.{LeadOn};
 
-use pb_bus::{Bus, new_bus};
+use crate::buses::Bus;
+use crate::making::new_bus;
 use pb_medium::Entry;
-use pb_refusals::NoMemory;
+use pb_faults::NoMemory;
 use pb_station::{Decided, Decision, Glance, Station};
 use pb_taps::{Event, NewFault, Reply, TapSpec, WorldFault};
 use pb_telegram::copy_octets;
@@ -27,8 +28,8 @@ pub struct World {
 }
 
 impl Model for World {
-    ghost use Rattle.pb_model.specs.World as model;
-    ghost use Rattle.pb_bus.specs.Buses.{world_of, IsKept};
+    ghost use Rattle.law_model.specs.World as model;
+    ghost use Rattle.pb_world.specs.Buses.{world_of, IsKept};
 
     ghost Value = { model.World };
 
@@ -39,18 +40,18 @@ impl Model for World {
 
 impl World {
     ghost use Rattle.std.specs.Prelude.{◌≡◌, ◌<◌, [], ◌∷◌, Ok, None, IsTrue, ◌↔◌, IfOk, IfErr, OnOk, MatchOption, length, map, slice_get};
-    ghost use Rattle.pb_model.specs.Laws.{IsEvent};
-    ghost use Rattle.pb_model.specs.Step.{step};
-    ghost use Rattle.pb_model.specs.World.{new_world, Turn};
+    ghost use Rattle.law_model.specs.Laws.{IsEvent};
+    ghost use Rattle.law_model.specs.Step.{step};
+    ghost use Rattle.law_model.specs.World.{new_world, Turn};
     ghost use Rattle.pb_medium.specs.Entries.{entry_of};
     ghost use Rattle.pb_taps.specs.Events.{event_of};
-    ghost use Rattle.pb_bus.specs.Refusals.{fault_of, TellsSpeech};
+    ghost use Rattle.pb_world.specs.Refusals.{fault_of, TellsSpeech};
     ghost use Rattle.pb_taps.specs.Faults.{RefusesNew};
     ghost use Rattle.pb_taps.specs.Taps.{spec_of};
-    ghost use Rattle.pb_bus.specs.Worlds.{due_at, Follows, Goes, IsStationAt};
-    ghost use Rattle.pb_bus.specs.Glances.{CanBeDecided, Fits, IsGlance};
-    ghost use Rattle.pb_runs.specs.Bus.{next_change};
-    ghost use Rattle.pb_live.specs.Promises.{KeepsPromises, LeadOn, LeadTo};
+    ghost use Rattle.pb_world.specs.Worlds.{due_at, Follows, Goes, IsStationAt};
+    ghost use Rattle.pb_world.specs.Glances.{CanBeDecided, Fits, IsGlance};
+    ghost use Rattle.law_runs.specs.Bus.{next_change};
+    ghost use Rattle.law_live.specs.Promises.{KeepsPromises, LeadOn, LeadTo};
 
     /// A world at clock 0. No tap runs yet.
     ///

@@ -4,7 +4,7 @@ use Rattle.pb_telegram.specs.declared.faults.TelegramFault.{TelegramFault}
 use Rattle.pb_telegram.specs.FaultWords as telegram
 use Rattle.pb_timers.specs.declared.params.ParamFault.{ParamFault}
 use Rattle.pb_timers.specs.ParamWords as params
-use Rattle.pb_turn.specs.Phases.{Phase, Offline, PassiveIdle, Listening, Idle, Claim, Use, AwaitData, AwaitStatus, Pass, Checking}
+use Rattle.law_turn.specs.Phases.{Phase, Offline, PassiveIdle, Listening, Idle, Claim, Use, AwaitData, AwaitStatus, Pass, Checking}
 use Rattle.pb_port.specs.declared.faults.PortFault.{PortFault}
 use Rattle.pb_port.specs.declared.faults.PortFault.TheVariants.{TooLate, Backwards, Ahead, TooLong, InboxFull, QueueFull}
 

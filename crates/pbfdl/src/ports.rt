@@ -1,9 +1,9 @@
 //! A station at a line: its life, its marks and its turns.
 
 ghost use Rattle.std.specs.Prelude.{◌≡◌, ◌≢◌, ◌<◌, ◌≤◌, ◌∷◌, [], Some, None, MatchOption, MatchResult, IfSome, IfOk, IfErr, ◌⊎◌, unwrap_or, length, map, take, false};
-ghost use Rattle.pb_refusals.specs.FirstFault.{first_fault};
+ghost use Rattle.pb_faults.specs.FirstFault.{first_fault};
 ghost use Rattle.pb_telegram.specs.declared.chars.RxChar.TheVariants.{Good, Bad};
-ghost use Rattle.pb_turn.specs.Marks as model;
+ghost use Rattle.law_turn.specs.Marks as model;
 ghost use Rattle.pb_port.specs.Ports.{new_port, started_port, stopped_port, pushed_port, told_port, turned_port, said_by, due_port, clock_faults, mark_faults, push_faults};
 ghost use Rattle.pbfdl.specs.Calls.{params_of, is_bad_station, character_of, service_of, new_codes, request_codes, request_fields, Answers, FindsNone};
 

@@ -1,7 +1,7 @@
 //! Tests of one station, with turns as lines of text.
 
 ghost use Rattle.std.specs.Prelude.{◌≡◌, ◌≤◌, true, IfOk};
-ghost use Rattle.pb_turn.specs.Marks.{moment_of};
+ghost use Rattle.law_turn.specs.Marks.{moment_of};
 ghost use Rattle.pb_station.specs.MarkViews.{mark_of, AreOver};
 
 mod cycles;
@@ -9,7 +9,7 @@ mod turns;
 
 use super::equal;
 use arrayvec::ArrayVec;
-use pb_core::is_past;
+use pb_transitions::is_past;
 use pb_station::{Glance, Inbox, Mark, NoMemory, Spares, Station, decide, due};
 use pb_telegram::RxChar;
 use pb_timers::{BusParams, Moment};

@@ -1,9 +1,9 @@
 use Rattle.std.proofs.Common.{ℕ, Option, Result, sym, subst}
 use Rattle.std.specs.Prelude.{IfOk}
-use Rattle.pb_show.specs.Fields.{Fault}
-use Rattle.pb_show.specs.Scenarios.{ScenarioView}
+use Rattle.pb_texts.specs.Fields.{Fault}
+use Rattle.pb_texts.specs.Scenarios.{ScenarioView}
 use Rattle.pb_cli.specs.Fleets.{IsRun, IsRunOrFault}
-use Rattle.pb_show.specs.Shown.{shown_of}
+use Rattle.pb_texts.specs.Shown.{shown_of}
 use Rattle.pb_cli.proofs.playing.played.Goals as goal
 
 pub returns-in-Ok : goal.returns-in-Ok

@@ -1,5 +1,5 @@
 use Rattle.std.proofs.Common.{◌≡◌, ◌+◌}
-use Rattle.pb_tickets.specs.Seats.{IsOf, parts_of}
+use Rattle.pb_fleet.specs.Seats.{IsOf, parts_of}
 use Rattle.pb_fleet.proofs.drawers.helpers.Given as goal
 
 abbrev pub invariant-loop-made : goal.invariant-loop-made

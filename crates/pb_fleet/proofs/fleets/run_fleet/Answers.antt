@@ -1,5 +1,5 @@
 use Rattle.std.proofs.Common.{◌≡◌, Ok}
-use Rattle.pb_model.specs.World.{new_world}
+use Rattle.law_model.specs.World.{new_world}
 use Rattle.pb_fleet.proofs.Telling.{begins_so}
 use Rattle.pb_fleet.proofs.fleets.run_fleet.Goals as goal
 

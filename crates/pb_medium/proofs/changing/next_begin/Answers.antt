@@ -6,7 +6,7 @@ use Rattle.std.proofs.lemmas.Iterator.{YieldsList-from_slice, YieldsList-from_ma
 use Rattle.std.proofs.lemmas.Iterator.Adapters.{option_map_id}
 use Rattle.std.proofs.lemmas.Iterator.Consumers.{YieldsList-at, YieldsList-from_filter, min_from_yields_List}
 use Rattle.std.proofs.lemmas.Simd.{map-map}
-use Rattle.pb_model.specs.Medium.{reaches_taps}
+use Rattle.law_model.specs.Medium.{reaches_taps}
 use Rattle.pb_medium.specs.Entries.{entry_of}
 use Rattle.pb_medium.proofs.Sensing.{least-later-begin}
 use Rattle.pb_medium.proofs.changing.next_begin.Goals as goal

@@ -1,7 +1,7 @@
 use Rattle.std.proofs.Common.{rules, ◌∙◌, sym}
 use Rattle.std.proofs.lemmas.Iterator.{YieldsList-from_slice}
 use Rattle.std.proofs.lemmas.Iterator.Search.{any_from_yields_List}
-use Rattle.pb_runs.specs.Bus.{is_in_air}
+use Rattle.law_runs.specs.Bus.{is_in_air}
 use Rattle.pb_medium.specs.Entries.{entry_of}
 use Rattle.pb_medium.proofs.Sensing.{list_any-map}
 use Rattle.pb_medium.proofs.changing.something_lasts.Goals as goal

@@ -2,8 +2,8 @@
 use Rattle.std.proofs.Common.{◌≡◌, ◌∙◌, ap, sym, map, length, arith}
 use Rattle.std.proofs.Math.ListN.{get_or-map}
 use Rattle.std.proofs.lemmas.List.{length-map}
-use Rattle.pb_model.specs.Trace as trace
-use Rattle.pb_model.specs.Trace.{cut_at}
+use Rattle.law_model.specs.Trace as trace
+use Rattle.law_model.specs.Trace.{cut_at}
 use Rattle.pb_medium.specs.Entries.{entry_of}
 use Rattle.pb_taps.proofs.Replacing.{changed-more, changed-at, changed-all}
 use Rattle.pb_medium.proofs.cutting.cut_all.Goals as goal

@@ -1,6 +1,6 @@
 -- The entries before the place are cut.
 use Rattle.std.proofs.Common.{◌≡◌, ◌++◌, map, take, drop}
-use Rattle.pb_model.specs.Trace.{cut_at}
+use Rattle.law_model.specs.Trace.{cut_at}
 use Rattle.pb_medium.specs.Entries.{entry_of}
 use Rattle.pb_medium.proofs.cutting.cut_all.Given as goal
 

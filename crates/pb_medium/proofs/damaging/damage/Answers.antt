@@ -2,9 +2,9 @@ use Rattle.std.proofs.Common.{ap, sym, ◌∙◌, ◌<◌, ◌+◌, ◌++◌, �
 use Rattle.std.specs.Prelude.{take, drop}
 use Rattle.std.proofs.Math.Seq.{map-set_same}
 use Rattle.std.proofs.lemmas.List.{length-map}
-use Rattle.pb_model.specs.Step.{with_hit}
-use Rattle.pb_model.specs.Trace as trace
-use Rattle.pb_model.specs.World.{is_in_air_by}
+use Rattle.law_model.specs.Step.{with_hit}
+use Rattle.law_model.specs.Trace as trace
+use Rattle.law_model.specs.World.{is_in_air_by}
 use Rattle.pb_medium.specs.Entries.{entry_of, hit_of}
 use Rattle.pb_medium.proofs.Hitting.{first-found, set-at}
 use Rattle.pb_taps.proofs.Items.{at-err}

@@ -1,5 +1,5 @@
 use Rattle.std.proofs.Common.{map, ap, sym, ◌∙◌, ◌<◌, length, arith}
-use Rattle.pb_model.specs.World.{is_in_air_by}
+use Rattle.law_model.specs.World.{is_in_air_by}
 use Rattle.std.proofs.lemmas.List.{length-map}
 use Rattle.pb_medium.specs.Entries.{entry_of}
 use Rattle.pb_taps.proofs.Items.{left-at, passed-at}

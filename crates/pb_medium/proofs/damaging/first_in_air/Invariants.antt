@@ -1,5 +1,5 @@
 use Rattle.std.proofs.Common.{map}
-use Rattle.pb_model.specs.World.{is_in_air_by}
+use Rattle.law_model.specs.World.{is_in_air_by}
 use Rattle.pb_medium.specs.Entries.{entry_of}
 use Rattle.pb_medium.proofs.Hitting.{PassesNone}
 use Rattle.pb_medium.proofs.damaging.first_in_air.Given as goal

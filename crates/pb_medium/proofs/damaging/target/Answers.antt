@@ -1,8 +1,8 @@
 use Rattle.std.proofs.Common.{ap, sym, ◌∙◌, ◌==◌, ◌||◌, not, Bool, false, ◌<◌, length, arith}
 use Rattle.std.proofs.lemmas.Bool.{ne_eqb}
 use Rattle.std.proofs.lemmas.List.{length-map}
-use Rattle.pb_model.specs.Step.{has_place}
-use Rattle.pb_model.specs.World.{is_in_air_by}
+use Rattle.law_model.specs.Step.{has_place}
+use Rattle.law_model.specs.World.{is_in_air_by}
 use Rattle.pb_medium.specs.Entries.{entry_of}
 use Rattle.pb_medium.proofs.Hitting.{first-found}
 use Rattle.pb_medium.proofs.damaging.target.Goals as goal

@@ -1,8 +1,8 @@
 use Rattle.std.proofs.Common.{rules, arith, ◌≡◌, ◌≤◌, ◌∙◌, ap, sym, subst, [], ◌∷◌, map, length, Some, None}
 use Rattle.std.specs.Prelude.{take}
 use Rattle.std.proofs.lemmas.List.{length-take-le}
-use Rattle.pb_turn.specs.Spans.{Span}
-use Rattle.pb_model.specs.Trace.{Sent, Noise}
+use Rattle.law_turn.specs.Spans.{Span}
+use Rattle.law_model.specs.Trace.{Sent, Noise}
 use Rattle.pb_medium.specs.Entries.{entry_of, record_of}
 use Rattle.pb_medium.specs.Lone.{IsPlain, IsLone}
 use Rattle.pb_medium.proofs.Alone.{lone-noise, lone-sent, one-of}

@@ -1,7 +1,7 @@
 use Rattle.std.proofs.Common.{rules, ◌∙◌, sym}
 use Rattle.std.proofs.lemmas.Iterator.{YieldsList-from_slice}
 use Rattle.std.proofs.lemmas.Iterator.Search.{position_from_yields_List}
-use Rattle.pb_model.specs.Trace.{begins_from}
+use Rattle.law_model.specs.Trace.{begins_from}
 use Rattle.pb_medium.specs.Entries.{entry_of}
 use Rattle.pb_medium.proofs.Hitting.{position-map}
 use Rattle.pb_medium.proofs.losing.begun_at_clock.Goals as goal

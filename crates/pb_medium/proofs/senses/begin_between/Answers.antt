@@ -5,9 +5,9 @@ use Rattle.std.proofs.lemmas.Iterator.{YieldsList-from_slice}
 use Rattle.std.proofs.lemmas.Iterator.Adapters.{option_map_id}
 use Rattle.std.proofs.lemmas.Iterator.Consumers.{YieldsList-from_filter_map}
 use Rattle.std.proofs.lemmas.Iterator.Search.{find_from_yields_List}
-use Rattle.pb_turn.specs.Spans.{Span}
-use Rattle.pb_model.specs.Medium.{at_tap, part_after, sensed, begins_in}
-use Rattle.pb_model.specs.Trace.{Entry}
+use Rattle.law_turn.specs.Spans.{Span}
+use Rattle.law_model.specs.Medium.{at_tap, part_after, sensed, begins_in}
+use Rattle.law_model.specs.Trace.{Entry}
 use Rattle.pb_medium.specs.Entries.{entry_of}
 use Rattle.pb_medium.proofs.Sensing.{filter_map-map}
 use Rattle.pb_medium.proofs.senses.begin_between.Goals as goal

@@ -4,8 +4,8 @@ use Rattle.std.proofs.lemmas.Iterator.Consumers.{YieldsList-from_filter_map}
 use Rattle.std.proofs.lemmas.Iterator.Search.{any_from_yields_List}
 use Rattle.std.specs.List.{list_any}
 use Rattle.std.specs.Option.{option_and_then}
-use Rattle.pb_model.specs.Medium.{at_tap, part_after, begins_at}
-use Rattle.pb_model.specs.Trace.{Entry}
+use Rattle.law_model.specs.Medium.{at_tap, part_after, begins_at}
+use Rattle.law_model.specs.Trace.{Entry}
 use Rattle.pb_medium.specs.Entries.{entry_of}
 use Rattle.pb_medium.proofs.Sensing.{filter_map-map}
 use Rattle.pb_medium.proofs.senses.begins_at.Goals as goal

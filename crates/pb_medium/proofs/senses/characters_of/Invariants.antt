@@ -1,5 +1,5 @@
 use Rattle.std.proofs.Common.{◌≡◌, map, length, drop, ◌++◌}
-use Rattle.pb_model.specs.Trace.{characters_from}
+use Rattle.law_model.specs.Trace.{characters_from}
 use Rattle.pb_medium.specs.Entries.{hit_of}
 use Rattle.pb_medium.proofs.senses.characters_of.Given as goal
 

@@ -4,8 +4,8 @@ use Rattle.std.proofs.lemmas.Iterator.{YieldsList-from_slice}
 use Rattle.std.proofs.lemmas.Iterator.Consumers.{YieldsList-at, YieldsList-from_filter, YieldsList-from_filter_map, count_from_yields_List}
 use Rattle.std.proofs.lemmas.List.Sums.{length-filter}
 use Rattle.std.specs.Option.{option_and_then}
-use Rattle.pb_model.specs.Medium.{at_tap, part_after, overlaps}
-use Rattle.pb_model.specs.Trace.{Entry}
+use Rattle.law_model.specs.Medium.{at_tap, part_after, overlaps}
+use Rattle.law_model.specs.Trace.{Entry}
 use Rattle.pb_medium.specs.Entries.{entry_of}
 use Rattle.pb_medium.proofs.Sensing.{filter_map-map}
 use Rattle.pb_medium.proofs.senses.count_overlapping.Goals as goal

@@ -2,7 +2,7 @@ use Rattle.std.proofs.Common.{rules, ◌≡◌, ap, map}
 use Rattle.std.specs.Option.{option_map}
 use Rattle.std.proofs.lemmas.Iterator.{YieldsList-from_slice}
 use Rattle.std.proofs.lemmas.Iterator.Search.{find_from_yields_List}
-use Rattle.pb_model.specs.Medium.{fills_burst_to, entry_characters, burst_characters}
+use Rattle.law_model.specs.Medium.{fills_burst_to, entry_characters, burst_characters}
 use Rattle.pb_medium.specs.Entries.{entry_of}
 use Rattle.pb_taps.specs.Taps.{tap_of}
 use Rattle.pb_medium.proofs.Sensing.{found-map}

@@ -1,6 +1,6 @@
 use Rattle.std.proofs.Common.{◌∙◌, sym, ap, map, ◌&&◌, refl}
-use Rattle.pb_turn.specs.Spans.{Span}
-use Rattle.pb_model.specs.Medium.{hears_from}
+use Rattle.law_turn.specs.Spans.{Span}
+use Rattle.law_model.specs.Medium.{hears_from}
 use Rattle.pb_medium.specs.Senses.{is_alone}
 use Rattle.pb_medium.specs.Entries.{entry_of, record_of}
 use Rattle.pb_taps.specs.Taps.{tap_of}

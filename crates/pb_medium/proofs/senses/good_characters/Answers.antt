@@ -1,6 +1,6 @@
 use Rattle.std.proofs.Common.{arith, ◌∙◌, ◌+◌, ap, refl, ◌++◌, drop, get_or, []}
 use Rattle.pb_telegram.specs.declared.chars.RxChar.TheVariants.{Good}
-use Rattle.pb_model.specs.Trace.{characters_from}
+use Rattle.law_model.specs.Trace.{characters_from}
 use Rattle.pb_medium.proofs.Sensing.{characters-step}
 use Rattle.pb_medium.proofs.senses.good_characters.Goals as goal
 

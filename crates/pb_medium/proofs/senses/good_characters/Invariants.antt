@@ -1,5 +1,5 @@
 use Rattle.std.proofs.Common.{◌≡◌, length, drop, ◌++◌, []}
-use Rattle.pb_model.specs.Trace.{characters_from}
+use Rattle.law_model.specs.Trace.{characters_from}
 use Rattle.pb_medium.proofs.senses.good_characters.Given as goal
 
 abbrev pub invariant-loop-octet : goal.invariant-loop-octet

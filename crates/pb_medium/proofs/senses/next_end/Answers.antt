@@ -4,7 +4,7 @@ use Rattle.std.specs.List.{reduce}
 use Rattle.std.proofs.lemmas.Iterator.{YieldsList-from_slice}
 use Rattle.std.proofs.lemmas.Iterator.Adapters.{option_map_id}
 use Rattle.std.proofs.lemmas.Iterator.Consumers.{YieldsList-from_filter_map, min_from_yields_List}
-use Rattle.pb_model.specs.World.{entry_next_end}
+use Rattle.law_model.specs.World.{entry_next_end}
 use Rattle.pb_medium.specs.Entries.{entry_of}
 use Rattle.pb_medium.proofs.Sensing.{filter_map-map, least-end}
 use Rattle.pb_medium.proofs.senses.next_end.Goals as goal

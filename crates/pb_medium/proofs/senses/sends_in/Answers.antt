@@ -1,7 +1,7 @@
 use Rattle.std.proofs.Common.{rules, ◌∙◌, sym}
 use Rattle.std.proofs.lemmas.Iterator.{YieldsList-from_slice}
 use Rattle.std.proofs.lemmas.Iterator.Search.{any_from_yields_List}
-use Rattle.pb_model.specs.Medium.{sends_during}
+use Rattle.law_model.specs.Medium.{sends_during}
 use Rattle.pb_medium.specs.Entries.{entry_of}
 use Rattle.pb_medium.proofs.Sensing.{list_any-map}
 use Rattle.pb_medium.proofs.senses.sends_in.Goals as goal

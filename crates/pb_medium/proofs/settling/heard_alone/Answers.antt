@@ -1,6 +1,6 @@
 -- One more tap after another.
 use Rattle.std.proofs.Common.{◌∙◌, arith, map, ◌∷◌, []}
-use Rattle.pb_model.specs.Trace.{Sent}
+use Rattle.law_model.specs.Trace.{Sent}
 use Rattle.pb_medium.specs.Entries.{record_of}
 use Rattle.pb_taps.specs.Taps.{tap_of}
 use Rattle.pb_medium.proofs.Settled.{settles-length, settles-more, settles-all}

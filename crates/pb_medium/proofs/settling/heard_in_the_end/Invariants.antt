@@ -1,6 +1,6 @@
 -- The telegram has settled at the taps before the position.
 use Rattle.std.proofs.Common.{◌≡◌, ◌++◌, map, take, drop}
-use Rattle.pb_model.specs.Medium.{heard_by}
+use Rattle.law_model.specs.Medium.{heard_by}
 use Rattle.pb_medium.specs.Entries.{entry_of, record_of}
 use Rattle.pb_taps.specs.Taps.{tap_of}
 use Rattle.pb_medium.proofs.settling.heard_in_the_end.Given as goal

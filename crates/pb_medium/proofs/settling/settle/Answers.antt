@@ -2,8 +2,8 @@
 use Rattle.std.proofs.Common.{◌≡◌, ◌∙◌, ap, sym, map, length, get_or, arith}
 use Rattle.std.proofs.Math.ListN.{get_or-map}
 use Rattle.std.proofs.lemmas.List.{length-map, get_or_default}
-use Rattle.pb_model.specs.Trace as model
-use Rattle.pb_model.specs.Medium.{entry_at}
+use Rattle.law_model.specs.Trace as model
+use Rattle.law_model.specs.Medium.{entry_at}
 use Rattle.pb_medium.specs.declared.entries.Entry.{Entry}
 use Rattle.pb_medium.specs.Entries.{entry_of}
 use Rattle.pb_taps.specs.Taps.{tap_of}

@@ -1,6 +1,6 @@
 -- The entries before the place have settled.
 use Rattle.std.proofs.Common.{◌≡◌, ◌++◌, map, take, drop}
-use Rattle.pb_model.specs.Medium.{entry_at}
+use Rattle.law_model.specs.Medium.{entry_at}
 use Rattle.pb_medium.specs.Entries.{entry_of}
 use Rattle.pb_taps.specs.Taps.{tap_of}
 use Rattle.pb_medium.proofs.settling.settle.Given as goal

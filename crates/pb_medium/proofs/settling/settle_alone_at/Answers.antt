@@ -1,7 +1,7 @@
 -- Nothing settles where there is no tap.
 use Rattle.std.proofs.Common.{sym, ◌∷◌, [], length}
 use Rattle.std.proofs.lemmas.Bool.{ltb-false}
-use Rattle.pb_model.specs.Trace.{Sent}
+use Rattle.law_model.specs.Trace.{Sent}
 use Rattle.pb_medium.specs.Entries.{record_of}
 use Rattle.pb_taps.specs.Taps.{tap_of}
 use Rattle.pb_medium.proofs.Settled.{none-settles}

@@ -4,10 +4,10 @@ use Rattle.std.proofs.lemmas.List.{length-map}
 use Rattle.toml.specs.Data.{as_table, as_array}
 use Rattle.toml.specs.View.{array_view, items_view, table_view}
 use Rattle.pb_timers.specs.Timers.{Params}
-use Rattle.pb_model.specs.Medium.{TapSpec}
+use Rattle.law_model.specs.Medium.{TapSpec}
 use Rattle.pb_taps.specs.Taps.{spec_of}
-use Rattle.pb_runs.specs.Scenarios.{Planned}
-use Rattle.pb_plan.specs.Steps.{steps_of}
+use Rattle.law_runs.specs.Scenarios.{Planned}
+use Rattle.pb_scenario.specs.Steps.{steps_of}
 use Rattle.pb_scenario.specs.declared.keys.Key.TheVariants as key
 use Rattle.pb_scenario.specs.declared.keys.Section.TheVariants.{Top, Bus}
 use Rattle.pb_scenario.specs.Keys.{top_keys}

@@ -1,9 +1,9 @@
 -- One tap more is looked at.
 use Rattle.std.proofs.Common.{◌<◌, ◌∙◌, length, ap, arith}
-use Rattle.pb_turn.specs.Stations.{earlier}
-use Rattle.pb_runs.specs.Runs.{comes}
-use Rattle.pb_bus.specs.Worlds.{due_at}
-use Rattle.pb_plan.specs.Walks.{plan_in}
+use Rattle.law_turn.specs.Stations.{earlier}
+use Rattle.law_runs.specs.Runs.{comes}
+use Rattle.pb_world.specs.Worlds.{due_at}
+use Rattle.pb_scenario.specs.Walks.{plan_in}
 use Rattle.pb_scenario.proofs.Moving.{sooner-all, sooner-more}
 use Rattle.pb_scenario.proofs.plays.next_turn.Goals as goal
 

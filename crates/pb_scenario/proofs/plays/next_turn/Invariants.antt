@@ -1,9 +1,9 @@
 -- The first moment so far and that of the taps that are left is that of all.
 use Rattle.std.proofs.Common.{◌≡◌, drop}
-use Rattle.pb_turn.specs.Stations.{earlier}
-use Rattle.pb_runs.specs.Runs.{next_turn}
-use Rattle.pb_runs.specs.Bus.{dues}
-use Rattle.pb_plan.specs.Walks.{plan_in}
+use Rattle.law_turn.specs.Stations.{earlier}
+use Rattle.law_runs.specs.Runs.{next_turn}
+use Rattle.law_runs.specs.Bus.{dues}
+use Rattle.pb_scenario.specs.Walks.{plan_in}
 use Rattle.pb_scenario.proofs.plays.next_turn.Given as goal
 
 abbrev pub invariant-loop-tap : goal.invariant-loop-tap

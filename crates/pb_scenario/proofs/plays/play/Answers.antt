@@ -1,6 +1,6 @@
 -- What is played is the scenario's run.
 use Rattle.std.proofs.Common.{◌≡◌, ◌∙◌, Some, length, ap, sym, subst, arith}
-use Rattle.pb_plan.specs.Walks.{WalkView}
+use Rattle.pb_scenario.specs.Walks.{WalkView}
 use Rattle.pb_scenario.specs.Scenarios.{walk_of}
 use Rattle.pb_scenario.specs.Plays.{GoesOn}
 use Rattle.pb_scenario.proofs.Counting.{count-new}

@@ -1,12 +1,12 @@
 -- What is played at a moment is an instant of the run.
 use Rattle.std.proofs.Common.{◌≡◌, ◌∙◌, ℕ, Option, ap}
-use Rattle.pb_turn.specs.Stations.{earlier}
-use Rattle.pb_runs.specs.Runs.{next, next_turn, onward, passing, turns}
-use Rattle.pb_runs.specs.Bus.{bus, dues, next_change}
-use Rattle.pb_plan.specs.Steps.{steps_of}
-use Rattle.pb_plan.specs.Walks.{passes, plan_in}
-use Rattle.pb_plan.specs.declared.steps.When.TheVariants.{BeforeTurns, AfterTurns}
-use Rattle.pb_plan.specs.Said.{said_by}
+use Rattle.law_turn.specs.Stations.{earlier}
+use Rattle.law_runs.specs.Runs.{next, next_turn, onward, passing, turns}
+use Rattle.law_runs.specs.Bus.{bus, dues, next_change}
+use Rattle.pb_scenario.specs.Steps.{steps_of}
+use Rattle.pb_scenario.specs.Walks.{passes, plan_in}
+use Rattle.pb_scenario.specs.declared.deeds.When.TheVariants.{BeforeTurns, AfterTurns}
+use Rattle.pb_scenario.specs.Said.{said_by}
 use Rattle.pb_scenario.specs.Plays.{Happened}
 use Rattle.pb_scenario.proofs.Counting.{count-all}
 use Rattle.pb_scenario.proofs.Moving.{happened-as, happened-at, in-err, ready-after, stops-as, stops-at}

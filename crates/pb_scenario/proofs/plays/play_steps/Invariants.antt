@@ -1,8 +1,8 @@
 -- What the steps so far say has happened.
 use Rattle.std.proofs.Common.{take}
-use Rattle.pb_plan.specs.Steps.{steps_of}
+use Rattle.pb_scenario.specs.Steps.{steps_of}
 use Rattle.pb_scenario.specs.Plays.{Happened}
-use Rattle.pb_plan.specs.Said.{said_by}
+use Rattle.pb_scenario.specs.Said.{said_by}
 use Rattle.pb_scenario.proofs.plays.play_steps.Given as goal
 
 abbrev pub invariant-loop-step : goal.invariant-loop-step

@@ -1,5 +1,5 @@
 -- The taps so far have turned that want to.
-use Rattle.pb_plan.specs.Walks.{plan_in}
+use Rattle.pb_scenario.specs.Walks.{plan_in}
 use Rattle.pb_scenario.proofs.Moving.{HaveTurned}
 use Rattle.pb_scenario.proofs.plays.play_turns.Given as goal
 

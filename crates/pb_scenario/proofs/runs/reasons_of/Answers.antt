@@ -1,8 +1,8 @@
 -- What the watched bus has come by is the run, and what its audit finds is what there is to find in that.
 use Rattle.std.proofs.Common.{◌≡◌, Ok, map, subst}
-use Rattle.pb_model.specs.World.{new_world}
+use Rattle.law_model.specs.World.{new_world}
 use Rattle.pb_taps.specs.Taps.{spec_of}
-use Rattle.pb_audit.specs.Watched.{HasCome, world_in}
+use Rattle.pb_world.specs.Watched.{HasCome, world_in}
 use Rattle.pb_scenario.proofs.runs.reasons_of.Goals as goal
 
 pub returns-clause-ok : goal.returns-clause-ok

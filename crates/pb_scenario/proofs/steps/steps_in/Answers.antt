@@ -1,7 +1,7 @@
 -- One step more is read, or the first fault ends the reading.
 use Rattle.std.proofs.Common.{◌∙◌, IfOk, sym, subst}
 use Rattle.toml.specs.View.{items_view}
-use Rattle.pb_plan.specs.Steps.{steps_of}
+use Rattle.pb_scenario.specs.Steps.{steps_of}
 use Rattle.pb_scenario.specs.Scenarios.{names_of}
 use Rattle.pb_scenario.specs.Fields.{Tells}
 use Rattle.pb_scenario.specs.Tables.{members}

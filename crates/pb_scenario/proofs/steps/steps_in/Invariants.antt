@@ -1,7 +1,7 @@
 -- The steps so far stand before those of the rest.
 use Rattle.std.proofs.Common.{◌≡◌, ◌++◌, drop, Ok}
 use Rattle.toml.specs.View.{items_view}
-use Rattle.pb_plan.specs.Steps.{steps_of}
+use Rattle.pb_scenario.specs.Steps.{steps_of}
 use Rattle.pb_scenario.specs.Scenarios.{names_of}
 use Rattle.pb_scenario.specs.Fields.{and_then}
 use Rattle.pb_scenario.specs.Files.{steps_from}

@@ -3,7 +3,7 @@ use Rattle.std.proofs.Common.{◌≡◌, ◌∙◌, ◌++◌, ◌∷◌, [], ◌
 use Rattle.std.specs.Prelude.{slice_get}
 use Rattle.std.proofs.lemmas.List.{get_or_default, map-append, take_more}
 use Rattle.std.proofs.lemmas.Option.{slice_get_read}
-use Rattle.pb_model.specs.Trace.{Heard}
+use Rattle.law_model.specs.Trace.{Heard}
 use Rattle.pb_medium.specs.Entries.{heard_of}
 use Rattle.pb_scenario.specs.Texts.{letter_of}
 use Rattle.pb_scenario.proofs.texts.push_letters.Goals as goal

@@ -1,5 +1,5 @@
 use Rattle.std.proofs.Common.{◌≡◌, take}
-use Rattle.pb_theorem.specs.Headline.{specs_of}
+use Rattle.law_runs.specs.Headline.{specs_of}
 use Rattle.pb_segment.proofs.origins.members_of.Given as goal
 
 abbrev pub invariant-loop-tap : goal.invariant-loop-tap

@@ -1,5 +1,5 @@
 use Rattle.std.proofs.Common.{◌≡◌, take}
-use Rattle.pb_runs.specs.Bus.{dues}
+use Rattle.law_runs.specs.Bus.{dues}
 use Rattle.pb_segment.proofs.outlooks.many_moments.Given as goal
 
 abbrev pub invariant-loop-tap : goal.invariant-loop-tap

@@ -1,7 +1,7 @@
 use Rattle.std.proofs.Common.{rules, refl, sym, ap, ◌∙◌, ◌++◌, ◌∷◌, [], ◌+◌, List, length, map, arith, append_assoc, length-take-le}
 use Rattle.std.specs.Prelude.{drop}
 use Rattle.std.proofs.lemmas.List.{append-nil}
-use Rattle.pb_turn.specs.Marks.{Mark}
+use Rattle.law_turn.specs.Marks.{Mark}
 use Rattle.pb_station.specs.MarkViews.{mark_of}
 use Rattle.pb_station.specs.Notes.{chars_of, octets_of, mark_with, marks_in}
 use Rattle.pb_station.proofs.Noted.{next-at, marks-at, of-at, none-left}

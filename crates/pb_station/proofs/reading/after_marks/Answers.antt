@@ -1,6 +1,6 @@
 use Rattle.std.proofs.Common.{refl, map, arith, ◌≤◌, length}
 use Rattle.pb_tokenfsm.specs.Phases.{phase_of}
-use Rattle.pb_core.specs.Cores.{station_with}
+use Rattle.pb_transitions.specs.Cores.{station_with}
 use Rattle.pb_station.specs.MarkViews.{mark_of}
 use Rattle.pb_station.proofs.MarkByMark.{read-more, read-all}
 use Rattle.pb_station.proofs.Places.{left-at}

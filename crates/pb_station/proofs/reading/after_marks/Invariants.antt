@@ -1,9 +1,9 @@
 use Rattle.std.proofs.Common.{◌≡◌, map}
 use Rattle.std.specs.Prelude.{drop}
-use Rattle.pb_messages.specs.Queued.{Queued}
-use Rattle.pb_turn.specs.Turns.{after_marks}
+use Rattle.pb_cycles.specs.Queued.{Queued}
+use Rattle.law_turn.specs.Turns.{after_marks}
 use Rattle.pb_tokenfsm.specs.Phases.{phase_of}
-use Rattle.pb_core.specs.Cores.{station_with}
+use Rattle.pb_transitions.specs.Cores.{station_with}
 use Rattle.pb_station.specs.MarkViews.{mark_of}
 use Rattle.pb_station.proofs.reading.after_marks.Given as goal
 

@@ -1,8 +1,8 @@
 use Rattle.std.proofs.Common.{refl, sym, ap, ◌∙◌, arith}
 use Rattle.std.specs.Prelude.{take, []}
-use Rattle.pb_turn.specs.Turns.{after_marks}
+use Rattle.law_turn.specs.Turns.{after_marks}
 use Rattle.pb_tokenfsm.specs.Phases.{phase_of}
-use Rattle.pb_core.specs.Cores.{station_with}
+use Rattle.pb_transitions.specs.Cores.{station_with}
 use Rattle.pb_station.specs.Notes.{chars_of, octets_of, mark_with, marks_in}
 use Rattle.pb_station.proofs.Noted.{next-at, marks-at, of-at, over-at, read-note, none-left, same-moment}
 use Rattle.pb_station.proofs.reading.after_notes.Goals as goal

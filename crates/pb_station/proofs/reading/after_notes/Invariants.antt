@@ -1,9 +1,9 @@
 use Rattle.std.proofs.Common.{◌≡◌}
 use Rattle.std.specs.Prelude.{drop}
-use Rattle.pb_messages.specs.Queued.{Queued}
-use Rattle.pb_turn.specs.Turns.{after_marks}
+use Rattle.pb_cycles.specs.Queued.{Queued}
+use Rattle.law_turn.specs.Turns.{after_marks}
 use Rattle.pb_tokenfsm.specs.Phases.{phase_of}
-use Rattle.pb_core.specs.Cores.{station_with}
+use Rattle.pb_transitions.specs.Cores.{station_with}
 use Rattle.pb_station.specs.MarkViews.{AllOver}
 use Rattle.pb_station.specs.Notes.{marks_in, AreOf}
 use Rattle.pb_station.proofs.reading.after_notes.Given as goal

@@ -1,6 +1,6 @@
 use Rattle.std.proofs.Common.{◌∙◌, ap, ℕ, Option}
-use Rattle.pb_turn.specs.Stations.{earlier, timer_of}
-use Rattle.pb_core.specs.Cores.{station_of}
+use Rattle.law_turn.specs.Stations.{earlier, timer_of}
+use Rattle.pb_transitions.specs.Cores.{station_of}
 use Rattle.pb_station.proofs.turns.acts.Goals as goal
 
 pub returns : goal.returns

@@ -1,7 +1,7 @@
 use Rattle.std.proofs.Common.{◌∙◌, ap, sym, ℕ, ◌+◌, Bool, false, ◌||◌, Option}
-use Rattle.pb_turn.specs.Stations.{earlier, first_seen, timer_of, speaks_at}
-use Rattle.pb_core.specs.Clocks.{is_past}
-use Rattle.pb_core.specs.Cores.{station_of}
+use Rattle.law_turn.specs.Stations.{earlier, first_seen, timer_of, speaks_at}
+use Rattle.pb_transitions.specs.Clocks.{is_past}
+use Rattle.pb_transitions.specs.Cores.{station_of}
 use Rattle.pb_station.proofs.Overdue.{past-earlier}
 use Rattle.pb_station.proofs.turns.is_overdue.Goals as goal
 

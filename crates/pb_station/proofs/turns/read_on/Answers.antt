@@ -1,6 +1,6 @@
 use Rattle.std.proofs.Common.{◌∙◌, ap, map, ℕ, Option}
 use Rattle.pb_tokenfsm.specs.Phases.{phase_of}
-use Rattle.pb_core.specs.Cores.{station_of, station_with}
+use Rattle.pb_transitions.specs.Cores.{station_of, station_with}
 use Rattle.pb_station.specs.Halves.{has_come}
 use Rattle.pb_station.specs.MarkViews.{mark_of}
 use Rattle.pb_station.proofs.Receipts.{received-clock}

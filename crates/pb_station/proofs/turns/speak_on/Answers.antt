@@ -1,6 +1,6 @@
 use Rattle.std.proofs.Common.{sym, subst, Option, List, ℕ}
-use Rattle.pb_turn.specs.Stations.{Station, speaks_at}
-use Rattle.pb_core.specs.Cores.{station_of, HasReceived}
+use Rattle.law_turn.specs.Stations.{Station, speaks_at}
+use Rattle.pb_transitions.specs.Cores.{station_of, HasReceived}
 use Rattle.pb_station.proofs.Receipts.{received-speech}
 use Rattle.pb_station.proofs.turns.speak_on.Goals as goal
 

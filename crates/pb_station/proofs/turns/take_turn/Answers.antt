@@ -1,7 +1,7 @@
 use Rattle.std.proofs.Common.{sym, subst, Option, List, ℕ}
-use Rattle.pb_turn.specs.Stations.{Station, speaks_at}
+use Rattle.law_turn.specs.Stations.{Station, speaks_at}
 use Rattle.pb_tokenfsm.specs.Phases.{phase_of}
-use Rattle.pb_core.specs.Cores.{station_of, station_with, HasReceived}
+use Rattle.pb_transitions.specs.Cores.{station_of, station_with, HasReceived}
 use Rattle.pb_station.proofs.Receipts.{received-clock, received-speech}
 use Rattle.pb_station.proofs.turns.take_turn.Goals as goal
 

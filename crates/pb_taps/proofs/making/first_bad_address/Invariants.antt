@@ -1,7 +1,7 @@
 use Rattle.std.proofs.Common.{◌≡◌, ℕ, ◌<◌, ◌≤◌, map}
 use Rattle.std.specs.Prelude.{drop, slice_index_or}
 use Rattle.pb_timers.specs.Timers.{Params}
-use Rattle.pb_model.specs.World.{first_bad_address}
+use Rattle.law_model.specs.World.{first_bad_address}
 use Rattle.pb_taps.specs.Taps.{spec_of}
 use Rattle.pb_taps.specs.declared.taps.TapSpec.{TapSpec}
 use Rattle.pb_taps.proofs.making.first_bad_address.Given as goal

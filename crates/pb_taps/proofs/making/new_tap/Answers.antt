@@ -1,6 +1,6 @@
 use Rattle.std.proofs.Common.{ap, ◌∙◌, false}
 use Rattle.pb_taps.specs.Taps.{spec_at, spec_of}
-use Rattle.pb_model.specs.World.{stopped_tap}
+use Rattle.law_model.specs.World.{stopped_tap}
 use Rattle.pb_taps.proofs.making.new_tap.Goals as goal
 
 pub returns-clause-tap : goal.returns-clause-tap

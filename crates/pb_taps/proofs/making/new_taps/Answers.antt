@@ -1,8 +1,8 @@
 use Rattle.std.proofs.Common.{◌≡◌, ap, sym, subst, ◌∙◌, ◌++◌, ◌∷◌, [], ◌+◌, arith, map, length, length-append}
 use Rattle.std.specs.Prelude.{take}
 use Rattle.std.proofs.lemmas.List.{length-map, map-append}
-use Rattle.pb_turn.specs.Laws.{Fits}
-use Rattle.pb_model.specs.World.{stopped_tap}
+use Rattle.law_turn.specs.Laws.{Fits}
+use Rattle.law_model.specs.World.{stopped_tap}
 use Rattle.pb_taps.specs.Taps.{spec_of, seat_of, tap_of, AreSeated}
 use Rattle.pb_taps.proofs.Items.{passed-at, below-more}
 use Rattle.pb_taps.proofs.Seats.{seated-more}

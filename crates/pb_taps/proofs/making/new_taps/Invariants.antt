@@ -1,8 +1,8 @@
 use Rattle.std.proofs.Common.{◌≡◌, ◌≤◌, ◌<◌, ℕ, length, map}
 use Rattle.std.specs.Prelude.{take, slice_index_or}
 use Rattle.std.specs.Vec.{vec_capacity}
-use Rattle.pb_turn.specs.Laws.{Fits}
-use Rattle.pb_model.specs.World.{stopped_tap}
+use Rattle.law_turn.specs.Laws.{Fits}
+use Rattle.law_model.specs.World.{stopped_tap}
 use Rattle.pb_taps.specs.Taps.{spec_of, seat_of, tap_of, AreSeated}
 use Rattle.pb_taps.specs.declared.taps.TapSpec.{TapSpec}
 use Rattle.pb_taps.proofs.making.new_taps.Given as goal

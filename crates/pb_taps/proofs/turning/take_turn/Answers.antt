@@ -1,6 +1,6 @@
 use Rattle.std.proofs.Common.{◌∙◌, ap, sym, subst}
 use Rattle.std.specs.Prelude.{slice_set}
-use Rattle.pb_model.specs.Laws.{InOrder}
+use Rattle.law_model.specs.Laws.{InOrder}
 use Rattle.pb_taps.specs.Turning.{turned_tap, says}
 use Rattle.pb_taps.specs.declared.taps.Tap.{Tap}
 use Rattle.pb_taps.proofs.Items.{found-at}

@@ -1,12 +1,12 @@
 use Rattle.std.proofs.Common.{sym, subst, arith, map, take, [], ◌∷◌}
 use Rattle.std.proofs.lemmas.List.{length-map, take_all}
-use Rattle.pb_model.specs.Laws.{AreEvents}
-use Rattle.pb_model.specs.Step.{RunsTo}
+use Rattle.law_model.specs.Laws.{AreEvents}
+use Rattle.law_model.specs.Step.{RunsTo}
 use Rattle.pb_taps.specs.Events.{event_of}
 use Rattle.pb_taps.proofs.Items.{passed-at}
-use Rattle.pb_bus.proofs.Running.{runs-on}
-use Rattle.pb_token.proofs.JoinedRuns.{events_join}
-use Rattle.pb_live.proofs.Promising.{run_leads_on}
+use Rattle.pb_world.proofs.Running.{runs-on}
+use Rattle.law_token.proofs.whole.JoinedRuns.{events_join}
+use Rattle.law_live.proofs.Promising.{run_leads_on}
 use Rattle.pb_world.proofs.worlds.run.Goals as goal
 
 pub loop-place-preserved : goal.loop-place-preserved

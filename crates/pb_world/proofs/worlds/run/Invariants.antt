@@ -1,8 +1,8 @@
 use Rattle.std.proofs.Common.{map}
 use Rattle.std.specs.Prelude.{take}
 use Rattle.pb_taps.specs.Events.{event_of}
-use Rattle.pb_model.specs.Laws.{AreEvents}
-use Rattle.pb_model.specs.Step.{RunsTo}
+use Rattle.law_model.specs.Laws.{AreEvents}
+use Rattle.law_model.specs.Step.{RunsTo}
 use Rattle.pb_world.proofs.worlds.run.Given as goal
 
 abbrev pub invariant-loop-place : goal.invariant-loop-place

@@ -1,5 +1,5 @@
 use Rattle.std.proofs.Common.{ap, ◌∙◌, ◌==◌, false, Bool, if◌then◌else◌, refl, true, ◌≡◌}
-use Rattle.pb_model.specs.Trace.{Own, Pending}
+use Rattle.law_model.specs.Trace.{Own, Pending}
 use Rattle.pb_medium.specs.Receptions.{holds, heard_as, heard_by_tap}
 use Rattle.pb_medium.proofs.Receiving.{listed-first}
 use Rattle.pb_medium.proofs.receptions.Reception.at_first.Goals as goal

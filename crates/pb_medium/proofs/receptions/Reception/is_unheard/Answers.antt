@@ -1,6 +1,6 @@
 use Rattle.std.proofs.Common.{ap, sym, ◌∙◌, ◌==◌}
 use Rattle.std.proofs.lemmas.Bool.{le-ltb}
-use Rattle.pb_model.specs.Medium.{is_unheard}
+use Rattle.law_model.specs.Medium.{is_unheard}
 use Rattle.pb_medium.specs.Receptions.{holds}
 use Rattle.pb_medium.proofs.Receiving.{as-unheard, heard-by-all, list-at, list-none}
 use Rattle.pb_medium.proofs.receptions.Reception.is_unheard.Goals as goal

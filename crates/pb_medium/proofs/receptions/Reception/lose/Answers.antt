@@ -1,5 +1,5 @@
 use Rattle.std.proofs.Common.{ap, arith, ◌==◌, refl}
-use Rattle.pb_model.specs.Trace.{Unheard}
+use Rattle.law_model.specs.Trace.{Unheard}
 use Rattle.pb_medium.specs.Receptions.{holds, heard_as}
 use Rattle.pb_medium.proofs.Receiving.{list-length, list-set, set-behind}
 use Rattle.pb_medium.proofs.receptions.Reception.lose.Goals as goal

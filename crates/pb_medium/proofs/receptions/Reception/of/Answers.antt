@@ -1,6 +1,6 @@
 use Rattle.std.proofs.Common.{◌≡◌, ◌∙◌, ap, sym, refl, arith, List, map, length, get_or, set, Bool, true, false, ◌==◌, if◌then◌else◌}
 use Rattle.std.proofs.lemmas.List.{length-map}
-use Rattle.pb_model.specs.Trace.{Heard, Own, Pending, heard_at_first}
+use Rattle.law_model.specs.Trace.{Heard, Own, Pending, heard_at_first}
 use Rattle.pb_medium.specs.Receptions.{holds, heard_as, heard_by_tap}
 use Rattle.pb_medium.specs.Entries.{heard_of}
 use Rattle.pb_medium.specs.declared.entries.Heard.TheVariants as heard

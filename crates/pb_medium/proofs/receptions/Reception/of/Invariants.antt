@@ -1,5 +1,5 @@
 use Rattle.std.proofs.Common.{◌≡◌, ◌++◌, map, take, drop}
-use Rattle.pb_model.specs.Trace.{heard_at_first}
+use Rattle.law_model.specs.Trace.{heard_at_first}
 use Rattle.pb_medium.specs.Entries.{heard_of}
 use Rattle.pb_medium.proofs.receptions.Reception.of.Given as goal
 

@@ -1,7 +1,7 @@
 use Rattle.std.proofs.Common.{◌≡◌, ◌∙◌, ◌<◌, ap, sym, refl, arith, set, get_or, ◌==◌, true, false}
 use Rattle.std.proofs.lemmas.List.{set-get_or}
-use Rattle.pb_model.specs.Trace.{Pending}
-use Rattle.pb_model.specs.Medium.{heard_in_the_end}
+use Rattle.law_model.specs.Trace.{Pending}
+use Rattle.law_model.specs.Medium.{heard_in_the_end}
 use Rattle.pb_medium.specs.Receptions.{holds, heard_as, heard_by_tap}
 use Rattle.pb_medium.proofs.Receiving.{list-length, list-get_or, list-set, came-damaged, came-whole, stays-damaged}
 use Rattle.pb_medium.proofs.receptions.Reception.settle.Goals as goal

@@ -1,6 +1,6 @@
 use Rattle.std.proofs.Common.{◌≡◌, ◌∙◌, ap, sym, subst, map, length, None, rules, arith}
 use Rattle.std.proofs.lemmas.List.{length-map}
-use Rattle.pb_model.specs.World.{next_end_of}
+use Rattle.law_model.specs.World.{next_end_of}
 use Rattle.pb_medium.specs.Airs.{IsCut}
 use Rattle.pb_medium.specs.Entries.{entry_of}
 use Rattle.pb_medium.specs.Traces.{entries_of, recent_of}

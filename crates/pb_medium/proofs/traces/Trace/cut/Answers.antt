@@ -1,5 +1,5 @@
 use Rattle.std.proofs.Common.{refl, map}
-use Rattle.pb_model.specs.Trace.{cut_at}
+use Rattle.law_model.specs.Trace.{cut_at}
 use Rattle.pb_medium.proofs.Lending.{given-back}
 use Rattle.pb_medium.proofs.traces.Trace.cut.Goals as goal
 

@@ -1,7 +1,7 @@
 use Rattle.std.proofs.Common.{◌∙◌, ap}
 use Rattle.std.specs.Prelude.{is_some}
 use Rattle.std.specs.List.{position}
-use Rattle.pb_model.specs.Trace.{is_noise_at}
+use Rattle.law_model.specs.Trace.{is_noise_at}
 use Rattle.pb_medium.specs.Traces.{recent_of}
 use Rattle.pb_medium.proofs.Hitting.{some-placed}
 use Rattle.pb_medium.proofs.traces.Trace.has_noise.Goals as goal

@@ -3,7 +3,7 @@ use Rattle.std.specs.Prelude.{is_some}
 use Rattle.std.specs.List.{list_any, position}
 use Rattle.std.proofs.Math.Bool.{not-not}
 use Rattle.std.proofs.lemmas.Bool.{ne_eqb}
-use Rattle.pb_model.specs.Trace.{begins_from}
+use Rattle.law_model.specs.Trace.{begins_from}
 use Rattle.pb_medium.specs.Traces.{recent_of}
 use Rattle.pb_medium.proofs.Hitting.{some-placed}
 use Rattle.pb_medium.proofs.traces.Trace.has_nothing_to_lose.Goals as goal

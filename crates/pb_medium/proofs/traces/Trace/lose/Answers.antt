@@ -1,7 +1,7 @@
 use Rattle.std.proofs.Common.{◌≡◌, ◌∙◌, ap, sym, refl, Some, None, Bool, not, ◌||◌}
 use Rattle.std.specs.List.{list_any, position}
 use Rattle.std.proofs.lemmas.Bool.{ne_eqb}
-use Rattle.pb_model.specs.Trace.{begins_from, unheard_at}
+use Rattle.law_model.specs.Trace.{begins_from, unheard_at}
 use Rattle.pb_medium.specs.Entries.{entry_of}
 use Rattle.pb_medium.specs.Traces.{recent_of}
 use Rattle.pb_medium.proofs.Hitting.{placed, not-placed, set-behind}

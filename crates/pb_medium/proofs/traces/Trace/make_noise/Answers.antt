@@ -2,9 +2,9 @@ use Rattle.std.proofs.Common.{◌≡◌, ◌∙◌, ap, sym, refl, ◌++◌, ◌
 use Rattle.std.specs.Prelude.{take}
 use Rattle.std.specs.List.{position}
 use Rattle.std.proofs.lemmas.Bool.{ne_eqb, le-leb, lt-leb}
-use Rattle.pb_model.specs.Step.{with_noise}
-use Rattle.pb_model.specs.Trace.{is_noise_at, noisy_until, Noise, with_entry}
-use Rattle.pb_model.specs.World.{trace_limit}
+use Rattle.law_model.specs.Step.{with_noise}
+use Rattle.law_model.specs.Trace.{is_noise_at, noisy_until, Noise, with_entry}
+use Rattle.law_model.specs.World.{trace_limit}
 use Rattle.pb_medium.specs.Entries.{entry_of}
 use Rattle.pb_medium.specs.Noising.{has_noise, has_no_room, RefusesNoise}
 use Rattle.pb_medium.specs.Traces.{entries_of, recent_of, RefusesRoom}

@@ -1,7 +1,7 @@
 use Rattle.std.proofs.Common.{◌∙◌, ap, refl, sym, ◌++◌}
 use Rattle.std.specs.Prelude.{take}
-use Rattle.pb_model.specs.Step.{with_said}
-use Rattle.pb_model.specs.Trace.{with_entry}
+use Rattle.law_model.specs.Step.{with_said}
+use Rattle.law_model.specs.Trace.{with_entry}
 use Rattle.pb_medium.specs.Entries.{entry_of}
 use Rattle.pb_medium.specs.Traces.{entries_of, recent_of}
 use Rattle.pb_medium.proofs.Entering.{spelt-behind}

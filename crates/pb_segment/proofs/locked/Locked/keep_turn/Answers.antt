@@ -1,10 +1,10 @@
 use Rattle.std.proofs.Common.{rules, ◌≡◌, ◌++◌, ◌∷◌, [], length, arith, subst}
 use Rattle.std.proofs.lemmas.Grind.{common_steps}
-use Rattle.pb_model.specs.World.{Turn}
+use Rattle.law_model.specs.World.{Turn}
 use Rattle.pb_segment.specs.Blocks.{happened_in}
 use Rattle.pb_segment.specs.Counts.{counted}
-use Rattle.pb_model.specs.Step.{step}
-use Rattle.pb_bus.specs.Refusals.{fault_of}
+use Rattle.law_model.specs.Step.{step}
+use Rattle.pb_world.specs.Refusals.{fault_of}
 use Rattle.pb_segment.specs.Locked.{LockedView, RefusesToKeep, view_of}
 use Rattle.pb_segment.specs.Notes.{earlier_fault}
 use Rattle.pb_segment.proofs.Noting.{noted_push, refused_first}

@@ -1,6 +1,6 @@
 use Rattle.std.proofs.Common.{rules, ◌∙◌, ◌<◌, ◌++◌, ◌∷◌, [], ap, sym, List, length, arith, length-append}
 use Rattle.std.proofs.lemmas.List.{append-nil}
-use Rattle.pb_turn.specs.Marks.{Mark}
+use Rattle.law_turn.specs.Marks.{Mark}
 use Rattle.pb_station.specs.Notes.{mark_with}
 use Rattle.pb_station.proofs.Noted.{as-many, of-next, marks-next}
 use Rattle.pb_station.proofs.inboxes.Inbox.push_note.Goals as goal

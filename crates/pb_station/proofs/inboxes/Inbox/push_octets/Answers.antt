@@ -1,7 +1,7 @@
 use Rattle.std.proofs.Common.{rules, refl, ◌∙◌, ◌<◌, ◌++◌, ◌∷◌, [], ap, sym, List, length, map, arith, length-append}
 use Rattle.std.proofs.lemmas.List.{append-nil}
 use Rattle.pb_telegram.specs.declared.chars.RxChar.TheVariants.{Good}
-use Rattle.pb_turn.specs.Marks.{Mark, End}
+use Rattle.law_turn.specs.Marks.{Mark, End}
 use Rattle.pb_station.specs.declared.notes.Note.TheVariants as note
 use Rattle.pb_station.proofs.Noted.{as-many, few-octets, of-next, marks-next}
 use Rattle.pb_station.proofs.inboxes.Inbox.push_octets.Goals as goal

@@ -1,8 +1,8 @@
 use Rattle.std.proofs.Common.{subst}
 use Rattle.pb_taps.specs.Events.{event_of}
-use Rattle.pb_bus.specs.Buses.{world_of}
-use Rattle.pb_bus.specs.Worlds.{Goes}
-use Rattle.pb_bus.proofs.Running.{goes}
+use Rattle.pb_world.specs.Buses.{world_of}
+use Rattle.pb_world.specs.Worlds.{Goes}
+use Rattle.pb_world.proofs.Running.{goes}
 use Rattle.pb_world.proofs.worlds.World.does.Goals as goal
 
 pub returns-clause-goes : goal.returns-clause-goes

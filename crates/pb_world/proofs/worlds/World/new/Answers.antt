@@ -1,7 +1,7 @@
 use Rattle.std.proofs.Common.{map}
-use Rattle.pb_bus.specs.Buses.{world_of}
+use Rattle.pb_world.specs.Buses.{world_of}
 use Rattle.pb_taps.specs.Taps.{spec_of}
-use Rattle.pb_live.proofs.Promising.{new_begins}
+use Rattle.law_live.proofs.Promising.{new_begins}
 use Rattle.pb_world.proofs.worlds.World.new.Goals as goal
 
 pub returns-clause-lead : goal.returns-clause-lead

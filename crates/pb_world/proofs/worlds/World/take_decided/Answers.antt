@@ -1,8 +1,8 @@
 use Rattle.std.proofs.Common.{subst, refl, [], ◌∷◌}
-use Rattle.pb_model.specs.World.{Reply, Turn}
-use Rattle.pb_bus.specs.Buses.{world_of}
-use Rattle.pb_live.specs.Promises.{LeadOn}
-use Rattle.pb_live.proofs.Promising.{run_leads_on}
+use Rattle.law_model.specs.World.{Reply, Turn}
+use Rattle.pb_world.specs.Buses.{world_of}
+use Rattle.law_live.specs.Promises.{LeadOn}
+use Rattle.law_live.proofs.Promising.{run_leads_on}
 use Rattle.pb_world.proofs.worlds.World.take_decided.Goals as goal
 
 pub returns-clause-promises : goal.returns-clause-promises

@@ -1,0 +1,108 @@
+-- How long a station holds the token after its last receipt: each moment at which it speaks is bounded by its receipts.
+use Rattle.std.specs.Prelude.{◌≡◌, ℕ, ◌+◌, ◌-◌, ◌*◌, ◌≤◌, ◌⊎◌, Bool, true, false, List, length, Option, Some, None, IfSome}
+use Rattle.pb_telegram.specs.Faults.{is_token}
+use Rattle.pb_timers.specs.Timers.{Params, bits}
+use Rattle.pb_rotation.specs.Rotation.{Receipt}
+use Rattle.pb_cycles.specs.declared.initiators.OpenRequest.{OpenRequest}
+use Rattle.law_turn.specs.Arrivals.{Arrival, Token, Framed, Acknowledgement, NoTelegram, arrival_of}
+use Rattle.law_turn.specs.Marks.{Mark, Begin, End}
+use Rattle.law_turn.specs.Phases.{Phase, Offline, PassiveIdle, Listening, Idle, Claim, Use, AwaitData, AwaitStatus, Pass, Checking, may_initiate}
+use Rattle.law_turn.specs.Stations.{Station}
+use Rattle.law_live.specs.NeverDead.{longest, attempt, tries, cycle}
+
+-- The latest moment at which a holder speaks next, given a moment before which it had its last two receipts and noise
+-- was over: a cycle starts within the target rotation time, and one of high priority after it.
+abbrev pub limit : Params → ℕ → Bool → ℕ
+limit p d false = d + (p.ttr - 1) + cycle p
+limit p d true = d + (p.ttr - 1) + cycle p + cycle p
+
+-- whether no cycle of high priority may start after the target rotation time
+abbrev pub has_used : Option Receipt → Bool
+has_used None = true
+has_used (Some r) = r.high
+
+-- the retries that are left
+abbrev pub left_of : Option OpenRequest → ℕ
+left_of None = 0
+left_of (Some o) = o.left
+
+-- what is left of a holder's time, given the moment at which its own last telegram began
+abbrev pub SpendsBy : Params → (end left begin : ℕ) → Phase → Type 0
+SpendsBy p end left begin Offline = Unit {0}
+SpendsBy p end left begin PassiveIdle = Unit {0}
+SpendsBy p end left begin (Listening doubled) = Unit {0}
+SpendsBy p end left begin (Idle refused) = Unit {0}
+SpendsBy p end left begin (Claim sent ready) = Unit {0}
+SpendsBy p end left begin (Use asked ready) = ready + p.lag ≤ end
+SpendsBy p end left begin (AwaitData asked retry slot) =
+    (begin + tries left (attempt p) + attempt p ≤ end) × (left ≤ p.retries) × IfSome retry (λ m. m + p.lag + tries left (attempt p) ≤ end)
+SpendsBy p end left begin (AwaitStatus of slot) = begin + attempt p ≤ end
+SpendsBy p end left begin (Pass tries ready) = Unit {0}
+SpendsBy p end left begin (Checking tries) = Unit {0}
+
+-- both receipts that count were before a moment
+abbrev pub ReceivedBy : ℕ → Option Receipt → Type 0
+ReceivedBy d last = IfSome last (λ r. (r.at ≤ d) × (r.previous ≤ d))
+
+-- a station that has time left while it holds the token
+pub record Spends (p : Params) (d : ℕ) (s : Station) : Type 0 where
+  pub target : s.rotation.ttr ≡ p.ttr
+  pub received : ReceivedBy d s.rotation.last
+  pub retries : s.cycles.initiator.retries ≡ p.retries
+  pub short : s.own.end ≤ s.own.begin + longest
+  pub spends : SpendsBy p (limit p d (has_used s.rotation.last)) (left_of s.cycles.initiator.pending) s.own.begin s.phase
+
+-- What a turn sends: no more than the longest telegram; and a token, and thus its receipt, ends by the moment.
+abbrev pub IsSaidBy : ℕ → ℕ → Option (List ℕ) → Type 0
+IsSaidBy d now said = IfSome said (λ octets. (bits (length octets) ≤ longest) × (is_token octets ≡ true → now + bits (length octets) ≤ d))
+
+-- what it sends, if it is no token, leaves time for all that follows it
+abbrev pub LeavesTail : Params → ℕ → ℕ → Option (List ℕ) → Type 0
+LeavesTail p d now said = IfSome said (λ octets. is_token octets ≡ false → now + attempt p ≤ limit p d true)
+
+-- if a token is heard
+abbrev pub IfToken : Arrival → Type 0 → Type 0
+IfToken (Token da sa) X = X
+IfToken (Framed f) X = Unit {0}
+IfToken Acknowledgement X = Unit {0}
+IfToken NoTelegram X = Unit {0}
+
+-- an End is within the time of an attempt, or by the moment by which noise was over
+abbrev pub EndsInTime : Params → (d begin at : ℕ) → Type 0
+EndsInTime p d begin at = (at ≤ d) ⊎ (at ≤ begin + 2 * longest + (p.tsl - 1))
+
+-- an End is in time, if the phase waits for a reply
+abbrev pub IfAwaited : Phase → Type 0 → Type 0
+IfAwaited Offline X = Unit {0}
+IfAwaited PassiveIdle X = Unit {0}
+IfAwaited (Listening doubled) X = Unit {0}
+IfAwaited (Idle refused) X = Unit {0}
+IfAwaited (Claim sent ready) X = Unit {0}
+IfAwaited (Use asked ready) X = Unit {0}
+IfAwaited (AwaitData asked retry slot) X = X
+IfAwaited (AwaitStatus of slot) X = X
+IfAwaited (Pass tries ready) X = Unit {0}
+IfAwaited (Checking tries) X = Unit {0}
+
+-- the requirement on a mark: a token ended by the moment, and what ends while a reply is awaited ends in time
+abbrev pub Comes : Params → ℕ → Station → Mark → Type 0
+Comes p d s (Begin at seen) = Unit {0}
+Comes p d s (End at seen chars) = IfToken (arrival_of chars) (at ≤ d) × IfAwaited s.phase (EndsInTime p d s.own.begin at)
+
+-- what a phase sends keeps within the time; and what a holder sends, if it is no token, leaves time for all that
+-- follows it
+abbrev pub PhaseSays : Params → (d now : ℕ) → Phase → Station × Option (List ℕ) → Type 0
+PhaseSays p d now ph turn = IsSaidBy d now turn.1 → Spends p d turn.0 × (may_initiate ph ≡ true → LeavesTail p d now turn.1)
+
+-- a phase that uses the token
+abbrev pub IsCycling : Phase → Type 0
+IsCycling Offline = ⊥
+IsCycling PassiveIdle = ⊥
+IsCycling (Listening doubled) = ⊥
+IsCycling (Idle refused) = ⊥
+IsCycling (Claim sent ready) = ⊥
+IsCycling (Use asked ready) = Unit {0}
+IsCycling (AwaitData asked retry slot) = Unit {0}
+IsCycling (AwaitStatus of slot) = Unit {0}
+IsCycling (Pass tries ready) = ⊥
+IsCycling (Checking tries) = ⊥

@@ -1,0 +1,16 @@
+pub mod LastRecords
+pub mod FreshTap
+pub mod Waiting
+pub mod NewNoise
+pub mod StoppedTap
+pub mod Near
+pub mod NearTaps
+pub mod NearTrace
+pub mod Changes
+pub mod Request
+pub mod Damage
+pub mod Noise
+pub mod Start
+pub mod Stop
+pub mod Loss
+pub mod NearLegal

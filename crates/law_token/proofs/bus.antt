@@ -1,0 +1,14 @@
+pub mod Lists
+pub mod Pairs
+pub mod Hearers
+pub mod Live
+pub mod Spans
+pub mod Claims
+pub mod Order
+pub mod Legal
+pub mod Waits
+pub mod Spelling
+pub mod Neighbours
+pub mod NewWorlds
+pub mod Speakers
+pub mod Kept

@@ -1,0 +1,10 @@
+pub mod Marks
+pub mod Taps
+pub mod Alike
+pub mod Brings
+pub mod AllTaps
+pub mod WholePass
+pub mod Spelled
+pub mod PassedRecords
+pub mod PassedLegal
+pub mod Namesakes

@@ -1,0 +1,13 @@
+pub mod Initiator
+pub mod Said
+pub mod Actions
+pub mod Afterwards
+pub mod Warrants
+pub mod Meaning
+pub mod Trace
+pub mod Records
+pub mod Kept
+pub mod Last
+pub mod SaidOctets
+pub mod WholeTurn
+pub mod Inactive

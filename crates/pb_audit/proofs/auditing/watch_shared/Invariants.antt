@@ -1,9 +1,0 @@
-use Rattle.std.proofs.Common.{map}
-use Rattle.std.specs.Prelude.{take}
-use Rattle.pb_bus.specs.Worlds.{lent_event}
-use Rattle.pb_audit.specs.Watched.{HasCome, world_in}
-use Rattle.pb_audit.proofs.auditing.watch_shared.Given as goal
-
--- it has come by the events so far
-abbrev pub invariant-loop-place : goal.invariant-loop-place
-invariant-loop-place l = HasCome l.watched (world_in l.initial.watched) (take l.place (map lent_event l.events))

@@ -1,6 +1,0 @@
-use Rattle.std.proofs.Common.{refl, arith}
-use Rattle.pb_audit.proofs.Legal.{no-ends}
-use Rattle.pb_audit.proofs.ends.Ends.none.Goals as goal
-
-pub returns : goal.returns
-returns c = λ delay moment. no-ends delay moment _ refl (omega (arith, c.min.ensures)) refl

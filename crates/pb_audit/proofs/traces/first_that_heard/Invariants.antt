@@ -1,9 +1,0 @@
-use Rattle.std.proofs.Common.{◌≡◌, map, drop}
-use Rattle.pb_theorem.specs.Naming.{first_that_heard}
-use Rattle.pb_taps.specs.Taps.{spec_of}
-use Rattle.pb_audit.proofs.traces.first_that_heard.Given as goal
-
--- what is left decides
-abbrev pub invariant-loop-tap : goal.invariant-loop-tap
-invariant-loop-tap l =
-    first_that_heard l.last.heard l.to 0 (map spec_of l.taps) ≡ first_that_heard l.last.heard l.to l.tap (drop l.tap (map spec_of l.taps))

@@ -1,9 +1,0 @@
-pub mod Premises
-pub mod Judging
-pub mod Ends
-pub mod Auditing
-pub mod Watched
-pub mod Meanings
-pub mod Traces
-pub mod Reasons
-pub mod Liveness

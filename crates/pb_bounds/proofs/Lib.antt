@@ -1,2 +1,0 @@
-pub mod Taps
-pub mod Pieces

@@ -1,6 +1,0 @@
-use Rattle.std.proofs.Common.{rules}
-use Rattle.pb_bus.proofs.Showing.{fits}
-use Rattle.pb_bus.proofs.buses.Bus.fits_decided.Goals as goal
-
-pub returns : goal.returns
-returns c = search (rules, fits c.args.self.now c.args.decided.now c.requires, c.deref.ensures.value)

@@ -1,6 +1,0 @@
-pub mod Arrivals
-pub mod Clocks
-pub mod Cores
-pub mod Cycles
-pub mod Replies
-pub mod Sending

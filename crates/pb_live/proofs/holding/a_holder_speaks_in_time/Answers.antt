@@ -1,5 +1,0 @@
-use Rattle.pb_live.proofs.HoldersSpeak.{speaks-by}
-use Rattle.pb_live.proofs.holding.a_holder_speaks_in_time.Goals as goal
-
-pub returns : goal.returns
-returns c p d moment s e cycling o = speaks-by p d s s.phase moment e cycling o

@@ -1,2 +1,0 @@
-pub mod SaidOctets
-pub mod Waiting

@@ -1,5 +1,0 @@
-use Rattle.pb_model.proofs.Worlds.{replay-refused}
-use Rattle.pb_model.proofs.world_laws.a_refused_event_changes_nothing.Goals as goal
-
-pub returns : goal.returns
-returns c = replay-refused

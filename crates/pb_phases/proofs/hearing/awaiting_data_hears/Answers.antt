@@ -1,5 +1,0 @@
-use Rattle.std.proofs.Common.{rules}
-use Rattle.pb_phases.proofs.hearing.awaiting_data_hears.Goals as goal
-
-pub returns-in-Some-Token : goal.returns-in-Some-Token
-returns-in-Some-Token c queue = let h = c.token_lost.ensures queue in search rules

@@ -1,5 +1,0 @@
-use Rattle.std.proofs.Common.{rules}
-use Rattle.pb_phases.proofs.timers.given_up.Goals as goal
-
-pub returns : goal.returns
-returns c queue = let h = c.give_up.ensures queue in search rules

@@ -1,3 +1,0 @@
-pub mod Left
-pub mod Cuts
-pub mod Said

@@ -1,5 +1,0 @@
-use Rattle.pb_runs.proofs.OnTheBus.{run-is-history-of}
-use Rattle.pb_runs.proofs.laws.a_run_is_a_history_in_instants.Goals as goal
-
-pub returns : goal.returns
-returns c = run-is-history-of

@@ -1,0 +1,61 @@
+//! Advances a walk through steps, and keeps until when each tap is withheld.
+
+ghost use Rattle.std.specs.Prelude.{◌≡◌, ◌<◌, ◌≤◌, ◌^◌, nat_lt};
+ghost use Rattle.std.specs.List.{prefix_len};
+ghost use Rattle.pb_timers.specs.Timers.{last_moment};
+ghost use Rattle.pb_scenario.specs.Cutting.{CutsAt};
+ghost use Rattle.pb_scenario.specs.Steps.{deed_of, steps_of};
+ghost use Rattle.pb_scenario.specs.Walks.{AreBefore, AreFrom, hold_tap, hold_one, hold_all};
+
+use crate::deeds::{Deed, Step};
+
+/// The steps at a moment and those after it, of steps in order of time. Updates until when each tap is withheld by the
+/// steps up to that moment.
+pub(crate) fn advance<'a>(later: &'a [Step], at: u64, held: &mut [u64]) -> (&'a [Step], &'a [Step])
+    requires order { AreFrom 0 (steps_of later.now) }
+    requires moment { at ≤ last_moment }
+    ensures { CutsAt at later.now result.0.now result.1.now held.old held.new }
+{
+    let (past, left) = later.split_at(count_before(later, at));
+    let (today, rest) = left.split_at(count_before(left, at + 1));
+    hold(held, past);
+    hold(held, today);
+    (today, rest)
+}
+
+/// How many of the first steps are before a moment.
+fn count_before(steps: &[Step], at: u64) -> usize
+    ensures { result ≡ prefix_len (λ s. nat_lt s.at at) steps.now }
+{
+    steps.iter().take_while(|step| step.at < at).count()
+}
+
+/// Updates until when some steps withhold the taps.
+fn hold(held: &mut [u64], steps: &[Step])
+    requires { AreBefore (2 ^ 63) (steps_of steps.now) }
+    ensures { held.new ≡ hold_all held.old (steps_of steps.now) }
+{
+    for step in steps {
+        hold_one(held, step);
+    }
+}
+
+/// Updates until when a step withholds a tap.
+fn hold_one(held: &mut [u64], step: &Step)
+    requires { step.now.at < 2 ^ 63 }
+    ensures { held.new ≡ hold_one held.old step.now.at (deed_of step.now.deed) }
+{
+    match step.deed {
+        Deed::Happens(_) => {}
+        Deed::Withhold { tap, bits } => hold_tap(held, tap, step.at + u64::from(bits)),
+    }
+}
+
+/// Withholds a tap until a moment or longer. An index without a tap is ignored.
+fn hold_tap(held: &mut [u64], tap: usize, until: u64)
+    ensures { held.new ≡ hold_tap held.old tap until }
+{
+    if tap < held.len() {
+        held[tap] = held[tap].max(until);
+    }
+}

@@ -1,3 +1,0 @@
-pub mod Reading
-pub mod Outcomes
-pub mod Tellings

@@ -1,6 +1,0 @@
-use Rattle.std.proofs.Common.{◌≡◌, map}
-use Rattle.std.specs.List.{flat_map}
-use Rattle.pb_show.proofs.tails.last_lines.Given as goal
-
-abbrev pub invariant-loop-line : goal.invariant-loop-line
-invariant-loop-line l = l.last.items ≡ flat_map (λ line. line) (map (λ line. line.now.now) l.yielded)

@@ -1,0 +1,29 @@
+//! Why a scenario file or its run is refused.
+
+use crate::documents::Document;
+use crate::file_hints::of_file;
+use crate::run_hints::of_run;
+use pb_scenario::{ScenarioFault, read};
+use std::alloc::{AllocError, Global};
+
+/// How many events the history of a run may have.
+pub const MOST_EVENTS: u64 = 1_000_000;
+
+/// Why the run of a scenario file is refused, for people: a line with the place, what was found and what is wanted; no
+/// text where it isn't refused. `name` is the file's name as people gave it. `events` is how many events a run may
+/// have, `None` where there is no limit.
+///
+/// It takes as long as the run on one thread. Fault: memory was refused.
+pub fn explain(
+    alloc: Global,
+    name: &str,
+    file: &[u8],
+    events: Option<u64>,
+) -> Result<String, AllocError> {
+    let document = Document { alloc, name, file };
+    match read(alloc, file) {
+        Ok(scenario) => of_run(&document, &scenario, events),
+        Err(ScenarioFault::NoMemory) => Err(AllocError),
+        Err(fault) => of_file(&document, &fault),
+    }
+}

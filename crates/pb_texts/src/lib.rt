@@ -1,0 +1,44 @@
+//! What the program writes for a scenario file, as values: traces, audits, the numbers of proved bounds, the lines of
+//! faults, and hints for people. Contracts name the bytes, but those of hints.
+#![tactic(auto)]
+
+mod audit_hints;
+mod audits;
+mod bounds;
+mod documents;
+mod entries;
+mod explaining;
+mod faults;
+mod file_hints;
+mod file_values;
+mod files;
+mod json;
+mod key_hints;
+mod names;
+mod near_words;
+mod numbers;
+mod param_hints;
+mod plays;
+mod run_hints;
+mod shown;
+mod tails;
+mod texts;
+mod warnings;
+
+pub use audit_hints::explain_audit;
+pub use bounds::{is_round_long, lag_margin, masters_of, never_asks, reply_margin, shortest_rotation, silence_bound, take_margin};
+pub use explaining::{MOST_EVENTS, explain};
+pub use faults::{new_line, refused_line};
+pub use files::{audited, described, refused_file};
+pub use json::bounds_json;
+pub use pb_scenario::{Reasons, Scenario};
+pub use plays::traced;
+pub use shown::Shown;
+pub use texts::bounds_text;
+pub use warnings::warn;
+
+#[cfg(test)]
+mod tests;
+
+#[cfg(test)]
+mod hint_tests;

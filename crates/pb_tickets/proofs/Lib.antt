@@ -1,2 +1,0 @@
-mod Totals
-mod Given

@@ -1,5 +1,0 @@
-use Rattle.pb_token.proofs.NewWorlds.{new_invariant}
-use Rattle.pb_token.proofs.events.a_new_world_has_the_invariant.Goals as goal
-
-pub returns : goal.returns
-returns c = new_invariant

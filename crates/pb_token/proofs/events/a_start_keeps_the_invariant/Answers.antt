@@ -1,5 +1,0 @@
-use Rattle.pb_token.proofs.Starts.{start_invariant}
-use Rattle.pb_token.proofs.events.a_start_keeps_the_invariant.Goals as goal
-
-pub returns : goal.returns
-returns c = start_invariant

@@ -1,5 +1,0 @@
-use Rattle.pb_token.proofs.Stops.{stop_invariant}
-use Rattle.pb_token.proofs.events.a_stop_keeps_the_invariant.Goals as goal
-
-pub returns : goal.returns
-returns c = stop_invariant

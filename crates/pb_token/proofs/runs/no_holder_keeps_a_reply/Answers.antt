@@ -1,5 +1,0 @@
-use Rattle.pb_token.proofs.Sensing.{silent_in_runs}
-use Rattle.pb_token.proofs.runs.no_holder_keeps_a_reply.Goals as goal
-
-pub returns : goal.returns
-returns c = silent_in_runs

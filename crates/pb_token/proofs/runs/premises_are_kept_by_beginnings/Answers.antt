@@ -1,5 +1,0 @@
-use Rattle.pb_token.proofs.JoinedRuns.{unbroken_before}
-use Rattle.pb_token.proofs.runs.premises_are_kept_by_beginnings.Goals as goal
-
-pub returns : goal.returns
-returns c = unbroken_before

@@ -1,5 +1,0 @@
-use Rattle.pb_token.proofs.Reached.{bound_is_reached}
-use Rattle.pb_token.proofs.silence.the_silence_bound_is_reached.Goals as goal
-
-pub returns : goal.returns
-returns c = bound_is_reached

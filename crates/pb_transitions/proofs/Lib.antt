@@ -1,0 +1,10 @@
+pub mod Arriving
+pub mod Closing
+pub mod Incomplete
+pub mod Responses
+pub mod Equal
+pub mod Looking
+pub mod Others
+pub mod Speaking
+pub mod Taking
+pub mod TimeOuts

@@ -1,5 +1,0 @@
-use Rattle.pb_turn.proofs.Moments.{turn_of-busy}
-use Rattle.pb_turn.proofs.laws.a_busy_station_waits.Goals as goal
-
-pub returns : goal.returns
-returns c = turn_of-busy

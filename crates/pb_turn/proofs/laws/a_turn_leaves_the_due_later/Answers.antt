@@ -1,5 +1,0 @@
-use Rattle.pb_turn.proofs.Moments.{later-turn_of}
-use Rattle.pb_turn.proofs.laws.a_turn_leaves_the_due_later.Goals as goal
-
-pub returns : goal.returns
-returns c = later-turn_of

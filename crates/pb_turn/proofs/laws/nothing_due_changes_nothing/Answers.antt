@@ -1,5 +1,0 @@
-use Rattle.pb_turn.proofs.Moments.{turn_of-nothing_due}
-use Rattle.pb_turn.proofs.laws.nothing_due_changes_nothing.Goals as goal
-
-pub returns : goal.returns
-returns c = turn_of-nothing_due

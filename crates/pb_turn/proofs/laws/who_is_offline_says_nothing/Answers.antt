@@ -1,5 +1,0 @@
-use Rattle.pb_turn.proofs.Moments.{turn_of-offline}
-use Rattle.pb_turn.proofs.laws.who_is_offline_says_nothing.Goals as goal
-
-pub returns : goal.returns
-returns c = turn_of-offline

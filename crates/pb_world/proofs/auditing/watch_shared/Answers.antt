@@ -1,0 +1,13 @@
+use Rattle.std.proofs.Common.{sym, subst, map}
+use Rattle.std.specs.Prelude.{take}
+use Rattle.pb_world.specs.Worlds.{lent_event}
+use Rattle.pb_taps.proofs.Items.{passed-at}
+use Rattle.pb_world.specs.Watched.{HasCome, world_in}
+use Rattle.pb_world.proofs.auditing.watch_shared.Goals as goal
+
+pub loop-place-preserved : goal.loop-place-preserved
+loop-place-preserved c =
+    let start = world_in c.args.watched.now in
+    let i = c.loop-place.place in
+    let passed = passed-at lent_event c.args.events.now i c.index-events-place.result c.loop-place-test.true c.index-events-place.is in
+    subst (HasCome c.follow.new.self start) (sym passed) (c.in_default.ensures.came start (take i (map lent_event c.args.events.now)) c.loop-place.invariant)

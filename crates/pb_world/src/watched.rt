@@ -1,0 +1,99 @@
+//! A bus that is watched from its first event on, and judged at any time.
+
+ghost use Rattle.std.specs.Prelude.{◌≡◌, [], Ok, IfOk, IfErr, map};
+ghost use Rattle.std.specs.Option.{option_map};
+ghost use Rattle.law_model.specs.World.{new_world};
+ghost use Rattle.pb_world.specs.Auditing.{broken_at};
+ghost use Rattle.pb_world.specs.Premises.{broken_of};
+ghost use Rattle.pb_world.specs.Watched.{HasCome, world_in};
+ghost use Rattle.pb_taps.specs.Faults.{RefusesNew};
+ghost use Rattle.pb_taps.specs.Taps.{spec_of};
+
+use crate::addresses::Addresses;
+use crate::findings::Audit;
+use crate::legality::first_illegal;
+use crate::premises::{Breach, Watch, follow};
+use crate::buses::Bus;
+use crate::making::new_bus;
+use pb_taps::{Event, NewFault, TapSpec, WorldFault};
+use pb_timers::{BusParams, Moment};
+use std::alloc::Global;
+
+/// A bus that is watched from its first event on. Its run can be judged at any time.
+#[derive(Drop)]
+pub struct Watched {
+    pub(crate) bus: Bus,
+    pub(crate) watch: Watch,
+}
+
+/// A watched bus at clock 0. No tap runs yet.
+///
+/// Faults: those of the new bus.
+pub fn new_watched(alloc: Global, params: BusParams, specs: &[TapSpec]) -> Result<Watched, NewFault>
+    ensures new { IfOk result (λ w. new_world params (map spec_of specs.now) ≡ Ok (world_in w)) }
+    ensures came { IfOk result (λ w. HasCome w (world_in w) []) }
+    ensures fault { IfErr result (RefusesNew (new_world params (map spec_of specs.now))) }
+{
+    let bus = new_bus(alloc, params, specs)?;
+    Ok(Watched {
+        bus,
+        watch: Watch::new(),
+    })
+}
+
+impl Watched {
+    ghost use Rattle.std.specs.Prelude.{◌≡◌, IfErr, OnOk, Ok};
+    ghost use Rattle.law_model.specs.Step.{step};
+    ghost use Rattle.law_model.specs.World as model;
+    ghost use Rattle.pb_taps.specs.Events.{event_of};
+    ghost use Rattle.pb_taps.specs.Faults.{Refuses};
+    ghost use Rattle.pb_world.specs.Watched.{FindsIn, GoesOnBy, IsOfNew, IsWatched, world_in};
+
+    /// Applies an event, and judges it by the premises.
+    ///
+    /// Faults: those of the event on a bus. After a fault, the bus must not be watched further.
+    pub fn follow(&mut self, alloc: Global, event: &Event) -> Result<(), WorldFault>
+        requires { IsWatched self.old }
+        ensures watched { OnOk result (IsWatched self.new) }
+        ensures came { OnOk result (GoesOnBy self.old (event_of event.now) self.new) }
+        ensures steps { OnOk result ((reply : model.Reply)
+            × (step (world_in self.old) (event_of event.now) ≡ Ok (world_in self.new, reply))) }
+        ensures err { IfErr result (λ fault. (world_in self.new ≡ world_in self.old)
+            × Refuses (world_in self.old) (event_of event.now)
+            (step (world_in self.old) (event_of event.now)) fault) }
+    {
+        follow(&mut self.watch, alloc, &mut self.bus, event)?;
+        Ok(())
+    }
+
+    /// What an audit finds in the events so far. The caller ensures that they have led to this bus from a new one, and
+    /// that none was refused.
+    pub fn judge(&self) -> Audit
+        requires { IsOfNew self.now }
+        ensures { FindsIn self.entry.now result }
+    {
+        Audit {
+            premise: numbered(self.watch.first_broken()),
+            illegal: first_illegal(
+                &self.bus.params,
+                Addresses::OfTaps(&self.bus.taps),
+                self.bus.trace.entries(),
+            ),
+        }
+    }
+
+    /// The bus after the events so far.
+    pub fn bus(&self) -> &Bus
+        ensures { result.now ≡ self.entry.now.bus }
+    {
+        &self.bus
+    }
+}
+
+/// The premise that broke, by its number, with the clock.
+fn numbered(broken: Option<Breach>) -> Option<(u8, Moment)>
+    ensures { option_map broken_at result ≡ option_map broken_of broken }
+{
+    let breach = broken?;
+    Some((breach.premise.number(), breach.clock))
+}
