@@ -3,6 +3,5 @@
 
 #[cfg(test)]
 mod scenarios;
-
 #[cfg(test)]
 mod tests;

@@ -14,7 +14,10 @@ use arrayvec::ArrayVec;
 use pb_cycles::{Outcome, Request, Service};
 use pb_station::{SendBuffer, Station, decide, decide_in};
 use pb_timers::BusParams;
-use pb_world::{AuditFault, Entry, Event, Heard, Kind, NewFault, Reply, TapSpec, World, WorldFault, audit, audit_shared, run, run_shared};
+use pb_world::{
+    AuditFault, Entry, Event, Heard, Kind, NewFault, Reply, TapSpec, World, WorldFault, audit,
+    audit_shared, run, run_shared,
+};
 use std::fmt::Debug;
 use std::process::Abort;
 

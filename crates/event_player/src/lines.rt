@@ -4,7 +4,10 @@ use crate::lists::EventList;
 use crate::shared::Usual;
 use pb_cycles::{Request, Service};
 use pb_timers::{BusParams, Moment};
-use pb_world::{Audit, Entry, Event, Heard, NewFault, Record, Reply, TapSpec, World, WorldFault, audit_shared, run_shared};
+use pb_world::{
+    Audit, Entry, Event, Heard, NewFault, Record, Reply, TapSpec, World, WorldFault, audit_shared,
+    run_shared,
+};
 use std::alloc::{AllocError, Global};
 
 /// What is printed for an event list.

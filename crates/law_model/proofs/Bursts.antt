@@ -11,7 +11,7 @@ use Rattle.law_model.specs.Trace.{Entry}
 use Rattle.law_model.specs.Medium.{Tap, sensed, begins_at, ends_at, lasts_through, burst_begins, burst_ends, burst_characters, begins_in, ends_in, begin_mark, end_mark, marks_between}
 use Rattle.law_model.specs.Laws.{is_open, begin_of, marks_of_pass}
 use Rattle.law_model.proofs.Cases.{by_test}
-use Rattle.law_model.proofs.Window.{EachSpan, spans_map, Solid, OverS, NoBegin, Opened, SensesS, WindowOf, window, begin_found, any_false, all_false, any_true, not_false, not_found, through_false, not_through, both_true}
+use Rattle.law_model.proofs.Window.{EachSpan, spans_map, Solid, OverSince, NoBegin, Opened, SensesS, WindowOf, window, begin_found, any_false, all_false, any_true, not_false, not_found, through_false, not_through, both_true}
 
 -- ---- what is open
 
@@ -28,7 +28,7 @@ senses_by m xs true lasts =
 pub senses : (m : ℕ) (xs : List Span) → SensesS (is_open xs m) m xs
 senses m xs = senses_by m xs (is_open xs m) refl
 
-pub shut_at : (m : ℕ) (xs : List Span) → OverS m m xs → is_open xs m ≡ false
+pub shut_at : (m : ℕ) (xs : List Span) → OverSince m m xs → is_open xs m ≡ false
 shut_at m xs over = all_false (lasts_through m) xs (spans_map (λ x. (m ≤ x.begin) ⊎ (x.end ≤ m)) (λ x. lasts_through m x ≡ false) xs (λ x h. through_false m x h) over)
 
 open_by : (m : ℕ) (xs : List Span) → Opened m xs → (b : Bool) → is_open xs m ≡ b → is_open xs m ≡ true
@@ -39,7 +39,7 @@ pub open_at : (m : ℕ) (xs : List Span) → Opened m xs → is_open xs m ≡ tr
 open_at m xs opened = open_by m xs opened (is_open xs m) refl
 
 -- what was over, and begins no more, is over later
-still_over : (from to : ℕ) (xs : List Span) → from < to → OverS from from xs → NoBegin from to xs → OverS to to xs
+still_over : (from to : ℕ) (xs : List Span) → from < to → OverSince from from xs → NoBegin from to xs → OverSince to to xs
 still_over from to [] later over none = tt
 still_over from to (x ∷ xs) later over none = (
   ⊎_elim (λ (a : x.begin < from). ⊎_elim (λ (b : from ≤ x.begin). absurd (omega arith)) (λ (b : x.end ≤ from). inr (omega arith)) over.0) (λ (a : to ≤ x.begin). inl a) none.0,

@@ -55,21 +55,21 @@ abbrev pub SolidO : ℕ → ℕ → Option Span → Type 0
 SolidO now to None = Unit {0}
 SolidO now to (Some x) = Solid now to x
 
-abbrev pub OverS : (now q : ℕ) → List Span → Type 0
-OverS now q xs = EachSpan (λ x. (now ≤ x.begin) ⊎ (x.end ≤ q)) xs
+abbrev pub OverSince : (now q : ℕ) → List Span → Type 0
+OverSince now q xs = EachSpan (λ x. (now ≤ x.begin) ⊎ (x.end ≤ q)) xs
 
 abbrev pub NoBegin : (from to : ℕ) → List Span → Type 0
 NoBegin from to xs = EachSpan (λ x. (x.begin < from) ⊎ (to ≤ x.begin)) xs
 
 abbrev pub Opened : ℕ → List Span → Type 0
-Opened to xs = (q : ℕ) → OverS to q xs → to < q
+Opened to xs = (q : ℕ) → OverSince to q xs → to < q
 
 abbrev pub ClosedAt : ℕ → List Span → Type 0
-ClosedAt to xs = OverS to to xs × ((q : ℕ) → OverS to q xs → to ≤ q)
+ClosedAt to xs = OverSince to to xs × ((q : ℕ) → OverSince to q xs → to ≤ q)
 
 abbrev pub SensesS : Bool → ℕ → List Span → Type 0
 SensesS true from xs = Opened from xs
-SensesS false from xs = OverS from from xs
+SensesS false from xs = OverSince from from xs
 
 -- the first that begins in the window
 record Earliest (from to : ℕ) (xs : List Span) : Type 0 where
@@ -163,7 +163,7 @@ begin_found from to xs x solid e =
       solid = f.1;
     }
 
-no_begin : (from to : ℕ) (xs : List Span) → OverS from from xs → find (begins_in xs from to) xs ≡ None → NoBegin from to xs
+no_begin : (from to : ℕ) (xs : List Span) → OverSince from from xs → find (begins_in xs from to) xs ≡ None → NoBegin from to xs
 no_begin from to xs over e = by (earliest from to xs)
   where
     fails : EachSpan (λ x. begins_in xs from to x ≡ false) xs
@@ -204,10 +204,10 @@ end_found from to xs y solid e =
       ),
     )
 
-no_end : (from to q : ℕ) (xs : List Span) → from < to → EachSpan (Solid from to) xs → find (ends_in xs from to) xs ≡ None → OverS to q xs → q ≤ to → OverS to from xs
+no_end : (from to q : ℕ) (xs : List Span) → from < to → EachSpan (Solid from to) xs → find (ends_in xs from to) xs ≡ None → OverSince to q xs → q ≤ to → OverSince to from xs
 no_end from to q xs later solid e over le = by (list_any (ends_at to) xs) refl
   where
-    rest : EachSpan (λ z. z.end ≡ to → ⊥) xs → OverS to from xs
+    rest : EachSpan (λ z. z.end ≡ to → ⊥) xs → OverSince to from xs
     rest other =
         spans_both (λ z. (to ≤ z.begin) ⊎ (z.end ≤ q)) (λ z. Solid from to z × (z.end ≡ to → ⊥)) (λ z. (to ≤ z.begin) ⊎ (z.end ≤ from)) xs
         (λ z a b. ⊎_elim (λ (u : to ≤ z.begin). inl u)
@@ -218,7 +218,7 @@ no_end from to q xs later solid e over le = by (list_any (ends_at to) xs) refl
     none = all_false (lasts_through to) xs (spans_map (λ z. (to ≤ z.begin) ⊎ (z.end ≤ q)) (λ z. lasts_through to z ≡ false) xs
         (λ z a. through_false to z (⊎_elim (λ (u : to ≤ z.begin). inl u) (λ (u : z.end ≤ q). inr (omega arith)) a)) over)
 
-    by : (b : Bool) → list_any (ends_at to) xs ≡ b → OverS to from xs
+    by : (b : Bool) → list_any (ends_at to) xs ≡ b → OverSince to from xs
     by false f = rest (spans_map (λ z. ends_at to z ≡ false) (λ z. z.end ≡ to → ⊥) xs (λ z h same. let yes_ : ends_at to z ≡ true = eq-eqb z.end to same in let wrong : true ≡ false = sym yes_ ∙ h in cc) (any_false (ends_at to) xs f))
     by true f = rest (spans_map (λ z. ends_in xs from to z ≡ false) (λ z. z.end ≡ to → ⊥) xs
         (λ z no_ same.
@@ -265,12 +265,12 @@ window from to xs false (Some x) (Some y) later solid senses fb fe =
 window from to xs true None None later solid senses fb fe = λ q over. ⊎_elim (λ (a : to < q). a)
     (λ (a : q ≤ to).
     let none = no_end from to q xs later solid fe over a in
-    let early : OverS from from xs = spans_map (λ z. (to ≤ z.begin) ⊎ (z.end ≤ from)) (λ z. (from ≤ z.begin) ⊎ (z.end ≤ from)) xs (λ z h. ⊎_elim (λ (u : to ≤ z.begin). inl (omega arith)) (λ (u : z.end ≤ from). inr u) h) none in
+    let early : OverSince from from xs = spans_map (λ z. (to ≤ z.begin) ⊎ (z.end ≤ from)) (λ z. (from ≤ z.begin) ⊎ (z.end ≤ from)) xs (λ z h. ⊎_elim (λ (u : to ≤ z.begin). inl (omega arith)) (λ (u : z.end ≤ from). inr u) h) none in
     let h = senses from early in omega (arith, h))
     (cases_lt to q)
 window from to xs true (Some x) e later solid senses fb fe =
     let f = begin_found from to xs x solid fb in
-    let early : OverS from from xs = spans_both (λ y. (x.begin ≤ y.begin) ⊎ (y.end ≤ x.begin)) (Solid from to) (λ z. (from ≤ z.begin) ⊎ (z.end ≤ from)) xs
+    let early : OverSince from from xs = spans_both (λ y. (x.begin ≤ y.begin) ⊎ (y.end ≤ x.begin)) (Solid from to) (λ z. (from ≤ z.begin) ⊎ (z.end ≤ from)) xs
     (λ y a s. ⊎_elim (λ (u : x.begin ≤ y.begin). inl (omega (arith, f.low)))
     (λ (u : y.end ≤ x.begin). ⊎_elim (λ (v : from < y.end). absurd (omega (arith, s.1 v, f.high))) (λ (v : y.end ≤ from). inr v) (cases_lt from y.end)) a) f.none solid in
     let h = senses from early in omega (arith, h)

@@ -14,8 +14,8 @@ use crate::fleets::refused_fleet;
 use crate::reading::read_input;
 use crate::streams::{Sink, Source};
 use crate::writing::write_out;
-use pb_texts::{Scenario, Shown, bounds_json, bounds_text, described, refused_file};
 use pb_fleet::FleetFault;
+use pb_texts::{Scenario, Shown, bounds_json, bounds_text, described, refused_file};
 use std::alloc::{AllocError, Global};
 
 /// The least number of bits a second.

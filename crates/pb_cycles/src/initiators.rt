@@ -9,9 +9,9 @@ ghost use Rattle.pb_cycles.specs.Initiating.{first_sending, after_request, retry
 ghost use Rattle.pb_cycles.specs.declared.counts.FrameCount.TheVariants.{First};
 
 use crate::counts::{FrameCount, FrameCounts};
-use crate::outcomes::{Outcome, reply_outcome};
 use crate::frames::Frame;
 use crate::messages::Message;
+use crate::outcomes::{Outcome, reply_outcome};
 use crate::requests::Request;
 use pb_telegram::Telegram;
 use std::marker::Model;

@@ -16,7 +16,10 @@ mod services;
 
 pub use frames::Frame;
 pub use initiators::Initiator;
-pub use laws::{a_reply_means_what_was_meant, a_request_is_executed_once, a_responder_stands_for_what_it_heard, an_initiator_stands_for_its_acts, what_reply_codes_mean};
+pub use laws::{
+    a_reply_means_what_was_meant, a_request_is_executed_once, a_responder_stands_for_what_it_heard,
+    an_initiator_stands_for_its_acts, what_reply_codes_mean,
+};
 pub use message_laws::{a_queue_is_first_in_first_out, octets_say_what_the_telegram_says};
 pub use messages::{Message, Reply};
 pub use outcomes::{Outcome, status_reply};

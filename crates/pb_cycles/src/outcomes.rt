@@ -5,9 +5,9 @@ ghost use Rattle.pb_cycles.specs.Messages.{message_of};
 ghost use Rattle.pb_cycles.specs.Outcomes.{code_outcome, is_reply_between, reply_outcome, status_reply};
 ghost use Rattle.pb_cycles.specs.declared.outcomes.Outcome.TheVariants.{Data};
 
-use arrayvec::ArrayVec;
 use crate::frames::Frame;
 use crate::messages::Message;
+use arrayvec::ArrayVec;
 use pb_telegram::{Fc, Telegram, copy_octets, put_octets};
 
 /// The outcome of a request (IEC 61158-4-3, confirmation of a data link service).

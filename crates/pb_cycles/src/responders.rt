@@ -5,10 +5,10 @@ ghost use Rattle.pb_telegram.specs.Grammar.{spelling};
 ghost use Rattle.pb_cycles.specs.Messages.{reply_octets, heard_as, message_of};
 ghost use Rattle.pb_cycles.specs.Responding.{reply_frame, data_reply, service_reply, is_repeat, counted, once, reply_once, after_service, reply_to_service, after_framed, reply_to_framed, after_message, reply_to_message};
 
-use arrayvec::ArrayVec;
-use crate::services::{Asked, Service};
 use crate::frames::Frame;
 use crate::messages::{Message, Reply};
+use crate::services::{Asked, Service};
+use arrayvec::ArrayVec;
 use pb_telegram::{Fc, Telegram, copy_octets, put_octets};
 use std::marker::Model;
 

@@ -21,7 +21,6 @@ pub use seats::TicketSeat;
 pub use tickets::Tickets;
 
 #[cfg(test)]
-mod ticket_tests;
-
-#[cfg(test)]
 mod tests;
+#[cfg(test)]
+mod ticket_tests;

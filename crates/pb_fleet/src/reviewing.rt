@@ -56,7 +56,7 @@ pub(crate) fn review(
 ) -> Result<bool, AllocError>
     ensures { IfOk result (λ is. is ≡ true
         → IsRunOf scenario.entry.now.scenario (looks_of draft.entry.outlooks)
-            (events_in draft.entry.history)) }
+        (events_in draft.entry.history)) }
 {
     let walk = scenario.walk(alloc)?;
     is_run(alloc, &Played { draft }, walk)

@@ -6,7 +6,7 @@ pub mod Going
 pub mod Counting
 pub mod Playing
 pub mod Moving
-pub mod Instants
+pub mod PlayedInstants
 pub mod Looking
 pub mod Chains
 pub mod Listing

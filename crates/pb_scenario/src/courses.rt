@@ -3,14 +3,14 @@
 ghost use Rattle.std.specs.Prelude.{◌≡◌, Some, IfOk, IfSome};
 ghost use Rattle.pb_scenario.specs.Faults.{EndsBy};
 
+use crate::deeds::{Step, When};
 use crate::faults::RunFault;
 use crate::plays::play;
 use crate::scenarios::Scenario;
 use crate::stages::Stage;
-use pb_world::{Bus, new_bus};
-use crate::deeds::{Step, When};
 use pb_taps::{Event, NewFault, WorldFault};
 use pb_timers::Moment;
+use pb_world::{Bus, new_bus};
 use std::alloc::{AllocError, Global};
 
 /// How far a run gets.

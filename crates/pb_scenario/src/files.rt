@@ -11,6 +11,7 @@ ghost use Rattle.pb_scenario.specs.Fields.{Answers};
 ghost use Rattle.pb_scenario.specs.Tables.{members};
 ghost use Rattle.pb_scenario.specs.Files as files;
 
+use crate::deeds::Step;
 use crate::faults::ScenarioFault;
 use crate::fields::Fields;
 use crate::keys::{Key, Path, Section};
@@ -19,7 +20,6 @@ use crate::steps::steps_in;
 use crate::taps::taps_in;
 use crate::versions::{Version, version_in};
 use indexmap::IndexSet;
-use crate::deeds::Step;
 use pb_timers::BusParams;
 use std::alloc::Global;
 use toml::{Table, Value};

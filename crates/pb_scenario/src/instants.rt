@@ -9,11 +9,11 @@ ghost use Rattle.pb_scenario.specs.Looks.{look_of};
 ghost use Rattle.pb_scenario.specs.Nexts.{IsLookAt, IsNext};
 ghost use Rattle.pb_scenario.specs.Reading.{Reads};
 
+use crate::deeds::When;
 use crate::reading::read_steps;
 use crate::reports::{Look, Report};
 use crate::turning::{note_wanted, read_turns};
 use crate::walks::Walk;
-use crate::deeds::When;
 use pb_taps::Event;
 use std::alloc::AllocError;
 

@@ -15,10 +15,10 @@ ghost use Rattle.pb_scenario.specs.Faults.{EndsBy};
 ghost use Rattle.pb_scenario.specs.Stages.{IsReady};
 ghost use Rattle.pb_scenario.specs.Plays.{Goes, IsPlayed, Plays, turn_if};
 
+use crate::deeds::{Deed, Step, When};
 use crate::faults::RunFault;
 use crate::scenarios::Scenario;
 use crate::stages::Stage;
-use crate::deeds::{Deed, Step, When};
 use crate::walks::Walk;
 use pb_taps::{Event, NewFault};
 use pb_timers::Moment;

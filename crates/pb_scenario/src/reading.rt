@@ -7,8 +7,8 @@ ghost use Rattle.pb_scenario.specs.Steps.{deed_of, steps_of};
 ghost use Rattle.pb_scenario.specs.Said.{said_by, said_in};
 ghost use Rattle.pb_scenario.specs.Reading.{Reads};
 
-use crate::reports::Report;
 use crate::deeds::{Deed, Step, When};
+use crate::reports::Report;
 use pb_taps::Event;
 
 /// The position after the events that some steps trigger before or after the turns; `None` if others come next.

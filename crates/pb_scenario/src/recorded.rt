@@ -3,8 +3,8 @@
 ghost use Rattle.std.specs.Prelude.{◌≡◌, []};
 
 use crate::stages::Stage;
-use pb_world::Bus;
 use pb_taps::{Event, WorldFault};
+use pb_world::Bus;
 use std::alloc::Global;
 
 /// A bus, and the events that have happened on it.

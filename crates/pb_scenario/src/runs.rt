@@ -10,8 +10,8 @@ use crate::faults::RunFault;
 use crate::plays::play;
 use crate::recorded::Recorded;
 use crate::scenarios::Scenario;
-use pb_world::{Audit, Inquiry, Reasons, new_bus, new_watched};
 use pb_taps::Event;
+use pb_world::{Audit, Inquiry, Reasons, new_bus, new_watched};
 use std::alloc::Global;
 
 /// The events of the run of a scenario on one thread. At each instant these are the events of its steps, the turns of

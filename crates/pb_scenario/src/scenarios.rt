@@ -5,9 +5,9 @@ ghost use Rattle.pb_faults.specs.FirstFault.{first_fault};
 ghost use Rattle.pb_timers.specs.ParamRules.{param_faults};
 ghost use Rattle.pb_scenario.specs.Scenarios.{names_of, params_with};
 
-use indexmap::IndexSet;
 use crate::deeds::Step;
 use crate::walks::Walk;
+use indexmap::IndexSet;
 use pb_taps::TapSpec;
 use pb_timers::{BusParams, ParamFault};
 use std::alloc::{AllocError, Global};

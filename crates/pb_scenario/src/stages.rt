@@ -5,8 +5,8 @@ ghost use Rattle.pb_world.specs.Buses.{world_of, IsKept};
 ghost use Rattle.pb_taps.specs.Events.{event_of};
 ghost use Rattle.pb_scenario.specs.Stages.{StageView, IsReady, Takes};
 
-use pb_world::{Bus, Inquiry, Watched};
 use pb_taps::{Event, WorldFault};
+use pb_world::{Bus, Inquiry, Watched};
 use std::alloc::Global;
 
 /// What the events of a scenario's run happen on.

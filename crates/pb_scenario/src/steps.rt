@@ -14,6 +14,7 @@ ghost use Rattle.pb_scenario.specs.Fields.{Answers, meant};
 ghost use Rattle.pb_scenario.specs.Tables.{members};
 ghost use Rattle.pb_scenario.specs.Files as files;
 
+use crate::deeds::{Deed, Step};
 use crate::faults::ScenarioFault;
 use crate::fields::Fields;
 use crate::files::item;
@@ -21,7 +22,6 @@ use crate::keys::{Key, Section};
 use crate::words::{Word, service_of, word_of};
 use indexmap::IndexSet;
 use pb_cycles::{Request, Service};
-use crate::deeds::{Deed, Step};
 use pb_taps::Event;
 use std::alloc::Global;
 use toml::Value;

@@ -9,8 +9,8 @@ ghost use Rattle.pb_scenario.specs.Texts.{entries_text, letter_of, span_text};
 use crate::scenarios::Scenario;
 use arrayvec::ArrayVec;
 use itoa::{Buffer, Integer};
-use pb_medium::{Entry, Heard, Reception, Record};
 use pb_faults::NoMemory;
+use pb_medium::{Entry, Heard, Reception, Record};
 use std::alloc::{AllocError, Global};
 
 /// The most octets of a telegram.

@@ -9,10 +9,10 @@ ghost use Rattle.pb_station.specs.MarkViews.{mark_of, AreOver};
 use crate::marks::Mark;
 use crate::stations::Station;
 use arrayvec::ArrayVec;
-use pb_transitions::SendBuffer;
 use pb_faults::NoMemory;
 use pb_telegram::copy_octets;
 use pb_timers::Moment;
+use pb_transitions::SendBuffer;
 use std::alloc::Global;
 use std::marker::Model;
 

@@ -17,7 +17,7 @@ mod turns;
 pub use decisions::{Decided, Decision, Glance, decide, decide_in, due};
 pub use inboxes::{Inbox, MARK_LIMIT};
 pub use marks::Mark;
-pub use pb_transitions::SendBuffer;
 pub use pb_faults::NoMemory;
+pub use pb_transitions::SendBuffer;
 pub use spares::Spares;
 pub use stations::Station;

@@ -16,10 +16,13 @@ ghost use Rattle.pb_telegram.specs.declared.chars.RxChar.TheVariants.{Good, Bad}
 
 use crate::marks::Mark;
 use crate::notes::Note;
-use pb_transitions::{Kept, after_timer, begun, ended, ended_with_noise, ended_with_token, fall_quiet, is_for_others, only_answers, spelled_telegram, spelled_token, token_in, whole_telegram};
 use pb_telegram::RxChar;
 use pb_timers::{BusParams, Moment};
 use pb_tokenfsm::Phase;
+use pb_transitions::{
+    Kept, after_timer, begun, ended, ended_with_noise, ended_with_token, fall_quiet, is_for_others,
+    only_answers, spelled_telegram, spelled_token, token_in, whole_telegram,
+};
 
 /// The characters and octets of marks that are not read yet.
 #[derive(Clone, Copy, Debug)]

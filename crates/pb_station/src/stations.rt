@@ -11,7 +11,6 @@ use crate::inboxes::Inbox;
 use crate::marks::Mark;
 use crate::turns::{due_of, due_on, is_overdue, read_on, speak_on, take_turn, would_speak};
 use arrayvec::ArrayVec;
-use pb_transitions::{Address, Core, Cycles, Kept, Past, SendBuffer, Waiting, beginning, copy_outcome};
 use pb_cycles::{Outcome, Queue, Request};
 use pb_faults::NoMemory;
 use pb_ring::{Gap, Las};
@@ -19,6 +18,9 @@ use pb_rotation::Rotation;
 use pb_telegram::{copy_octets, put_octets};
 use pb_timers::{BusParams, Moment};
 use pb_tokenfsm::{Listening, Offline, PassiveIdle, Phase};
+use pb_transitions::{
+    Address, Core, Cycles, Kept, Past, SendBuffer, Waiting, beginning, copy_outcome,
+};
 use std::alloc::Global;
 use std::marker::Model;
 

@@ -12,9 +12,12 @@ ghost use Rattle.pb_station.specs.MarkViews.{mark_of, AllOver, AreOver};
 use crate::inboxes::{Inbox, Unread};
 use crate::marks::Mark;
 use crate::reading::{after_marks, after_notes};
-use pb_transitions::{Core, Kept, SendBuffer, after, after_timer, earlier, is_past, speak, speaks_at, timer, would_say};
 use pb_timers::{BusParams, Moment};
 use pb_tokenfsm::Phase;
+use pb_transitions::{
+    Core, Kept, SendBuffer, after, after_timer, earlier, is_past, speak, speaks_at, timer,
+    would_say,
+};
 
 /// The station takes its turn, and sends into `out`.
 pub(crate) fn take_turn(

@@ -2,10 +2,10 @@
 
 use crate::documents::Document;
 use crate::entries::{Earlier, Spot};
+use crate::file_values as values;
 use crate::key_hints::{is_known, keys_of, table_name, wanted, words_of};
 use crate::near_words::nearest;
 use crate::param_hints::broken_rule;
-use crate::file_values as values;
 use bstr::{BStr, ByteSlice};
 use itertools::Itertools;
 use pb_scenario::{Key, Path, ScenarioFault, Section, UnknownKey};

@@ -12,10 +12,10 @@ use crate::bounds::{
 };
 use crate::numbers::push_millis;
 use crate::texts::{asks_words, round_words};
-use pb_world::longest_without;
 use pb_scenario::{Scenario, push_number};
 use pb_taps::{NewFault, check_taps};
 use pb_timers::BusParams;
+use pb_world::longest_without;
 use std::alloc::{AllocError, Global};
 
 /// The numbers of a scenario's bus as one JSON object on a line: `baud`; `masters`, an array with the `name`, `time_out`,

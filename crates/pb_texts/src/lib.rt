@@ -26,7 +26,10 @@ mod texts;
 mod warnings;
 
 pub use audit_hints::explain_audit;
-pub use bounds::{is_round_long, lag_margin, masters_of, never_asks, reply_margin, shortest_rotation, silence_bound, take_margin};
+pub use bounds::{
+    is_round_long, lag_margin, masters_of, never_asks, reply_margin, shortest_rotation,
+    silence_bound, take_margin,
+};
 pub use explaining::{MOST_EVENTS, explain};
 pub use faults::{new_line, refused_line};
 pub use files::{audited, described, refused_file};
@@ -38,7 +41,6 @@ pub use texts::bounds_text;
 pub use warnings::warn;
 
 #[cfg(test)]
-mod tests;
-
-#[cfg(test)]
 mod hint_tests;
+#[cfg(test)]
+mod tests;

@@ -1,7 +1,9 @@
 //! Why the run of a scenario ends before its time.
 
 use crate::documents::Document;
-use pb_scenario::{Deed, Event, Key, Kind, NewFault, RunFault, Scenario, Section, WorldFault, course_of};
+use pb_scenario::{
+    Deed, Event, Key, Kind, NewFault, RunFault, Scenario, Section, WorldFault, course_of,
+};
 use std::alloc::AllocError;
 
 /// The hint for a run that is refused, of which at most so many events may be kept; no text for a run that isn't.

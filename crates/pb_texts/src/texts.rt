@@ -12,10 +12,10 @@ use crate::bounds::{
     take_margin,
 };
 use crate::numbers::push_millis;
-use pb_world::longest_without;
 use pb_scenario::{Scenario, push_number};
 use pb_taps::{NewFault, TapSpec, check_taps};
 use pb_timers::BusParams;
+use pb_world::longest_without;
 use std::alloc::{AllocError, Global};
 
 /// A line for each number of a scenario's bus, in bit times and in milliseconds at a number of bits a second, rounded up

@@ -13,7 +13,11 @@ ghost use Rattle.pb_transitions.specs.Replies.{is_for_others};
 
 use crate::replies::is_for;
 use arrayvec::ArrayVec;
-use pb_telegram::{ACKNOWLEDGEMENT, END, FIXED_START, Receiver, RxChar, SHORT_START, ShortTelegram, TOKEN_START, Telegram, TokenTelegram, VAR_START, VarTelegram, copy_octets, fcs, spelled_unit_is_the_telegrams, what_is_spelled_has_no_fault};
+use pb_telegram::{
+    ACKNOWLEDGEMENT, END, FIXED_START, Receiver, RxChar, SHORT_START, ShortTelegram, TOKEN_START,
+    Telegram, TokenTelegram, VAR_START, VarTelegram, copy_octets, fcs,
+    spelled_unit_is_the_telegrams, what_is_spelled_has_no_fault,
+};
 
 /// The telegram that the characters of a burst spell; `None` if they spell none.
 pub fn whole_telegram(chars: &[RxChar]) -> Option<Telegram>

@@ -17,13 +17,13 @@ ghost use Rattle.pb_transitions.specs.Clocks.{last_turn};
 ghost use Rattle.pb_transitions.specs.Cores.{Becomes};
 ghost use Rattle.pb_transitions.specs.Others.{only_answers};
 
-use crate::rotations::received_if;
-use crate::timers::given_up;
 use crate::cores::Kept;
-use crate::replies::{Reply, StationType, answer, is_request, status_answer};
-use crate::moments::after;
 use crate::cycles;
 use crate::lists::{entered, hear};
+use crate::moments::after;
+use crate::replies::{Reply, StationType, answer, is_request, status_answer};
+use crate::rotations::received_if;
+use crate::timers::given_up;
 use pb_cycles::status_reply;
 use pb_ring::Las;
 use pb_telegram::{Fc, Head, Telegram, TokenTelegram};

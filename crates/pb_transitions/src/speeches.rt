@@ -20,13 +20,13 @@ ghost use Rattle.pb_transitions.specs.Cores.{station_with, Becomes, HasReceived}
 ghost use Rattle.pb_transitions.specs.Replies.{reply_of};
 ghost use Rattle.pb_transitions.specs.Speeches.{spoken_with, Says, after_taking};
 
-use crate::rotations::received_if;
 use crate::cores::Kept;
+use crate::lists::readied;
+use crate::moments::after;
 use crate::replies::Reply;
+use crate::rotations::received_if;
 use crate::sending::SendBuffer;
 use crate::waiting::Waiting;
-use crate::moments::after;
-use crate::lists::readied;
 use pb_cycles::Request;
 use pb_ring::Gap;
 use pb_rotation::Rotation;

@@ -13,9 +13,9 @@ ghost use Rattle.pb_tokenfsm.specs.Phases.{phase_of, was_asked, tries_of};
 ghost use Rattle.pb_transitions.specs.Cores.{station_with, Becomes};
 
 use crate::cores::Kept;
-use crate::moments::after;
 use crate::cycles::give_up;
 use crate::lists::removed;
+use crate::moments::after;
 use pb_ring::{Gap, Las};
 use pb_rotation::Rotation;
 use pb_timers::{BusParams, Moment};

@@ -5,10 +5,13 @@ use crate::rooms::{make_room, make_room_for};
 use crate::starting::start;
 use crate::stopping::stop;
 use pb_cycles::Request;
-use pb_medium::{Hit, Speaker, Trace};
 use pb_faults::NoMemory;
+use pb_medium::{Hit, Speaker, Trace};
 use pb_station::{Decided, Decision, Glance, SendBuffer, Spares, Station};
-use pb_taps::{Event, Tap, WorldFault, check_running, fits, fits_decided, glance, queue, take_decided, take_turn};
+use pb_taps::{
+    Event, Tap, WorldFault, check_running, fits, fits_decided, glance, queue, take_decided,
+    take_turn,
+};
 use pb_timers::{BusParams, Moment};
 use std::alloc::Global;
 

@@ -9,10 +9,10 @@ ghost use Rattle.pb_taps.specs.Faults.{Refuses};
 ghost use Rattle.pb_world.specs.Reasons.{number_of_cause};
 ghost use Rattle.pb_world.specs.Watched.{FindsIn, GoesOnBy, IsOfNew, IsWatched, world_in};
 
+use crate::buses::Bus;
 use crate::findings::Audit;
 use crate::premises::{Premise, Waited, first_waiting};
 use crate::watched::Watched;
-use crate::buses::Bus;
 use pb_taps::{Event, Tap, WorldFault};
 use pb_timers::Moment;
 use std::alloc::Global;

@@ -11,10 +11,10 @@ ghost use Rattle.pb_taps.specs.Taps.{tap_of};
 
 use crate::buses::Bus;
 use crate::passes::moment_of;
-use pb_transitions::earlier;
 use pb_medium::{Entry, next_begin, next_end, something_lasts};
 use pb_taps::Tap;
 use pb_timers::Moment;
+use pb_transitions::earlier;
 
 impl Bus {
     ghost use Rattle.std.specs.Prelude.{◌≡◌};

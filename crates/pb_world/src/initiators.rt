@@ -7,9 +7,9 @@ ghost use Rattle.law_runs.specs.Initiators as initiators;
 ghost use Rattle.pb_medium.specs.Entries.{entry_of, record_of};
 ghost use Rattle.pb_world.specs.Meanings.{meaning_in, meaning_of};
 
-use pb_transitions::{is_request, spelled_telegram, spelled_token};
 use pb_medium::{Entry, Record};
 use pb_telegram::Telegram;
+use pb_transitions::{is_request, spelled_telegram, spelled_token};
 
 /// The meaning of a telegram, as far as it decides who may send it.
 #[derive(Clone, Copy, Debug)]

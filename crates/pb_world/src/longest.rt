@@ -8,10 +8,10 @@ ghost use Rattle.pb_world.specs.Worlds.{StopsAt};
 ghost use Rattle.pb_taps.specs.Events.{event_of};
 ghost use Rattle.pb_taps.specs.Taps.{spec_of};
 
-use crate::findings::AuditFault;
-use crate::stretches::{LongestSoFar, Stretch, follow};
 use crate::buses::Bus;
+use crate::findings::AuditFault;
 use crate::making::new_bus;
+use crate::stretches::{LongestSoFar, Stretch, follow};
 use pb_taps::{Event, TAP_LIMIT, TapSpec, WorldFault};
 use pb_timers::BusParams;
 use std::alloc::Global;

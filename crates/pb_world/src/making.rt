@@ -9,11 +9,11 @@ ghost use Rattle.pb_taps.specs.Faults.{RefusesNew};
 ghost use Rattle.pb_taps.specs.Taps.{spec_of};
 
 use crate::buses::Bus;
-use pb_transitions::beginning;
 use pb_medium::Trace;
 use pb_station::{SendBuffer, Spares};
 use pb_taps::{NewFault, TapSpec, check_taps, new_taps};
 use pb_timers::BusParams;
+use pb_transitions::beginning;
 use std::alloc::Global;
 
 /// A bus at clock 0. No tap runs yet.

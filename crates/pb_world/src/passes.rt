@@ -14,7 +14,9 @@ ghost use Rattle.pb_medium.specs.Senses.{begin_between, end_between};
 ghost use Rattle.pb_world.specs.Passes.{end_of, unread_after, with_begin, with_end, with_lone, with_news};
 ghost use Rattle.pb_taps.specs.Taps.{seat_of, tap_of};
 
-use pb_medium::{Entry, Lone, Record, begin_between, end_between, filling_telegram, lone_in, telegram_characters};
+use pb_medium::{
+    Entry, Lone, Record, begin_between, end_between, filling_telegram, lone_in, telegram_characters,
+};
 use pb_station::MARK_LIMIT;
 use pb_taps::Tap;
 use pb_timers::Moment;

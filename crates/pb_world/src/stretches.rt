@@ -15,9 +15,9 @@ ghost use Rattle.pb_world.specs.Liveness.{AreLonger, AreStretches, calm_after, e
 ghost use Rattle.pb_world.specs.Meanings.{meaning_of};
 ghost use Rattle.law_turn.specs.Arrivals.{Arrival};
 
+use crate::buses::Bus;
 use crate::initiators::{Meaning, meaning_of};
 use crate::premises::time_in;
-use crate::buses::Bus;
 use pb_medium::Entry;
 use pb_taps::{Event, TAP_LIMIT, Tap, WorldFault};
 use pb_timers::{BusParams, Moment, bits};

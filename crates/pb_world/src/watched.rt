@@ -10,11 +10,11 @@ ghost use Rattle.pb_taps.specs.Faults.{RefusesNew};
 ghost use Rattle.pb_taps.specs.Taps.{spec_of};
 
 use crate::addresses::Addresses;
+use crate::buses::Bus;
 use crate::findings::Audit;
 use crate::legality::first_illegal;
-use crate::premises::{Breach, Watch, follow};
-use crate::buses::Bus;
 use crate::making::new_bus;
+use crate::premises::{Breach, Watch, follow};
 use pb_taps::{Event, NewFault, TapSpec, WorldFault};
 use pb_timers::{BusParams, Moment};
 use std::alloc::Global;

@@ -9,8 +9,8 @@ ghost use Rattle.law_live.specs.Promises.{LeadOn};
 
 use crate::buses::Bus;
 use crate::making::new_bus;
-use pb_medium::Entry;
 use pb_faults::NoMemory;
+use pb_medium::Entry;
 use pb_station::{Decided, Decision, Glance, Station};
 use pb_taps::{Event, NewFault, Reply, TapSpec, WorldFault};
 use pb_telegram::copy_octets;

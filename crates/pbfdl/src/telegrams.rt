@@ -10,7 +10,10 @@ ghost use Rattle.pbfdl.specs.Telegrams.{unit_of, octets_of, is_no_kind};
 
 use crate::codes::{BAD_KIND, NO_ROOM, telegram_code};
 use arrayvec::ArrayVec;
-use pb_telegram::{ACKNOWLEDGEMENT, END, FIXED_START, Receiver, RxChar, SHORT_START, TOKEN_START, Telegram, VAR_START, fcs};
+use pb_telegram::{
+    ACKNOWLEDGEMENT, END, FIXED_START, Receiver, RxChar, SHORT_START, TOKEN_START, Telegram,
+    VAR_START, fcs,
+};
 
 /// A telegram: its kind is 1 for one without data (SD1), 2 with data of variable length (SD2), 3 with eight octets of
 /// data (SD3), 4 for a token (SD4), and 5 for the short acknowledgement (SC).

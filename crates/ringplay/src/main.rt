@@ -11,7 +11,10 @@ ghost use Rattle.pb_cli.specs.Bounding.{IsBaud};
 ghost use Rattle.pb_cli.specs.Playing.{IsUpTo, line_limit, worker_limit};
 ghost use Rattle.ringplay.specs.ExitStatus.{exit_status_of, words_status_of};
 
-use pb_cli::{Ask, AskFault, Asked, CliFault, CountedReader, CountedWriter, Status, VERSION, ask_with_options, audit_with_reasons, bounds_file, decode_lines, play, read_input};
+use pb_cli::{
+    Ask, AskFault, Asked, CliFault, CountedReader, CountedWriter, Status, VERSION,
+    ask_with_options, audit_with_reasons, bounds_file, decode_lines, play, read_input,
+};
 use pb_texts::{MOST_EVENTS, explain, explain_audit, warn};
 use std::alloc::{AllocError, Global};
 use std::fmt::Display;

@@ -1,9 +1,9 @@
 //! Tests of the numbers of a scenario's bus.
 
 use super::equal;
-use pb_texts::{bounds_json, bounds_text};
 use pb_scenario::{Scenario, read};
 use pb_taps::NewFault;
+use pb_texts::{bounds_json, bounds_text};
 use std::process::Abort;
 
 /// Two masters and a passive station. The time-outs are 6 and 10 slots of 100. The never-dead bounds are 385 of the target

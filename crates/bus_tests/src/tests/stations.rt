@@ -9,10 +9,10 @@ mod turns;
 
 use super::equal;
 use arrayvec::ArrayVec;
-use pb_transitions::is_past;
 use pb_station::{Glance, Inbox, Mark, NoMemory, Spares, Station, decide, due};
 use pb_telegram::RxChar;
 use pb_timers::{BusParams, Moment};
+use pb_transitions::is_past;
 use std::alloc::Global;
 use std::str::SplitWhitespace;
 use std::test::Fail;

@@ -4,7 +4,9 @@ use super::{equal, master, usual};
 use arrayvec::ArrayVec;
 use pb_cycles::{Request, Service};
 use pb_timers::BusParams;
-use pb_world::{AuditFault, Event, Kind, NewFault, Stretch, TapSpec, WorldFault, liveness, longest_without};
+use pb_world::{
+    AuditFault, Event, Kind, NewFault, Stretch, TapSpec, WorldFault, liveness, longest_without,
+};
 use std::process::Abort;
 
 /// A lone master claims the token after its time-out of 800; until then there is no token. Its bound is 9999 for the

@@ -2,8 +2,8 @@
 
 use super::equal;
 use arrayvec::ArrayVec;
-use pb_transitions::{is_for_others, spelled_telegram, whole_telegram};
 use pb_telegram::{Fixed8Telegram, RxChar, ShortTelegram, Telegram, TokenTelegram, VarTelegram};
+use pb_transitions::{is_for_others, spelled_telegram, whole_telegram};
 use std::alloc::{AllocError, Global};
 use std::test::Fail;
 

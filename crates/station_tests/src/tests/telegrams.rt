@@ -2,7 +2,10 @@
 
 use super::equal;
 use arrayvec::ArrayVec;
-use pb_telegram::{Fc, Fixed8Telegram, Head, Receiver, RxChar, ShortTelegram, Telegram, TelegramFault, TokenTelegram, VarTelegram, fcs, parse, write};
+use pb_telegram::{
+    Fc, Fixed8Telegram, Head, Receiver, RxChar, ShortTelegram, Telegram, TelegramFault,
+    TokenTelegram, VarTelegram, fcs, parse, write,
+};
 use std::alloc::{AllocError, Global};
 use std::process::Abort;
 use std::test::Fail;

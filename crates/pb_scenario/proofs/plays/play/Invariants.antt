@@ -1,7 +1,7 @@
 -- The run goes on as it began.
 use Rattle.std.proofs.Common.{◌≡◌, ◌-◌, ◌≤◌, length}
 use Rattle.pb_scenario.specs.Scenarios.{walk_of}
-use Rattle.pb_scenario.proofs.Instants.{IsRest}
+use Rattle.pb_scenario.proofs.PlayedInstants.{IsRest}
 use Rattle.pb_scenario.proofs.plays.play.Given as goal
 
 abbrev pub decreases-loop-walk : goal.decreases-loop-walk

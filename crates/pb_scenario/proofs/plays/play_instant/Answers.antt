@@ -10,7 +10,7 @@ use Rattle.pb_scenario.specs.Said.{said_by}
 use Rattle.pb_scenario.specs.Plays.{Happened}
 use Rattle.pb_scenario.proofs.Counting.{count-all}
 use Rattle.pb_scenario.proofs.Moving.{happened-as, happened-at, in-err, ready-after, stops-as, stops-at}
-use Rattle.pb_scenario.proofs.Instants.{ends-early, ends-late, ends-passing, ends-turns, goes-on}
+use Rattle.pb_scenario.proofs.PlayedInstants.{ends-early, ends-late, ends-passing, ends-turns, goes-on}
 use Rattle.pb_scenario.proofs.plays.play_instant.Goals as goal
 
 pub returns-in_err-play_steps : goal.returns-in_err-play_steps

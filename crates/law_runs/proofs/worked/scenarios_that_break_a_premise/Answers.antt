@@ -1,6 +1,6 @@
 -- each clause computes; a false one is refused at once
 use Rattle.std.proofs.Common.{refl}
-use Rattle.law_runs.proofs.judged.scenarios_that_break_a_premise.Goals as goal
+use Rattle.law_runs.proofs.worked.scenarios_that_break_a_premise.Goals as goal
 
 pub returns-clause-namesakes : goal.returns-clause-namesakes
 returns-clause-namesakes c = refl

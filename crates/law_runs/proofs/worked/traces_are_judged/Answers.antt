@@ -1,6 +1,6 @@
 -- each clause computes; a false one is refused at once
 use Rattle.std.proofs.Common.{refl}
-use Rattle.law_runs.proofs.judged.traces_are_judged.Goals as goal
+use Rattle.law_runs.proofs.worked.traces_are_judged.Goals as goal
 
 pub returns-clause-first : goal.returns-clause-first
 returns-clause-first c = refl

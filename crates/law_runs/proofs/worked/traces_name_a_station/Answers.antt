@@ -1,6 +1,6 @@
 -- each clause computes; a false one is refused at once
 use Rattle.std.proofs.Common.{refl}
-use Rattle.law_runs.proofs.judged.traces_name_a_station.Goals as goal
+use Rattle.law_runs.proofs.worked.traces_name_a_station.Goals as goal
 
 pub returns-clause-holder : goal.returns-clause-holder
 returns-clause-holder c = refl

@@ -1,6 +1,6 @@
 -- each clause computes; a false one is refused at once
 use Rattle.std.proofs.Common.{refl}
-use Rattle.law_runs.proofs.judged.scenarios_that_keep_the_premises.Goals as goal
+use Rattle.law_runs.proofs.worked.scenarios_that_keep_the_premises.Goals as goal
 
 pub returns-clause-alone : goal.returns-clause-alone
 returns-clause-alone c = refl
