@@ -223,7 +223,7 @@ fn refused_memory_in_liveness(rt: HostRuntime) {
 fn answering(address: u8) -> TapSpec {
     let mut reply = ArrayVec::new();
     for _ in 0..246 {
-        reply.push(0xaa);
+        let _ = reply.try_push(0xaa);
     }
     TapSpec {
         address,
@@ -236,7 +236,7 @@ fn answering(address: u8) -> TapSpec {
 fn longest_request(rt: &impl Abort, high: bool) -> Request {
     let mut unit = ArrayVec::new();
     for _ in 0..246 {
-        unit.push(0x55);
+        let _ = unit.try_push(0x55);
     }
     Request::new(100, Service::Srd, high, unit).expect(rt, "a request")
 }
