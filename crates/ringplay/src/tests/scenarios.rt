@@ -445,5 +445,5 @@ fn refused_memory_in_bounds_file(rt: HostRuntime) {
             return;
         }
     }
-    assert!(rt; &room[..BOUNDS.len()] == BOUNDS);
+    assert!(rt; room.iter().take(BOUNDS.len()).eq(BOUNDS.iter()));
 }
