@@ -1,8 +1,8 @@
 /* The ring of two masters without a C library: the heap is a block of memory of this file, which is given out once. Prints
  * the telegrams until 1400, as examples/c/ring.c does. x86-64 Linux alone. */
-#include "pbfdl.h"
-
-#define CHARACTER_BITS 11
+#include <stdbool.h>
+#include <stddef.h>
+#include <stdint.h>
 
 /* What the library calls: the three functions of its heap, and three of memory. */
 struct tried {
@@ -19,6 +19,8 @@ void *memset(void *to, int octet, size_t count);
 struct tried rattle_alloc(size_t size, size_t alignment);
 struct tried rattle_realloc(uint8_t *block, size_t kept, size_t size, size_t alignment);
 void rattle_dealloc(uint8_t *block);
+
+#include "two_masters.h"
 
 void *memcpy(void *to, const void *from, size_t count)
 {
@@ -92,12 +94,12 @@ static void put_number(uint64_t number)
     line[written++] = ' ';
 }
 
-static void print(uint64_t begin, uint64_t end, char sender, const uint8_t *octets, size_t count)
+static void sent(uint64_t begin, uint64_t end, int master, const uint8_t *octets, size_t count)
 {
     written = 0;
     put_number(begin);
     put_number(end);
-    line[written++] = sender;
+    line[written++] = "ab"[master];
     line[written++] = ' ';
     for (size_t i = 0; i < count; i++) {
         line[written++] = "0123456789abcdef"[octets[i] >> 4];
@@ -107,55 +109,12 @@ static void print(uint64_t begin, uint64_t end, char sender, const uint8_t *octe
     call_system(1, 1, (long)line, (long)written);
 }
 
-static struct fdl_port port[2];
-static uint8_t wire[FDL_TELEGRAM_MAX];
-static size_t on_wire;
-static uint64_t wire_end = FDL_NEVER;
-static int sender;
-
-static uint64_t due(int master)
-{
-    uint64_t at = FDL_NEVER;
-    fdl_port_due(&port[master], &at);
-    return at;
-}
-
-static void take_turn(int master, uint64_t now)
-{
-    uint8_t out[FDL_TELEGRAM_MAX];
-    size_t count;
-    fdl_port_turn(&port[master], now, out, sizeof out, &count);
-    if (count == 0)
-        return;
-    memcpy(wire, out, count);
-    on_wire = count;
-    wire_end = now + CHARACTER_BITS * count;
-    sender = master;
-    fdl_port_begin(&port[1 - master], now, now);
-    print(now, wire_end, "ab"[master], out, count);
-}
-
 static int run(void)
 {
-    static const struct fdl_params params = {100, 37, 60, 11, 0, 10000, 10, 5, 1, 0};
-    for (int i = 0; i < 2; i++)
-        if (fdl_port_new(&port[i], &params, (uint8_t)(i + 1), true, wire, 0) || fdl_port_start(&port[i], 0))
-            return 1;
-    for (;;) {
-        uint64_t now = wire_end;
-        for (int i = 0; i < 2; i++)
-            if (due(i) < now)
-                now = due(i);
-        if (now > 1400)
-            return 0;
-        if (wire_end <= now) {
-            fdl_port_end_good(&port[1 - sender], wire_end, now, wire, on_wire);
-            wire_end = FDL_NEVER;
-        }
-        for (int i = 0; i < 2; i++)
-            if (due(i) <= now)
-                take_turn(i, now);
-    }
+    if (start_masters())
+        return 1;
+    play(1400);
+    return 0;
 }
 
 void start(void);

@@ -1,5 +1,5 @@
-//! Tests of the calls of pb_telegram, pb_decode, pb_timers, pb_rotation, pb_ring, pb_tokenfsm, pb_cycles and
-//! pb_cycles, the parts of a station. The crate has only tests. Message cycles on whole buses are tested by event
+//! Tests of the calls of pb_telegram, pb_decode, pb_timers, pb_rotation, pb_ring, pb_tokenfsm and pb_cycles, the
+//! parts of a station. The crate has only tests. Message cycles on whole buses are tested by event
 //! lists.
 #![tactic(auto)]
 
