@@ -77,7 +77,8 @@ enum fdl_code {
     FDL_BAD_SERVICE = 65,       /* there is no such service */
     FDL_LONG_DATA = 66,         /* there are more than 246 octets of data */
     FDL_BAD_KIND = 67,          /* there is no such kind of telegram */
-    FDL_NO_ROOM = 68            /* the array is too short */
+    FDL_NO_ROOM = 68,           /* the array is too short */
+    FDL_NO_INDICATION = 69      /* the last turn executed no such request */
 };
 
 /* The name of a code, as text that is never freed; "unknown" for a number that is no code. */
@@ -121,6 +122,7 @@ static inline const char *fdl_code_text(uint32_t code)
     case FDL_LONG_DATA: return "long data";
     case FDL_BAD_KIND: return "bad kind";
     case FDL_NO_ROOM: return "no room";
+    case FDL_NO_INDICATION: return "no indication";
     default: return "unknown";
     }
 }
@@ -250,8 +252,17 @@ struct fdl_outcome {
     uint8_t data[246]; /* the data; octets from count on have no meaning */
 };
 
+/* A request of another station that a station has executed. */
+struct fdl_indication {
+    uint8_t source;    /* the station that asks, 0 to 126 */
+    uint8_t service;   /* an fdl_service */
+    bool high;         /* whether its priority is high */
+    uint8_t count;     /* how many octets of data it brings */
+    uint8_t data[246]; /* the data; octets from count on have no meaning */
+};
+
 /* Makes a station that doesn't run, at an empty port: a master or a passive station, and the count octets, at most 246,
- * that it replies to a request for data. It takes memory, about 62 KB; no later call does.
+ * that it replies to a request for data. It takes memory, about 80 KB; no later call does.
  * Codes: FDL_PORT_IN_USE; a fault of the parameters; FDL_BAD_STATION for a master's address over params->hsa, or another's
  * over 126; FDL_LONG_DATA; FDL_NO_MEMORY. */
 uint32_t fdl_port_new(struct fdl_port *port, const struct fdl_params *params, uint8_t address, bool master,
@@ -304,6 +315,20 @@ uint32_t fdl_port_due(struct fdl_port *port, uint64_t *at);
  * `now` on, 11 bit times an octet, without a pause. What out holds behind them is unchanged. With a fault *count is 0.
  * Codes: FDL_NO_ROOM where room is under FDL_TELEGRAM_MAX; FDL_NO_PORT; FDL_TOO_LATE; FDL_BACKWARDS. */
 uint32_t fdl_port_turn(struct fdl_port *port, uint64_t now, uint8_t *out, size_t room, size_t *count);
+
+/* The station replies to the next request for data (SRD) with these count octets, at most 246; with none, that it has no
+ * data. A repeat of the last request still gets the reply that was sent.
+ * Codes: FDL_LONG_DATA, FDL_NO_PORT. */
+uint32_t fdl_port_set_reply(struct fdl_port *port, const uint8_t *reply, size_t count);
+
+/* How many requests of others the station executed in its last turn (SDA, SDN and SRD that are no repeats) goes to *count.
+ * A start forgets them.
+ * Code: FDL_NO_PORT, with *count unchanged. */
+uint32_t fdl_port_indications(struct fdl_port *port, size_t *count);
+
+/* The request with an index, from 0, of those, in the order in which they were executed, goes to *indication.
+ * Codes, with *indication unchanged: FDL_NO_PORT; FDL_NO_INDICATION where there are no more than index. */
+uint32_t fdl_port_indication(struct fdl_port *port, size_t index, struct fdl_indication *indication);
 
 /* The station's phase, an fdl_phase, goes to *phase.
  * Code: FDL_NO_PORT, with *phase unchanged. */

@@ -47,6 +47,7 @@ static void on_an_empty_port(void)
     size_t count = 7;
     bool active = true;
     struct fdl_outcome outcome;
+    struct fdl_indication indication;
     fdl_port_free(&port);
     WANT(FDL_NO_PORT, fdl_port_start(&port, 0));
     WANT(FDL_NO_PORT, fdl_port_stop(&port));
@@ -61,6 +62,10 @@ static void on_an_empty_port(void)
     WANT(FDL_NO_PORT, fdl_port_is_active(&port, 1, &active));
     WANT(FDL_NO_PORT, fdl_port_executed(&port, &moment));
     WANT(FDL_NO_PORT, fdl_port_outcome(&port, &outcome));
+    WANT(FDL_LONG_DATA, fdl_port_set_reply(&port, octets, 247));
+    WANT(FDL_NO_PORT, fdl_port_set_reply(&port, octets, 246));
+    WANT(FDL_NO_PORT, fdl_port_indications(&port, &count));
+    WANT(FDL_NO_PORT, fdl_port_indication(&port, 0, &indication));
     want(7, (uint32_t)moment, "due is unchanged");
     want(7, phase, "phase is unchanged");
     want(0, (uint32_t)count, "nothing is sent");
@@ -132,6 +137,45 @@ static void on_a_port(void)
     WANT(FDL_OK, fdl_port_stop(&port));
     WANT(FDL_OK, fdl_port_phase(&port, &phase));
     want(FDL_OFFLINE, phase, "a stopped station is offline");
+    fdl_port_free(&port);
+}
+
+/* A passive station at address 7 is asked for data by station 1, and asked again. */
+static void on_data_in_and_out(void)
+{
+    static const uint8_t request[] = {0x68, 4, 4, 0x68, 7, 1, 0x7d, 0xaa, 0x2f, 0x16};
+    static const uint8_t reply[] = {0x68, 5, 5, 0x68, 1, 7, 0x0a, 0xbb, 0xcc, 0x99, 0x16};
+    struct fdl_port port = FDL_PORT_EMPTY;
+    struct fdl_indication indication;
+    size_t count = 7;
+    WANT(FDL_OK, fdl_port_new(&port, &usual, 7, false, octets, 0));
+    WANT(FDL_OK, fdl_port_start(&port, 0));
+    WANT(FDL_OK, fdl_port_indications(&port, &count));
+    want(0, (uint32_t)count, "nothing is executed yet");
+    WANT(FDL_NO_INDICATION, fdl_port_indication(&port, 0, &indication));
+    WANT(FDL_OK, fdl_port_set_reply(&port, (const uint8_t[]){0xbb, 0xcc}, 2));
+    WANT(FDL_OK, fdl_port_begin(&port, 100, 100));
+    WANT(FDL_OK, fdl_port_end_good(&port, 210, 210, request, sizeof request));
+    WANT(FDL_OK, fdl_port_turn(&port, 210, octets, 255, &count));
+    WANT(FDL_OK, fdl_port_indications(&port, &count));
+    want(1, (uint32_t)count, "a request is executed");
+    WANT(FDL_OK, fdl_port_indication(&port, 0, &indication));
+    want(1, indication.source, "of station 1");
+    want(FDL_SRD, indication.service, "an SRD");
+    want(1, indication.high, "of high priority");
+    want(1, indication.count == 1 && indication.data[0] == 0xaa, "with its data");
+    WANT(FDL_NO_INDICATION, fdl_port_indication(&port, 1, &indication));
+    WANT(FDL_OK, fdl_port_set_reply(&port, octets, 0));
+    WANT(FDL_OK, fdl_port_turn(&port, 221, octets, 255, &count));
+    want(1, count == sizeof reply && !memcmp(octets, reply, count), "it replies with what was set before");
+    WANT(FDL_OK, fdl_port_indications(&port, &count));
+    want(0, (uint32_t)count, "this turn executed nothing");
+    WANT(FDL_OK, fdl_port_begin(&port, 400, 400));
+    WANT(FDL_OK, fdl_port_end_good(&port, 510, 510, request, sizeof request));
+    WANT(FDL_OK, fdl_port_turn(&port, 521, octets, 255, &count));
+    want(1, count == sizeof reply && !memcmp(octets, reply, count), "a repeat gets the same reply");
+    WANT(FDL_OK, fdl_port_indications(&port, &count));
+    want(0, (uint32_t)count, "a repeat is not executed");
     fdl_port_free(&port);
 }
 
@@ -215,6 +259,7 @@ int main(void)
     on_an_empty_port();
     on_a_new_port();
     on_a_port();
+    on_data_in_and_out();
     on_telegrams();
     on_receivers();
     with_memory_refused();

@@ -22,6 +22,8 @@ library = ctypes.CDLL(sys.argv[1])
 CHARACTER_BITS = 11
 DAMAGED = 256
 NEVER = 2**64 - 1
+# The codes of a request, with its service by number and its priority.
+REQUESTS = {3: (0, False), 4: (1, False), 5: (0, True), 6: (1, True), 12: (2, False), 13: (2, True)}
 PHASES = "Offline PassiveIdle Listening Idle Claim Use AwaitData AwaitStatus Pass Checking".split()
 SERVICES = "sda sdn srd".split()
 
@@ -30,8 +32,25 @@ class Params(ctypes.Structure):
     _fields_ = [(name, c_uint32) for name in "tsl tid1 tid2 tsdr lag ttr gap hsa retries ttd".split()]
 
 
+class Indication(ctypes.Structure):
+    _fields_ = [("source", c_uint8), ("service", c_uint8), ("high", c_bool), ("count", c_uint8), ("data", c_uint8 * 246)]
+
+
+def request_in(characters):
+    """The request for a service that undamaged characters spell: source, service, priority and data."""
+    if DAMAGED in characters or characters[:1] not in ([0x10], [0x68], [0xA2]):
+        return None
+    head = {0x10: 1, 0x68: 4, 0xA2: 1}[characters[0]]
+    da, sa, fc, *unit = characters[head:-2]
+    return (sa % 128, *REQUESTS[fc % 16], bytes(unit)) if fc & 0x40 and fc % 16 in REQUESTS else None
+
+
 class Port(ctypes.Structure):
     _fields_ = [("at", ctypes.c_void_p)]
+
+    def __init__(self):
+        super().__init__()
+        self.heard = []
 
     def __del__(self):
         library.fdl_port_free(byref(self))
@@ -43,6 +62,7 @@ class Port(ctypes.Structure):
     def end(self, at, seen, characters):
         """The end of a burst, by the shortest call."""
         words = [c_uint64(at), c_uint64(seen)]
+        self.heard.append(request_in(characters))
         if characters == [DAMAGED]:
             self.call("noise", *words)
         elif DAMAGED in characters:
@@ -52,8 +72,27 @@ class Port(ctypes.Structure):
 
     def turn(self, now):
         out, count = (c_uint8 * 255)(), c_size_t()
+        executed = self.executed()
         self.call("turn", c_uint64(now), out, c_size_t(255), byref(count))
+        self.compare_indications(self.executed() - executed)
         return bytes(out[: count.value])
+
+    def executed(self):
+        count = c_uint64()
+        self.call("executed", byref(count))
+        return count.value
+
+    def compare_indications(self, grown):
+        """The last turn tells as many requests as it has executed, and each is one that was heard, in order."""
+        count, told = c_size_t(), Indication()
+        self.call("indications", byref(count))
+        assert count.value == grown, f"{count.value} indications of {grown} requests"
+        heard = iter(self.heard)
+        for index in range(grown):
+            self.call("indication", c_size_t(index), byref(told))
+            request = told.source, told.service, told.high, bytes(told.data[: told.count])
+            assert request in heard, f"{request} is told and was not heard"
+        self.heard = []
 
     def due(self):
         at = c_uint64()

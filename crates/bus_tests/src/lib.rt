@@ -5,3 +5,5 @@
 mod scenarios;
 #[cfg(test)]
 mod tests;
+#[cfg(test)]
+mod texts;

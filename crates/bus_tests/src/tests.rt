@@ -1,6 +1,7 @@
 //! Tests of a world: its events, glances and decisions, audits, and its limits.
 
 mod edges;
+mod examples;
 mod memory;
 mod reasons;
 mod stations;

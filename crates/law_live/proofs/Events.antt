@@ -131,7 +131,7 @@ turn_kept w k waited all next reply ok i j f = by (slice_get w.taps k) refl ok
     by (Some t) at ok =
         let turn = turn_of w.params t.station t.marks w.now in
         let made : World = record w { trace = with_said k turn.1 w.now w.taps w.trace; taps = slice_set w.taps k (record t { station = turn.0; marks = [] }) } in
-        let both = unless-Ok ((not t.running, NotRunning) ∷ (is_some turn.1 && nat_le trace_limit (length w.trace), TraceFull) ∷ []) (made, record { now = w.now; spoke = turn.1 }) (next, reply) ok in
+        let both = unless-Ok ((not t.running, NotRunning) ∷ (is_some turn.1 && nat_le w.limit (length w.trace), TraceFull) ∷ []) (made, record { now = w.now; spoke = turn.1 }) (next, reply) ok in
         let same : made ≡ next = ap (λ (z : World × world.Reply). z.0) both.1 in
         let run = runs_then t.running both.0.0 in
         let stays = i.settled.stays k t at in
@@ -295,7 +295,7 @@ noise_flow w waited end false i f =
 noise_kept : (w : World) (bits : ℕ) → KeepsFlow w (Noise bits)
 noise_kept w bits waited all next reply ok i j f =
     let made : World = record w { trace = with_noise w.now (w.now + bits) (is_noisy w) w.trace } in
-    let both = unless-Ok ((bits == 0, ZeroTime) ∷ (not (is_noisy w) && nat_le trace_limit (length w.trace), TraceFull) ∷ []) (made, record { now = w.now; spoke = None }) (next, reply) ok in
+    let both = unless-Ok ((bits == 0, ZeroTime) ∷ (not (is_noisy w) && nat_le w.limit (length w.trace), TraceFull) ∷ []) (made, record { now = w.now; spoke = None }) (next, reply) ok in
     let same : made ≡ next = ap (λ (z : World × world.Reply). z.0) both.1 in
     subst (λ z. Flow z) same (noise_flow w waited (w.now + bits) (is_noisy w) i f)
 
@@ -321,7 +321,7 @@ new_stopped p (spec ∷ specs) (suc k) t at = new_stopped p specs k t at
 -- so a new world has it
 pub new_flow : (p : Params) (specs : List TapSpec) (w : World) → p.tsdr + p.lag + 2 * p.ttd < p.tsl → new_world p specs ≡ Ok w → Flow w
 new_flow p specs w fits new =
-    let made : World = record { params = p; now = 0; trace = []; taps = map (stopped_tap p) specs } in
+    let made : World = record { params = p; now = 0; trace = []; taps = map (stopped_tap p) specs; limit = trace_limit } in
     let same = unless-Ok (new_faults p specs) made w new in
     subst (λ z. Flow z) same.1 (record {
       reply_in_time = fits;

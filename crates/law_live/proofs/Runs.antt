@@ -91,7 +91,7 @@ runs_left (e ∷ es) w next waited are runs none i f =
 -- a new world has the parameters that it was made with
 new_params : (p : Params) (specs : List TapSpec) (w : World) → world.new_world p specs ≡ Ok w → w.params ≡ p
 new_params p specs w new =
-    let made : World = record { params = p; now = 0; trace = []; taps = map (world.stopped_tap p) specs } in
+    let made : World = record { params = p; now = 0; trace = []; taps = map (world.stopped_tap p) specs; limit = world.trace_limit } in
     let same = unless-Ok (world.new_faults p specs) made w new in ap (λ (z : World). z.params) (sym same.1)
 
 -- and so has each that a run leads to

@@ -30,7 +30,7 @@ pub fn the_bound_is_reached()
 /// If noise continues or a premise is broken, the bus may be without a token for longer than the bound: forever if
 /// noise does not end or a master takes no turn, else as long as two holders keep each other waiting. No such run is
 /// known in which only the fourth premise is broken: stations that claim at once hear each other and give the token up.
-pub fn each_premise_is_needed()
+pub fn three_premises_are_needed()
     ensures noise { stretch_on slow_bus three_and_a_replier noise_goes_on 2 0
         ≡ Some (record { broken = []; noise = true; token = false; lasts = 16000; bound = 15360 }) }
     ensures late { stretch_on slow_bus three_and_a_replier no_turn_comes 2 0 ≡ quiet (3 ∷ []) 16000 15360 }

@@ -10,7 +10,7 @@ mod holding;
 mod promises;
 mod theorem;
 
-pub use examples::{each_premise_is_needed, the_bound_is_reached};
+pub use examples::{the_bound_is_reached, three_premises_are_needed};
 pub use holding::{a_holder_keeps_within_its_time, a_holder_speaks_in_time};
 pub use promises::a_run_keeps_its_promises;
 pub use theorem::the_bus_is_never_dead;

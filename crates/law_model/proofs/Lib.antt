@@ -7,3 +7,4 @@ pub mod Worlds
 pub mod Passes
 pub mod WholeTelegrams
 pub mod Past
+pub mod Behind

@@ -146,7 +146,7 @@ not_overlapping : (span x : Span) → x.end ≤ span.begin → overlaps span x �
 not_overlapping span x before = grind (arith, nat_tests)
 
 -- a telegram that began later fills a burst as if the past had not been
-fills_burst-skip : (delay : ℕ) (tap m : ℕ) (t : Tap) (old recent : List Entry) (r : Record) → AllOver delay m old → m ≤ r.begin
+fills_burst-skip : (delay : ℕ) (tap m : ℕ) (t : Tap) (old recent : List Entry) (r : Record) → AllOver delay m old → m ≤ r.begin + delay
     → fills_burst delay tap t (old ++ recent) r ≡ fills_burst delay tap t recent r
 fills_burst-skip delay tap m t old recent r over later =
     let span = reaches delay r in
@@ -159,7 +159,7 @@ fills_burst-skip delay tap m t old recent r over later =
     ap (λ (n : ℕ). (heard && n == 1) && not (list_any (sends_during tap span) (old ++ recent))) counted
     ∙ ap (λ (b : Bool). (heard && count_by (overlaps span) (sensed delay tap t.since recent) == 1) && not b) (sends-skip delay tap m span old recent over from)
 
-find_recent-skip : (delay : ℕ) (tap m e : ℕ) (t : Tap) (old recent es : List Entry) → AllOver delay m old → AllFrom m es
+find_recent-skip : (delay : ℕ) (tap m e : ℕ) (t : Tap) (old recent es : List Entry) → AllOver delay m old → AllFrom delay m es
     → find (fills_burst_to delay tap t (old ++ recent) e) es ≡ find (fills_burst_to delay tap t recent e) es
 find_recent-skip delay tap m e t old recent [] over from = refl
 find_recent-skip delay tap m e t old recent (Noise n ∷ es) over from = find_recent-skip delay tap m e t old recent es over from.1
@@ -169,7 +169,7 @@ find_recent-skip delay tap m e t old recent (Sent r ∷ es) over from =
     ∙ ap (λ (o : Option Entry). cond ((reaches delay r).end == e && fills_burst delay tap t recent r) (Some (Sent r)) o)
     (find_recent-skip delay tap m e t old recent es over from.1)
 
-find_filled-skip : (delay : ℕ) (tap m e : ℕ) (t : Tap) (old past recent : List Entry) → AllOver delay m old → AllOver delay m past → AllFrom m recent → m < e
+find_filled-skip : (delay : ℕ) (tap m e : ℕ) (t : Tap) (old past recent : List Entry) → AllOver delay m old → AllOver delay m past → AllFrom delay m recent → m < e
     → find (fills_burst_to delay tap t (old ++ recent) e) (past ++ recent) ≡ find (fills_burst_to delay tap t recent e) recent
 find_filled-skip delay tap m e t old [] recent over past from later = find_recent-skip delay tap m e t old recent recent over from
 find_filled-skip delay tap m e t old (Noise n ∷ es) recent over past from later = find_filled-skip delay tap m e t old es recent over past.2 from later
@@ -180,7 +180,7 @@ find_filled-skip delay tap m e t old (Sent r ∷ es) recent over past from later
 
 -- ---- marks
 
-end_mark-skip : (delay : ℕ) (tap m from to : ℕ) (t : Tap) (old recent : List Entry) (spans : List Span) → AllOver delay m old → AllFrom m recent → m ≤ from
+end_mark-skip : (delay : ℕ) (tap m from to : ℕ) (t : Tap) (old recent : List Entry) (spans : List Span) → AllOver delay m old → AllFrom delay m recent → m ≤ from
     → (o : Option Span) → find (ends_in spans from to) spans ≡ o → end_mark delay tap t (old ++ recent) to o ≡ end_mark delay tap t recent to o
 end_mark-skip delay tap m from to t old recent spans over begun later None found = refl
 end_mark-skip delay tap m from to t old recent spans over begun later (Some x) found =
@@ -191,7 +191,7 @@ end_mark-skip delay tap m from to t old recent spans over begun later (Some x) f
     (find_filled-skip delay tap m x.end t old old recent over over begun (omega (arith, ltb-true from x.end window.0)))
 
 -- what has ended before everything recent began, and before the clock, makes no mark and damages none
-pub marks_between-skip : (delay : ℕ) (tap m from to : ℕ) (t : Tap) (old recent : List Entry) → AllOver delay m old → AllFrom m recent → m ≤ from
+pub marks_between-skip : (delay : ℕ) (tap m from to : ℕ) (t : Tap) (old recent : List Entry) → AllOver delay m old → AllFrom delay m recent → m ≤ from
     → marks_between delay tap t (old ++ recent) from to ≡ marks_between delay tap t recent from to
 marks_between-skip delay tap m from to t old recent over begun later =
     let xs = sensed delay tap t.since old in
@@ -218,13 +218,13 @@ next_end_of-skip delay m now (Sent r ∷ old) recent over later =
     ∙ ap (λ (b : Bool). earlier (earlier None (if b then Some (reaches delay r).end else None)) (next_end_of delay now (old ++ recent))) (le-ltb now (reaches delay r).end (omega (arith, over.1)))
     ∙ next_end_of-skip delay m now old recent over.2 later
 
-is_whole_at-skip : (delay : ℕ) (tap m : ℕ) (t : Tap) (old recent : List Entry) (r : Record) → AllOver delay m old → m ≤ r.begin
+is_whole_at-skip : (delay : ℕ) (tap m : ℕ) (t : Tap) (old recent : List Entry) (r : Record) → AllOver delay m old → m ≤ r.begin + delay
     → is_whole_at delay tap t (old ++ recent) r ≡ is_whole_at delay tap t recent r
 is_whole_at-skip delay tap m t old recent r over later =
     ap (λ (b : Bool). ((t.running && b) && length (characters_at tap r) == length r.octets) && list_all (λ char. not (is_bad char)) (characters_at tap r))
     (fills_burst-skip delay tap m t old recent r over later)
 
-heard_by-skip : (delay : ℕ) (m : ℕ) (old recent : List Entry) (r : Record) (tap : ℕ) (ts : List Tap) (hs : List Heard) → AllOver delay m old → m ≤ r.begin
+heard_by-skip : (delay : ℕ) (m : ℕ) (old recent : List Entry) (r : Record) (tap : ℕ) (ts : List Tap) (hs : List Heard) → AllOver delay m old → m ≤ r.begin + delay
     → heard_by delay (old ++ recent) r tap ts hs ≡ heard_by delay recent r tap ts hs
 heard_by-skip delay m old recent r tap [] hs over later = refl
 heard_by-skip delay m old recent r tap (t ∷ ts) [] over later = refl
@@ -233,7 +233,7 @@ heard_by-skip delay m old recent r tap (t ∷ ts) (h ∷ hs) over later =
     ∙ ap (λ (rest : List Heard). heard_in_the_end (is_whole_at delay tap t recent r) h ∷ rest) (heard_by-skip delay m old recent r (tap + 1) ts hs over later)
 
 -- what recent telegrams were at the taps is told by the recent entries alone
-entries_at-skip : (delay : ℕ) (m from to : ℕ) (taps : List Tap) (old recent es : List Entry) → AllOver delay m old → AllFrom m es
+entries_at-skip : (delay : ℕ) (m from to : ℕ) (taps : List Tap) (old recent es : List Entry) → AllOver delay m old → AllFrom delay m es
     → map (entry_at delay taps (old ++ recent) from to) es ≡ map (entry_at delay taps recent from to) es
 entries_at-skip delay m from to taps old recent [] over later = refl
 entries_at-skip delay m from to taps old recent (Noise span ∷ es) over later =
@@ -253,7 +253,7 @@ over-stays delay m from to taps trace (Sent r ∷ es) over later =
     (le-ltb from (reaches delay r).end (omega (arith, over.1)))
     ∙ ap (λ (rest : List Entry). Sent r ∷ rest) (over-stays delay m from to taps trace es over.2 later)
 
-pub trace_at-skip : (delay : ℕ) (m from to : ℕ) (taps : List Tap) (old recent : List Entry) → AllOver delay m old → AllFrom m recent → m ≤ from
+pub trace_at-skip : (delay : ℕ) (m from to : ℕ) (taps : List Tap) (old recent : List Entry) → AllOver delay m old → AllFrom delay m recent → m ≤ from
     → map (entry_at delay taps (old ++ recent) from to) (old ++ recent) ≡ old ++ map (entry_at delay taps recent from to) recent
 trace_at-skip delay m from to taps old recent over begun later =
     map-append (entry_at delay taps (old ++ recent) from to) old recent

@@ -16,7 +16,7 @@ use Rattle.law_turn.proofs.Keeping.{Sayable, cycles-new, cycles-started, cycles-
 use Rattle.law_model.specs.Trace.{Hit, Record, Entry, Sent, Noise, entry_begin, entry_end, goes_before, with_entry, cut_end, cut_at, is_noise_at, noisy_until, begins_from, unheard_at}
 use Rattle.law_model.specs.Medium.{TapSpec, Tap, reaches, ends_between, entry_at, heard_by}
 use Rattle.law_model.specs.World as world
-use Rattle.law_model.specs.World.{World, Event, Turn, Pass, Damage, Start, Stop, Queue, Reply, Fault, NoSuchTap, Running, NotRunning, NothingInAir, ZeroTime, QueueFull, TraceFull, trace_limit, unless, unless_fault, is_in_air_by, new_world, stopped_tap, new_faults, queue_limit}
+use Rattle.law_model.specs.World.{World, Event, Turn, Pass, Damage, Start, Stop, Queue, Reply, Fault, NoSuchTap, Running, NotRunning, NothingInAir, ZeroTime, QueueFull, TraceFull, unless, unless_fault, is_in_air_by, new_world, stopped_tap, new_faults, queue_limit}
 use Rattle.law_model.specs.Step.{sending, with_said, step_turn, told, pass_faults, step_pass, with_hit, change_first, has_place, step_damage, started_tap, step_start, halted, step_stop, step_queue, with_noise, is_noisy, step_noise, step_unheard, step, world_after, replay}
 use Rattle.law_model.specs.Laws.{AllBegun, AllInOrder, InOrder, AllSayable, IsEvent, AreEvents, AllFit, IsSound}
 use Rattle.law_model.proofs.Cases.{by_test}
@@ -122,7 +122,7 @@ sound-turn w tap (Some t) e sound =
     world_after-unless IsSound w
     (record w { trace = with_said tap turn.1 w.now w.taps w.trace; taps = slice_set w.taps tap (record t { station = turn.0; marks = [] }) })
     (record { now = w.now; spoke = turn.1 })
-    ((not t.running, NotRunning) ∷ (is_some turn.1 && nat_le trace_limit (length w.trace), TraceFull) ∷ [])
+    ((not t.running, NotRunning) ∷ (is_some turn.1 && nat_le w.limit (length w.trace), TraceFull) ∷ [])
     sound
     (λ _. record {
       begun = begun-with_said w tap turn.1 (fits-turn_of w.params t.station t.marks w.now has) sound.begun;
@@ -209,7 +209,7 @@ begun-with_noise w bits false some all = begun-with_entry w.now (Noise (record {
 sound-noise : (w : World) (bits : ℕ) (noisy : Bool) → IsSound w → IsSound (world_after w (step_noise w bits noisy))
 sound-noise w bits noisy sound =
     world_after-unless IsSound w (record w { trace = with_noise w.now (w.now + bits) noisy w.trace }) (record { now = w.now; spoke = None })
-    ((bits == 0, ZeroTime) ∷ (not noisy && nat_le trace_limit (length w.trace), TraceFull) ∷ [])
+    ((bits == 0, ZeroTime) ∷ (not noisy && nat_le w.limit (length w.trace), TraceFull) ∷ [])
     sound
     (λ none. record {
       begun = begun-with_noise w bits noisy (let some : bits ≡ 0 → ⊥ = eqb-false bits 0 none.0 in grind (arith, some)) sound.begun;
@@ -265,7 +265,7 @@ unless-Ok {F} {X} tests x y = by_fault (first_fault tests) refl
 
 pub sound-new_world : (p : Params) (specs : List TapSpec) (w : World) → AllFit specs → new_world p specs ≡ Ok w → IsSound w
 sound-new_world p specs w fit new =
-    let made : World = record { params = p; now = 0; trace = []; taps = map (stopped_tap p) specs } in
+    let made : World = record { params = p; now = 0; trace = []; taps = map (stopped_tap p) specs; limit = world.trace_limit } in
     let same = unless-Ok (new_faults p specs) made w new in
     subst IsSound same.1 (record { begun = tt; in_order = sound-stopped_taps p specs; sayable = sayable-stopped_taps p specs fit })
 
@@ -278,7 +278,7 @@ later-turn w tap (Some t) =
     world_after-unless (λ (x : World). w.now ≤ x.now) w
     (record w { trace = with_said tap turn.1 w.now w.taps w.trace; taps = slice_set w.taps tap (record t { station = turn.0; marks = [] }) })
     (record { now = w.now; spoke = turn.1 })
-    ((not t.running, NotRunning) ∷ (is_some turn.1 && nat_le trace_limit (length w.trace), TraceFull) ∷ [])
+    ((not t.running, NotRunning) ∷ (is_some turn.1 && nat_le w.limit (length w.trace), TraceFull) ∷ [])
     (omega arith) (λ _. omega arith)
 
 later-pass : (w : World) (d : ℕ) → w.now ≤ (world_after w (step_pass w d)).now
@@ -319,7 +319,7 @@ later-queue w tap r (Some t) =
 later-noise : (w : World) (bits : ℕ) (noisy : Bool) → w.now ≤ (world_after w (step_noise w bits noisy)).now
 later-noise w bits noisy =
     world_after-unless (λ (x : World). w.now ≤ x.now) w (record w { trace = with_noise w.now (w.now + bits) noisy w.trace }) (record { now = w.now; spoke = None })
-    ((bits == 0, ZeroTime) ∷ (not noisy && nat_le trace_limit (length w.trace), TraceFull) ∷ []) (omega arith) (λ _. omega arith)
+    ((bits == 0, ZeroTime) ∷ (not noisy && nat_le w.limit (length w.trace), TraceFull) ∷ []) (omega arith) (λ _. omega arith)
 
 later-unheard : (w : World) (tap speaker : ℕ) (at from : Option Tap) → w.now ≤ (world_after w (step_unheard w tap speaker at from)).now
 later-unheard w tap speaker at from =

@@ -112,7 +112,7 @@ abbrev pub AllOver : ℕ → ℕ → List Entry → Type 0
 AllOver delay m [] = Unit {0}
 AllOver delay m (e ∷ es) = (entry_begin e < entry_end e) × ((reaches_taps delay e).end ≤ m) × AllOver delay m es
 
--- no entry begins before a moment
-abbrev pub AllFrom : ℕ → List Entry → Type 0
-AllFrom m [] = Unit {0}
-AllFrom m (e ∷ es) = (m ≤ entry_begin e) × AllFrom m es
+-- no entry reaches the taps before a moment
+abbrev pub AllFrom : ℕ → ℕ → List Entry → Type 0
+AllFrom delay m [] = Unit {0}
+AllFrom delay m (e ∷ es) = (m ≤ (reaches_taps delay e).begin) × AllFrom delay m es

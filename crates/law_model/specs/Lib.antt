@@ -5,3 +5,4 @@ pub mod Scenarios
 pub mod Step
 pub mod Trace
 pub mod World
+pub mod Behind

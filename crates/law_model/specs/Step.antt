@@ -9,7 +9,7 @@ use Rattle.law_turn.specs.Turns.{turn_of}
 use Rattle.law_model.specs.Trace as trace
 use Rattle.law_model.specs.Trace.{Record, Hit, Entry, Sent, with_entry, heard_at_first, cut_at, is_noise_at, noisy_until, begins_from, unheard_at}
 use Rattle.law_model.specs.Medium.{Tap, at_tap, contains_moment, new_marks, entry_at}
-use Rattle.law_model.specs.World.{World, Event, Turn, Pass, Damage, Start, Stop, Queue, Noise, Unheard, Reply, Fault, NoSuchTap, Running, NotRunning, NothingInAir, ZeroTime, TooFar, ClockFull, QueueFull, InboxFull, TraceFull, clock_limit, mark_limit, trace_limit, unless, next_end, is_in_air_by, queue_limit}
+use Rattle.law_model.specs.World.{World, Event, Turn, Pass, Damage, Start, Stop, Queue, Noise, Unheard, Reply, Fault, NoSuchTap, Running, NotRunning, NothingInAir, ZeroTime, TooFar, ClockFull, QueueFull, InboxFull, TraceFull, clock_limit, mark_limit, unless, next_end, is_in_air_by, queue_limit}
 
 -- ---- Turn
 
@@ -32,7 +32,7 @@ with_said tap (Some octets) now taps entries = with_entry (Sent (sending tap oct
 -- the world after a turn, given the tap's new station and what it sends
 abbrev pub after_turn : World → ℕ → Tap → Station × Option (List ℕ) → Result (World × Reply) Fault
 after_turn w tap t turn =
-    unless ((not t.running, NotRunning) ∷ (is_some turn.1 && nat_le trace_limit (length w.trace), TraceFull) ∷ []) (
+    unless ((not t.running, NotRunning) ∷ (is_some turn.1 && nat_le w.limit (length w.trace), TraceFull) ∷ []) (
       record w { trace = with_said tap turn.1 w.now w.taps w.trace; taps = slice_set w.taps tap (record t { station = turn.0; marks = [] }) },
       record { now = w.now; spoke = turn.1 },
     )
@@ -169,7 +169,7 @@ is_noisy w = list_any (is_noise_at w.now) w.trace
 
 abbrev pub step_noise : World → ℕ → Bool → Result (World × Reply) Fault
 step_noise w bits noisy =
-    unless ((bits == 0, ZeroTime) ∷ (not noisy && nat_le trace_limit (length w.trace), TraceFull) ∷ []) (
+    unless ((bits == 0, ZeroTime) ∷ (not noisy && nat_le w.limit (length w.trace), TraceFull) ∷ []) (
       record w { trace = with_noise w.now (w.now + bits) noisy w.trace },
       record { now = w.now; spoke = None },
     )

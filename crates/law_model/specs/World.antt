@@ -13,6 +13,8 @@ pub record World : Type 0 where
   pub now : ℕ
   pub trace : List Entry
   pub taps : List Tap
+  -- how many entries the trace may have
+  pub limit : ℕ
 
 pub data Event : Type 0 where
   -- a station takes its turn
@@ -110,8 +112,11 @@ new_faults p specs =
     ∷ (is_some (first_bad_address p 0 specs), BadAddress (unwrap_or (first_bad_address p 0 specs) 0))
     ∷ []
 
+abbrev pub new_world_within : ℕ → Params → List TapSpec → Result World NewFault
+new_world_within limit p specs = unless (new_faults p specs) (record { params = p; now = 0; trace = []; taps = map (stopped_tap p) specs; limit = limit })
+
 abbrev pub new_world : Params → List TapSpec → Result World NewFault
-new_world p specs = unless (new_faults p specs) (record { params = p; now = 0; trace = []; taps = map (stopped_tap p) specs })
+new_world p specs = new_world_within trace_limit p specs
 
 -- ---- what is on the bus
 

@@ -28,5 +28,5 @@ pub use refusals::{
 };
 pub use world_laws::{
     a_refused_event_changes_nothing, marks_stand_in_order_of_time, the_clock_never_falls,
-    what_a_pass_tells_a_tap,
+    what_a_pass_tells_a_tap, what_is_over_may_be_let_go,
 };

@@ -82,10 +82,10 @@ pub fn what_has_ended_matters_no_more()
     ensures ends { (delay : ℕ) (m now : ℕ) (old recent : List Entry) → AllOver delay m old → m ≤ now
         → next_end_of delay now (old ++ recent) ≡ next_end_of delay now recent }
     ensures telegrams { (delay : ℕ) (m from to : ℕ) (taps : List Tap) (old recent : List Entry)
-        → AllOver delay m old → AllFrom m recent → m ≤ from
+        → AllOver delay m old → AllFrom delay m recent → m ≤ from
         → map (entry_at delay taps (old ++ recent) from to) (old ++ recent)
         ≡ old ++ map (entry_at delay taps recent from to) recent }
     ensures marks { (delay : ℕ) (tap m from to : ℕ) (t : Tap) (old recent : List Entry)
-        → AllOver delay m old → AllFrom m recent → m ≤ from
+        → AllOver delay m old → AllFrom delay m recent → m ≤ from
         → marks_between delay tap t (old ++ recent) from to ≡ marks_between delay tap t recent from to }
 {}

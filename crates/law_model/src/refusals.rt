@@ -66,17 +66,17 @@ pub fn only_what_is_in_the_air_is_damaged()
 /// A trace of 100,000 entries is full: a turn that speaks and new noise are refused. Before that, neither is refused
 /// for this reason.
 pub fn a_full_trace_takes_no_more()
-    ensures noise { (w : World) (bits : ℕ) → 0 < bits → is_noisy w ≡ false → 100000 ≤ length w.trace
+    ensures noise { (w : World) (bits : ℕ) → 0 < bits → is_noisy w ≡ false → w.limit ≤ length w.trace
         → step w (Noise bits) ≡ Err TraceFull }
-    ensures noise_fits { (w : World) (bits : ℕ) → 0 < bits → length w.trace < 100000
+    ensures noise_fits { (w : World) (bits : ℕ) → 0 < bits → length w.trace < w.limit
         → refusal (step w (Noise bits)) ≡ None }
     ensures noise_lasts { (w : World) (bits : ℕ) → 0 < bits → is_noisy w ≡ true
         → refusal (step w (Noise bits)) ≡ None }
     ensures speech { (w : World) (tap : ℕ) (t : Tap) → slice_get w.taps tap ≡ Some t → t.running ≡ true
         → is_some (turn_of w.params t.station t.marks w.now).1 ≡ true
-        → 100000 ≤ length w.trace → step w (Turn tap) ≡ Err TraceFull }
+        → w.limit ≤ length w.trace → step w (Turn tap) ≡ Err TraceFull }
     ensures speech_fits { (w : World) (tap : ℕ) (t : Tap) → slice_get w.taps tap ≡ Some t → t.running ≡ true
-        → length w.trace < 100000 → refusal (step w (Turn tap)) ≡ None }
+        → length w.trace < w.limit → refusal (step w (Turn tap)) ≡ None }
     ensures silence { (w : World) (tap : ℕ) (t : Tap) → slice_get w.taps tap ≡ Some t → t.running ≡ true
         → is_some (turn_of w.params t.station t.marks w.now).1 ≡ false
         → refusal (step w (Turn tap)) ≡ None }

@@ -3,8 +3,10 @@
 ghost use Rattle.std.specs.Prelude.{◌≡◌, ◌≤◌, ℕ, Bool, true, List, [], ◌∷◌, Ok, Err, Some, slice_get};
 ghost use Rattle.pb_timers.specs.Timers.{Params};
 ghost use Rattle.law_model.specs.Medium.{TapSpec, Tap};
-ghost use Rattle.law_model.specs.World.{World, Event, Pass, Reply, Fault, new_world};
+ghost use Rattle.law_model.specs.World.{World, Event, Turn, Pass, Reply, Fault, new_world};
 ghost use Rattle.law_model.specs.Step.{step, replay};
+ghost use Rattle.law_model.specs.Behind.{behind, all_behind, IsPast};
+ghost use Rattle.law_model.specs.Trace.{Entry};
 ghost use Rattle.law_model.specs.Laws.{AllInOrder, AllFit, AreEvents, PassTells};
 
 /// The clock never decreases, whatever the events.
@@ -35,4 +37,12 @@ pub fn what_a_pass_tells_a_tap()
         → step (replay w events) (Pass d) ≡ Ok (next, reply)
         → slice_get (replay w events).taps tap ≡ Some t → t.running ≡ true
         → PassTells (replay w events) next tap t }
+{}
+
+/// A world goes on as if the entries that were let go still stood in front of its own.
+pub fn what_is_over_may_be_let_go()
+    ensures turn { (old : List Entry) (w : World) (tap : ℕ) → IsPast old w
+        → step (behind old w) (Turn tap) ≡ all_behind old (step w (Turn tap)) }
+    ensures pass { (old : List Entry) (w : World) (d : ℕ) → IsPast old w
+        → step (behind old w) (Pass d) ≡ all_behind old (step w (Pass d)) }
 {}

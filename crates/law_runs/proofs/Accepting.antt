@@ -40,7 +40,7 @@ clock-turn : (w u : World) (r : Reply) (tap : ℕ) (o : Option Tap) → step_tur
 clock-turn w u r tap None ok = absurd cc
 clock-turn w u r tap (Some t) ok =
     let turn = turn_of w.params t.station t.marks w.now in
-    clock-unless ((not t.running, NotRunning) ∷ (is_some turn.1 && nat_le trace_limit (length w.trace), TraceFull) ∷ [])
+    clock-unless ((not t.running, NotRunning) ∷ (is_some turn.1 && nat_le w.limit (length w.trace), TraceFull) ∷ [])
     (record w { trace = with_said tap turn.1 w.now w.taps w.trace; taps = slice_set w.taps tap (record t { station = turn.0; marks = [] }) }, record { now = w.now; spoke = turn.1 })
     u r ok
 
@@ -90,7 +90,7 @@ clock-step w u r (Start tap) ok = stays (clock-start w u r tap (slice_get w.taps
 clock-step w u r (Stop tap) ok = stays (clock-stop w u r tap (slice_get w.taps tap) ok)
 clock-step w u r (Queue tap request) ok = stays (clock-queue w u r tap request (slice_get w.taps tap) ok)
 clock-step w u r (Noise bits) ok =
-    stays (clock-unless ((bits == 0, ZeroTime) ∷ (not (is_noisy w) && nat_le trace_limit (length w.trace), TraceFull) ∷ [])
+    stays (clock-unless ((bits == 0, ZeroTime) ∷ (not (is_noisy w) && nat_le w.limit (length w.trace), TraceFull) ∷ [])
     (record w { trace = with_noise w.now (w.now + bits) (is_noisy w) w.trace }, record { now = w.now; spoke = None }) u r ok)
 clock-step w u r (Unheard tap speaker) ok = stays (clock-unheard w u r tap speaker (slice_get w.taps tap) (slice_get w.taps speaker) ok)
 
@@ -112,7 +112,7 @@ turn-leaves w u i r = by (slice_get w.taps i)
         let turned : Tap = record t { station = turn.0; marks = [] } in
         let made : World × Reply =
         (record w { trace = with_said i turn.1 w.now w.taps w.trace; taps = slice_set w.taps i turned }, record { now = w.now; spoke = turn.1 }) in
-        let same : made ≡ (u, r) = unless-ok ((not t.running, NotRunning) ∷ (is_some turn.1 && nat_le trace_limit (length w.trace), TraceFull) ∷ []) made (u, r) ok in
+        let same : made ≡ (u, r) = unless-ok ((not t.running, NotRunning) ∷ (is_some turn.1 && nat_le w.limit (length w.trace), TraceFull) ∷ []) made (u, r) ok in
         record { tap = turned; taps = ap (λ (x : World × Reply). x.0.taps) (sym same); params = ap (λ (x : World × Reply). x.0.params) (sym same) }
 
 pub get-other : {X : Type 0} (xs : List X) (i j : ℕ) (x : X) → i ≢ j → slice_get (slice_set xs i x) j ≡ slice_get xs j

@@ -153,15 +153,15 @@ says w t = (turn_of w.params t.station t.marks w.now).1
 abbrev world_turned : World → ℕ → Tap → World
 world_turned w i t = record w { trace = said w i (says w t); taps = slice_set w.taps i (turned w t) }
 
-abbrev has_no_room : Option (List ℕ) → List Entry → Bool
-has_no_room o es = is_some o && nat_le trace_limit (length es)
+abbrev has_no_room : ℕ → Option (List ℕ) → List Entry → Bool
+has_no_room limit o es = is_some o && nat_le limit (length es)
 
 -- a turn that is accepted
 record Accepted (w : World) (i : ℕ) (next : World) (reply : Reply) : Type 0 where
   tap : Tap
   at : slice_get w.taps i ≡ Some tap
   runs : tap.running ≡ true
-  room : has_no_room (says w tap) w.trace ≡ false
+  room : has_no_room w.limit (says w tap) w.trace ≡ false
   world : world_turned w i tap ≡ next
   answer : (record { now = w.now; spoke = says w tap }) ≡ reply
 
@@ -172,7 +172,7 @@ accepted w i next reply = by (slice_get w.taps i) refl
     by None at ok = absurd cc
     by (Some t) at ok =
         let made : World × Reply = (world_turned w i t, record { now = w.now; spoke = says w t }) in
-        let is = unless-Ok ((not t.running, NotRunning) ∷ (has_no_room (says w t) w.trace, TraceFull) ∷ []) made (next, reply) ok in
+        let is = unless-Ok ((not t.running, NotRunning) ∷ (has_no_room w.limit (says w t) w.trace, TraceFull) ∷ []) made (next, reply) ok in
         record {
           tap = t;
           at = at;
@@ -182,28 +182,28 @@ accepted w i next reply = by (slice_get w.taps i) refl
           answer = ap (λ x. x.1) is.1;
         }
 
-accepts : (w : World) (i : ℕ) (t : Tap) → slice_get w.taps i ≡ Some t → t.running ≡ true → has_no_room (says w t) w.trace ≡ false
+accepts : (w : World) (i : ℕ) (t : Tap) → slice_get w.taps i ≡ Some t → t.running ≡ true → has_no_room w.limit (says w t) w.trace ≡ false
     → step w (Turn i) ≡ Ok (world_turned w i t, record { now = w.now; spoke = says w t })
 accepts w i t at runs room =
     let made : World × Reply = (world_turned w i t, record { now = w.now; spoke = says w t }) in
     let ending : Bool → Bool → Result (World × Reply) Fault = λ down full. unless ((not down, NotRunning) ∷ (full, TraceFull) ∷ []) made in
-    ap (step_turn w i) at ∙ ap (λ b. ending b (has_no_room (says w t) w.trace)) runs ∙ ap (ending true) room
+    ap (step_turn w i) at ∙ ap (λ b. ending b (has_no_room w.limit (says w t) w.trace)) runs ∙ ap (ending true) room
 
 -- room for one more leaves room where less has been said
-room-before : (w : World) (i : ℕ) (a b : Option (List ℕ)) → has_no_room b (said w i a) ≡ false → has_no_room b w.trace ≡ false
+room-before : (w : World) (i : ℕ) (a b : Option (List ℕ)) → has_no_room w.limit b (said w i a) ≡ false → has_no_room w.limit b w.trace ≡ false
 room-before w i a None room = refl
 room-before w i None (Some b) room = room
 room-before w i (Some a) (Some b) room =
     let e : Entry = Sent (sending i a w.now w.taps) in
-    lt-leb trace_limit (length w.trace) (omega (arith, leb-false trace_limit (length (with_entry e w.trace)) room, entry-longer e w.trace))
+    lt-leb w.limit (length w.trace) (omega (arith, leb-false w.limit (length (with_entry e w.trace)) room, entry-longer e w.trace))
 
-room-after : (w : World) (i j : ℕ) (a b : Option (List ℕ)) → has_no_room a w.trace ≡ false → has_no_room b (said w i a) ≡ false → has_no_room a (said w j b) ≡ false
+room-after : (w : World) (i j : ℕ) (a b : Option (List ℕ)) → has_no_room w.limit a w.trace ≡ false → has_no_room w.limit b (said w i a) ≡ false → has_no_room w.limit a (said w j b) ≡ false
 room-after w i j None b one two = refl
 room-after w i j (Some a) None one two = one
 room-after w i j (Some a) (Some b) one two =
     let e : Entry = Sent (sending i a w.now w.taps) in
     let x : Entry = Sent (sending j b w.now w.taps) in
-    lt-leb trace_limit (length (with_entry x w.trace)) (omega (arith, leb-false trace_limit (length (with_entry e w.trace)) two, entry-longer e w.trace, entry-longer x w.trace))
+    lt-leb w.limit (length (with_entry x w.trace)) (omega (arith, leb-false w.limit (length (with_entry e w.trace)) two, entry-longer e w.trace, entry-longer x w.trace))
 
 pub turns-commute : (w after : World) (i j : ℕ) (first second : Reply) → i ≢ j → BothTurn w i j after first second → BothTurn w j i after second first
 turns-commute w after i j first second other (between, ok, okay) =

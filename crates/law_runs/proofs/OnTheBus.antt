@@ -5,7 +5,7 @@ use Rattle.pb_faults.specs.FirstFault.{first_fault}
 use Rattle.pb_timers.specs.Timers.{Params}
 use Rattle.law_turn.specs.Stations.{due_of}
 use Rattle.law_model.specs.Medium.{TapSpec, Tap}
-use Rattle.law_model.specs.World.{World, Event, Fault, NewFault, unless_fault, new_world, new_faults, stopped_tap}
+use Rattle.law_model.specs.World.{trace_limit, World, Event, Fault, NewFault, unless_fault, new_world, new_faults, stopped_tap}
 use Rattle.law_runs.proofs.Commuting.{turns-commute}
 use Rattle.law_runs.specs.Runs.{run}
 use Rattle.law_runs.specs.Histories.{Leads, AreTrue, Commutes}
@@ -93,7 +93,7 @@ new-now : (p : Params) (specs : List TapSpec) (w : World) → new_world p specs 
 new-now p specs w = by (first_fault (new_faults p specs))
   where
     made : World
-    made = record { params = p; now = 0; trace = []; taps = map (stopped_tap p) specs }
+    made = record { params = p; now = 0; trace = []; taps = map (stopped_tap p) specs; limit = trace_limit }
 
     by : (o : Option NewFault) → unless_fault o made ≡ Ok w → w.now ≡ 0
     by None ok = let same : made ≡ w = cc in ap (λ (x : World). x.now) (sym same)

@@ -90,7 +90,7 @@ stands-turn w tap (Some t) stands =
     world_after-unless Stands w
     (record w { trace = with_said tap turn.1 w.now w.taps w.trace; taps = slice_set w.taps tap (record t { station = turn.0; marks = [] }) })
     (record { now = w.now; spoke = turn.1 })
-    ((not t.running, NotRunning) ∷ (is_some turn.1 && nat_le trace_limit (length w.trace), TraceFull) ∷ [])
+    ((not t.running, NotRunning) ∷ (is_some turn.1 && nat_le w.limit (length w.trace), TraceFull) ∷ [])
     stands (λ _. stands-with_said w tap turn.1 stands)
 
 stands-pass : (w : World) (d : ℕ) → Stands w → Stands (world_after w (step_pass w d))
@@ -134,7 +134,7 @@ stands-with_noise now end false trace stands = stands-with_entry 0 (Noise (recor
 stands-noise : (w : World) (bits : ℕ) (noisy : Bool) → Stands w → Stands (world_after w (step_noise w bits noisy))
 stands-noise w bits noisy stands =
     world_after-unless Stands w (record w { trace = with_noise w.now (w.now + bits) noisy w.trace }) (record { now = w.now; spoke = None })
-    ((bits == 0, ZeroTime) ∷ (not noisy && nat_le trace_limit (length w.trace), TraceFull) ∷ [])
+    ((bits == 0, ZeroTime) ∷ (not noisy && nat_le w.limit (length w.trace), TraceFull) ∷ [])
     stands (λ _. stands-with_noise w.now (w.now + bits) noisy w.trace stands)
 
 stands-unheard : (w : World) (tap speaker : ℕ) (at from : Option Tap) → Stands w → Stands (world_after w (step_unheard w tap speaker at from))
@@ -168,7 +168,7 @@ sound-after (e ∷ es) w next are (between, reply, done, leads) sound =
 
 pub stands-new : (p : Params) (specs : List TapSpec) (new : World) → new_world p specs ≡ Ok new → Stands new
 stands-new p specs new made =
-    let first : World = record { params = p; now = 0; trace = []; taps = map (stopped_tap p) specs } in
+    let first : World = record { params = p; now = 0; trace = []; taps = map (stopped_tap p) specs; limit = trace_limit } in
     subst Stands (unless-Ok (new_faults p specs) first new made).1 tt
 
 ordered-by : (from now : ℕ) (es : List Entry) → StandsFrom from es → AllBegun now es → IsOrderedFrom from es

@@ -39,7 +39,7 @@ quiet-turn w next tap reply (Some t) ok =
     let turn = turn_of w.params t.station t.marks w.now in
     let y : Tap = record t { station = turn.0; marks = [] } in
     let made : World × Reply = (record w { trace = with_said tap turn.1 w.now w.taps w.trace; taps = slice_set w.taps tap y }, record { now = w.now; spoke = turn.1 }) in
-    let is = unless-Ok ((not t.running, NotRunning) ∷ (is_some turn.1 && nat_le trace_limit (length w.trace), TraceFull) ∷ []) made (next, reply) ok in
+    let is = unless-Ok ((not t.running, NotRunning) ∷ (is_some turn.1 && nat_le w.limit (length w.trace), TraceFull) ∷ []) made (next, reply) ok in
     subst (AsQuiet w) is.1 (quiet-spoken w tap turn.1)
 
 quiet-pass : (w next : World) (bits : ℕ) (reply : Reply) → IsSound w → step_pass w bits ≡ Ok (next, reply) → (tap : ℕ) → quiet_in next tap ≡ quiet_after w (Pass bits) tap (quiet_in w tap)
@@ -85,7 +85,7 @@ quiet-queue w next tap r reply (Some t) ok =
 quiet-noisy : (w next : World) (bits : ℕ) (noisy : Bool) (reply : Reply) → step_noise w bits noisy ≡ Ok (next, reply) → AsQuiet w (next, reply)
 quiet-noisy w next bits noisy reply ok =
     let made : World × Reply = (record w { trace = with_noise w.now (w.now + bits) noisy w.trace }, record { now = w.now; spoke = None }) in
-    let is = unless-Ok ((bits == 0, ZeroTime) ∷ (not noisy && nat_le trace_limit (length w.trace), TraceFull) ∷ []) made (next, reply) ok in
+    let is = unless-Ok ((bits == 0, ZeroTime) ∷ (not noisy && nat_le w.limit (length w.trace), TraceFull) ∷ []) made (next, reply) ok in
     subst (AsQuiet w) is.1 (λ k. quiet-noise w.params.ttd k w.now (w.now + bits) noisy w.trace (omega arith))
 
 quiet-lost : (w next : World) (tap speaker : ℕ) (reply : Reply) (at from : Option Tap) → step_unheard w tap speaker at from ≡ Ok (next, reply) → AsQuiet w (next, reply)
@@ -213,7 +213,7 @@ bus-turn w tap (Some t) =
     world_after-unless (λ (x : World). x.params ≡ w.params) w
     (record w { trace = with_said tap turn.1 w.now w.taps w.trace; taps = slice_set w.taps tap (record t { station = turn.0; marks = [] }) })
     (record { now = w.now; spoke = turn.1 })
-    ((not t.running, NotRunning) ∷ (is_some turn.1 && nat_le trace_limit (length w.trace), TraceFull) ∷ [])
+    ((not t.running, NotRunning) ∷ (is_some turn.1 && nat_le w.limit (length w.trace), TraceFull) ∷ [])
     refl (λ _. refl)
 
 bus-pass : (w : World) (d : ℕ) → (world_after w (step_pass w d)).params ≡ w.params
@@ -254,7 +254,7 @@ bus-queue w tap r (Some t) =
 bus-noise : (w : World) (bits : ℕ) (noisy : Bool) → (world_after w (step_noise w bits noisy)).params ≡ w.params
 bus-noise w bits noisy =
     world_after-unless (λ (x : World). x.params ≡ w.params) w (record w { trace = with_noise w.now (w.now + bits) noisy w.trace }) (record { now = w.now; spoke = None })
-    ((bits == 0, ZeroTime) ∷ (not noisy && nat_le trace_limit (length w.trace), TraceFull) ∷ []) refl (λ _. refl)
+    ((bits == 0, ZeroTime) ∷ (not noisy && nat_le w.limit (length w.trace), TraceFull) ∷ []) refl (λ _. refl)
 
 bus-unheard : (w : World) (tap speaker : ℕ) (at from : Option Tap) → (world_after w (step_unheard w tap speaker at from)).params ≡ w.params
 bus-unheard w tap speaker at from =
@@ -289,7 +289,7 @@ taps-turn w tap (Some t) =
     world_after-unless (λ (x : World). length x.taps ≡ length w.taps) w
     (record w { trace = with_said tap turn.1 w.now w.taps w.trace; taps = slice_set w.taps tap (record t { station = turn.0; marks = [] }) })
     (record { now = w.now; spoke = turn.1 })
-    ((not t.running, NotRunning) ∷ (is_some turn.1 && nat_le trace_limit (length w.trace), TraceFull) ∷ [])
+    ((not t.running, NotRunning) ∷ (is_some turn.1 && nat_le w.limit (length w.trace), TraceFull) ∷ [])
     refl (λ _. length-set w.taps tap (record t { station = turn.0; marks = [] }))
 
 taps-pass : (w : World) (d : ℕ) → length ((world_after w (step_pass w d)).taps) ≡ length w.taps
@@ -330,7 +330,7 @@ taps-queue w tap r (Some t) =
 taps-noise : (w : World) (bits : ℕ) (noisy : Bool) → length ((world_after w (step_noise w bits noisy)).taps) ≡ length w.taps
 taps-noise w bits noisy =
     world_after-unless (λ (x : World). length x.taps ≡ length w.taps) w (record w { trace = with_noise w.now (w.now + bits) noisy w.trace }) (record { now = w.now; spoke = None })
-    ((bits == 0, ZeroTime) ∷ (not noisy && nat_le trace_limit (length w.trace), TraceFull) ∷ []) refl (λ _. refl)
+    ((bits == 0, ZeroTime) ∷ (not noisy && nat_le w.limit (length w.trace), TraceFull) ∷ []) refl (λ _. refl)
 
 taps-unheard : (w : World) (tap speaker : ℕ) (at from : Option Tap) → length ((world_after w (step_unheard w tap speaker at from)).taps) ≡ length w.taps
 taps-unheard w tap speaker at from =

@@ -115,6 +115,13 @@ impl Responder {
         &self.reply
     }
 
+    /// Changes the data with which it answers the next SRD; a repeat of the last one still gets the kept reply.
+    pub fn set_data(&mut self, reply: &ArrayVec<u8, 246>)
+        ensures { self.new ≡ record self.old { reply = reply.now.items } }
+    {
+        put_octets(&mut self.reply, reply);
+    }
+
     /// How many requests were executed: SDA, SRD and SDN that are no repeats. The count saturates at 2^64 - 1.
     pub fn executed(&self) -> u64
         ensures value { result ≡ self.now.executed }

@@ -35,7 +35,8 @@ const MOST_WORKERS: usize = 64;
 /// every schedule and every gate. If the events of its history break no premise, at most one station may initiate after
 /// them, the trace names that one, and each initiator telegram is legal (medium access: token passing). If none of them
 /// loses a telegram or lets a turn be late, no running master that is not offline has been in silence, as it hears the
-/// bus, for longer than its time-out and the lag.
+/// bus, for longer than its time-out and the lag. If they break no premise, the bus is never dead for longer than its
+/// bound.
 ///
 /// A conductor drives the steps of the scenario, and time from one instant to the next. In each instant it publishes
 /// the turns of all taps that are due and not withheld, together. Workers, including the conductor, draw these offers
@@ -48,6 +49,15 @@ const MOST_WORKERS: usize = 64;
 /// with the tap, the clock in bit times and the segment's fault; `Drive` with the clock and the fault; `GateClosed`
 /// with a tap for which the gate returned false; `NoThread`; `Closing`; `NoMemory`. Of several of one kind, it is that
 /// of the tap with the lowest index.
+///
+/// ```
+/// // `Open` is a gate that lets every turn through
+/// let scenario = read(rt.alloc(), TWO_MASTERS.as_bytes()).expect(&rt, "a scenario");
+/// for workers in [1, 4] {
+///     let report = run_fleet(&rt, rt.alloc(), &scenario, workers, &Open).expect(&rt, "a report");
+///     assert_eq!(rt; report.trace().len(), 7);
+/// }
+/// ```
 pub fn run_fleet<R: Threads + Wait + Sync, G: Gate>(
     rt: &R,
     alloc: Global,

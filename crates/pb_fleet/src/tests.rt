@@ -120,6 +120,16 @@ fn begin_of(entry: &Entry) -> u64 {
     }
 }
 
+#[test]
+fn example_of_run_fleet(rt: HostRuntime) {
+    // `Open` is a gate that lets every turn through
+    let scenario = read(rt.alloc(), TWO_MASTERS.as_bytes()).expect(&rt, "a scenario");
+    for workers in [1, 4] {
+        let report = run_fleet(&rt, rt.alloc(), &scenario, workers, &Open).expect(&rt, "a report");
+        assert_eq!(rt; report.trace().len(), 7);
+    }
+}
+
 /// The trace is that of one thread, for each number of workers. Numbers other than 1 to 64 are refused.
 #[test]
 fn plays_with_any_number_of_workers(rt: HostRuntime) {

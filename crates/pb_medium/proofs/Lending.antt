@@ -26,6 +26,7 @@ given-back t seen ys change is size same changed =
 pub after-room : (change : List model.Entry → List model.Entry) (before roomy after : Trace) → StaysAs before roomy → RecentBecomes change roomy after → RecentBecomes change before after
 after-room change before roomy after same becomes = record {
   over = becomes.over ∙ same.over;
+  limit = becomes.limit ∙ same.limit;
   entries = becomes.entries
       ∙ ap (λ over. take over (entries_of roomy) ++ change (drop over (entries_of roomy))) same.over
       ∙ ap (λ es. take (over_of before) es ++ change (drop (over_of before) es)) same.entries;

@@ -25,21 +25,21 @@ use Rattle.std.proofs.Math.Bool.{and-false}
 
 -- ---- a world with old entries in front of its own, and other parameters
 
-abbrev pub widened : List Entry → Params → Result (World × Reply) Fault → Result (World × Reply) Fault
-widened old p (Ok next) = Ok (record next.0 { params = p; trace = old ++ next.0.trace }, next.1)
-widened old p (Err f) = Err f
+abbrev pub widened : List Entry → Params → ℕ → Result (World × Reply) Fault → Result (World × Reply) Fault
+widened old p limit (Ok next) = Ok (record next.0 { params = p; trace = old ++ next.0.trace; limit = limit }, next.1)
+widened old p limit (Err f) = Err f
 
-widened-unless : (old : List Entry) (p : Params) (tests : List (Bool × Fault)) (w : World) (reply : Reply)
-    → unless tests (record w { params = p; trace = old ++ w.trace }, reply) ≡ widened old p (unless tests (w, reply))
-widened-unless old p tests w reply = by_fault (first_fault tests)
+widened-unless : (old : List Entry) (p : Params) (limit : ℕ) (tests : List (Bool × Fault)) (w : World) (reply : Reply)
+    → unless tests (record w { params = p; trace = old ++ w.trace; limit = limit }, reply) ≡ widened old p limit (unless tests (w, reply))
+widened-unless old p limit tests w reply = by_fault (first_fault tests)
   where
-    by_fault : (o : Option Fault) → unless_fault o (record w { params = p; trace = old ++ w.trace }, reply) ≡ widened old p (unless_fault o (w, reply))
+    by_fault : (o : Option Fault) → unless_fault o (record w { params = p; trace = old ++ w.trace; limit = limit }, reply) ≡ widened old p limit (unless_fault o (w, reply))
     by_fault None = refl
     by_fault (Some f) = refl
 
 -- ---- Pass
 
-told-skip : (delay m from to k : ℕ) (old recent : List Entry) (ts : List Tap) → AllOver delay m old → AllFrom m recent → m ≤ from
+told-skip : (delay m from to k : ℕ) (old recent : List Entry) (ts : List Tap) → AllOver delay m old → AllFrom delay m recent → m ≤ from
     → told delay (old ++ recent) from to k ts ≡ told delay recent from to k ts
 told-skip delay m from to k old recent [] over begun later = refl
 told-skip delay m from to k old recent (t ∷ ts) over begun later =
@@ -47,30 +47,30 @@ told-skip delay m from to k old recent (t ∷ ts) over begun later =
     (marks_between-skip delay k m from to t old recent over begun later)
     ∙ ap (λ (us : List Tap). record t { marks = t.marks ++ new_marks delay k t recent from to } ∷ us) (told-skip delay m from to (k + 1) old recent ts over begun later)
 
-pass-wide : (p : Params) (old recent : List Entry) (now d m : ℕ) (taps : List Tap) → AllOver p.ttd m old → AllFrom m recent → m ≤ now
-    → step_pass (record { params = p; now = now; trace = old ++ recent; taps = taps }) d
-    ≡ widened old p (step_pass (record { params = plain p.ttd; now = now; trace = recent; taps = taps }) d)
-pass-wide p old recent now d m taps over begun later =
+pass-wide : (p : Params) (limit : ℕ) (old recent : List Entry) (now d m : ℕ) (taps : List Tap) → AllOver p.ttd m old → AllFrom p.ttd m recent → m ≤ now
+    → step_pass (record { params = p; now = now; trace = old ++ recent; taps = taps; limit = limit }) d
+    ≡ widened old p limit (step_pass (record { params = plain p.ttd; now = now; trace = recent; taps = taps; limit = 0 }) d)
+pass-wide p limit old recent now d m taps over begun later =
     let to = now + d in
     let reply : Reply = record { now = to; spoke = None } in
     let ending : Option ℕ → List Tap → List Entry → Result (World × Reply) Fault
     = λ o ts es. unless (
     (d == 0, ZeroTime) ∷ (is_past o to, TooFar (unwrap_or o 0)) ∷ (nat_lt clock_limit to, ClockFull)
     ∷ (is_some (first_full 0 ts), InboxFull (unwrap_or (first_full 0 ts) 0)) ∷ []
-    ) (record { params = p; now = to; trace = es; taps = ts }, reply) in
+    ) (record { params = p; now = to; trace = es; taps = ts; limit = limit }, reply) in
     ap (λ o. ending o (told p.ttd (old ++ recent) now to 0 taps) (map (entry_at p.ttd taps (old ++ recent) now to) (old ++ recent))) (next_end_of-skip p.ttd m now old recent over later)
     ∙ ap (λ ts. ending (next_end_of p.ttd now recent) ts (map (entry_at p.ttd taps (old ++ recent) now to) (old ++ recent))) (told-skip p.ttd m now to 0 old recent taps over begun later)
     ∙ ap (λ es. ending (next_end_of p.ttd now recent) (told p.ttd recent now to 0 taps) es) (trace_at-skip p.ttd m now to taps old recent over begun later)
-    ∙ widened-unless old p (
+    ∙ widened-unless old p limit (
     (d == 0, ZeroTime) ∷ (is_past (next_end_of p.ttd now recent) to, TooFar (unwrap_or (next_end_of p.ttd now recent) 0)) ∷ (nat_lt clock_limit to, ClockFull)
     ∷ (is_some (first_full 0 (told p.ttd recent now to 0 taps)), InboxFull (unwrap_or (first_full 0 (told p.ttd recent now to 0 taps)) 0)) ∷ []
-    ) (record { params = plain p.ttd; now = to; trace = map (entry_at p.ttd taps recent now to) recent; taps = told p.ttd recent now to 0 taps }) reply
+    ) (record { params = plain p.ttd; now = to; trace = map (entry_at p.ttd taps recent now to) recent; taps = told p.ttd recent now to 0 taps; limit = 0 }) reply
 
 pub pass-whole : (w : World) (over d : ℕ) → IsCut w.params.ttd w.now over w.trace
-    → step_pass w d ≡ widened (take over w.trace) w.params (step_pass (record w { params = plain w.params.ttd; trace = drop over w.trace }) d)
+    → step_pass w d ≡ widened (take over w.trace) w.params w.limit (step_pass (record w { params = plain w.params.ttd; trace = drop over w.trace; limit = 0 }) d)
 pass-whole w over d (m, later, some, old, begun) =
     ap (λ es. step_pass (record w { trace = es }) d) (sym (take-append-drop over w.trace))
-    ∙ pass-wide w.params (take over w.trace) (drop over w.trace) w.now d m w.taps old begun later
+    ∙ pass-wide w.params w.limit (take over w.trace) (drop over w.trace) w.now d m w.taps old begun later
 
 -- ---- what is over is not in the air, and reaches nobody
 
@@ -117,27 +117,27 @@ changed-behind test change (e ∷ old) recent none =
 
 -- ---- Damage
 
-damage-wide : (p : Params) (old recent : List Entry) (now m tap speaker : ℕ) (place : Option ℕ) (at from : Option Tap) (taps : List Tap)
+damage-wide : (p : Params) (limit : ℕ) (old recent : List Entry) (now m tap speaker : ℕ) (place : Option ℕ) (at from : Option Tap) (taps : List Tap)
     → AllOver p.ttd m old → m ≤ now
-    → step_damage (record { params = p; now = now; trace = old ++ recent; taps = taps }) tap speaker place at from
-    ≡ widened old p (step_damage (record { params = plain p.ttd; now = now; trace = recent; taps = taps }) tap speaker place at from)
-damage-wide p old recent now m tap speaker place at from taps over later =
+    → step_damage (record { params = p; now = now; trace = old ++ recent; taps = taps; limit = limit }) tap speaker place at from
+    ≡ widened old p limit (step_damage (record { params = plain p.ttd; now = now; trace = recent; taps = taps; limit = 0 }) tap speaker place at from)
+damage-wide p limit old recent now m tap speaker place at from taps over later =
     let hit = with_hit (record { tap = tap; place = place }) in
     let landed = over-landed p.ttd m now speaker old over later in
     let reply : Reply = record { now = now; spoke = None } in
     let ending : Option Entry → List Entry → Result (World × Reply) Fault
     = λ o es. unless ((is_none at || is_none from, NoSuchTap) ∷ (tap == speaker || not (has_place o place), NothingInAir) ∷ [])
-    (record { params = p; now = now; trace = es; taps = taps }, reply) in
+    (record { params = p; now = now; trace = es; taps = taps; limit = limit }, reply) in
     ap (λ o. ending o (change_first (is_in_air_by p.ttd now speaker) hit (old ++ recent))) (find-behind (is_in_air_by p.ttd now speaker) old recent landed)
     ∙ ap (λ es. ending (find (is_in_air_by p.ttd now speaker) recent) es) (changed-behind (is_in_air_by p.ttd now speaker) hit old recent landed)
-    ∙ widened-unless old p ((is_none at || is_none from, NoSuchTap) ∷ (tap == speaker || not (has_place (find (is_in_air_by p.ttd now speaker) recent) place), NothingInAir) ∷ [])
-    (record { params = plain p.ttd; now = now; trace = change_first (is_in_air_by p.ttd now speaker) hit recent; taps = taps }) reply
+    ∙ widened-unless old p limit ((is_none at || is_none from, NoSuchTap) ∷ (tap == speaker || not (has_place (find (is_in_air_by p.ttd now speaker) recent) place), NothingInAir) ∷ [])
+    (record { params = plain p.ttd; now = now; trace = change_first (is_in_air_by p.ttd now speaker) hit recent; taps = taps; limit = 0 }) reply
 
 pub damage-whole : (w : World) (over tap speaker : ℕ) (place : Option ℕ) (at from : Option Tap) → IsCut w.params.ttd w.now over w.trace
-    → step_damage w tap speaker place at from ≡ widened (take over w.trace) w.params (step_damage (record w { params = plain w.params.ttd; trace = drop over w.trace }) tap speaker place at from)
+    → step_damage w tap speaker place at from ≡ widened (take over w.trace) w.params w.limit (step_damage (record w { params = plain w.params.ttd; trace = drop over w.trace; limit = 0 }) tap speaker place at from)
 damage-whole w over tap speaker place at from (m, later, some, old, begun) =
     ap (λ es. step_damage (record w { trace = es }) tap speaker place at from) (sym (take-append-drop over w.trace))
-    ∙ damage-wide w.params (take over w.trace) (drop over w.trace) w.now m tap speaker place at from w.taps old later
+    ∙ damage-wide w.params w.limit (take over w.trace) (drop over w.trace) w.now m tap speaker place at from w.taps old later
 
 -- ---- Start
 
@@ -216,14 +216,14 @@ noisy-behind w over (m, later, some, old, begun) =
     ∙ any-behind (is_noise_at w.now) (take over w.trace) (drop over w.trace) (over-silent w.params.ttd m w.now (take over w.trace) old later)
 
 pub noise-whole : (w : World) (over bits : ℕ) → IsCut w.params.ttd w.now over w.trace
-    → step_noise w bits (is_noisy w) ≡ unless ((bits == 0, ZeroTime) ∷ (has_no_room (has_noise w.now (drop over w.trace)) (length w.trace), TraceFull) ∷ []) (
+    → step_noise w bits (is_noisy w) ≡ unless ((bits == 0, ZeroTime) ∷ (has_no_room (has_noise w.now (drop over w.trace)) w.limit (length w.trace), TraceFull) ∷ []) (
       record w { trace = take over w.trace ++ with_noise w.now (w.now + bits) (has_noise w.now (drop over w.trace)) (drop over w.trace) },
       record { now = w.now; spoke = None },
     )
 noise-whole w over bits (m, later, some, old, begun) =
     let noisy = has_noise w.now (drop over w.trace) in
     let ending : List Entry → Result (World × Reply) Fault
-    = λ es. unless ((bits == 0, ZeroTime) ∷ (has_no_room noisy (length w.trace), TraceFull) ∷ []) (record w { trace = es }, record { now = w.now; spoke = None }) in
+    = λ es. unless ((bits == 0, ZeroTime) ∷ (has_no_room noisy w.limit (length w.trace), TraceFull) ∷ []) (record w { trace = es }, record { now = w.now; spoke = None }) in
     ap (step_noise w bits) (noisy-behind w over (m, later, some, old, begun))
     ∙ ap (λ es. ending (with_noise w.now (w.now + bits) noisy es)) (sym (take-append-drop over w.trace))
     ∙ ap ending (noise-behind w.params.ttd m w.now (w.now + bits) noisy (take over w.trace) (drop over w.trace) old later)

@@ -13,8 +13,8 @@ plain delay = record { tsl = 0; tid1 = 0; tid2 = 0; tsdr = 0; lag = 0; ttr = 0; 
 
 -- some entries and taps as a world of the model, on a bus with a cable delay, at a moment
 abbrev pub air : ℕ → ℕ → List trace.Entry → List Tap → model.World
-air delay now entries taps = record { params = plain delay; now = now; trace = entries; taps = map tap_of taps }
+air delay now entries taps = record { params = plain delay; now = now; trace = entries; taps = map tap_of taps; limit = 0 }
 
--- some entries have ended at all taps by a moment no later than the clock, before all others began
+-- some entries have ended at all taps by a moment no later than the clock, before all others reach the taps
 abbrev pub IsCut : ℕ → ℕ → ℕ → List trace.Entry → Type 0
-IsCut delay now over entries = (m : ℕ) × (m ≤ now) × (over ≤ length entries) × AllOver delay m (take over entries) × AllFrom m (drop over entries)
+IsCut delay now over entries = (m : ℕ) × (m ≤ now) × (over ≤ length entries) × AllOver delay m (take over entries) × AllFrom delay m (drop over entries)

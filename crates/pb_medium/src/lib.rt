@@ -33,4 +33,4 @@ pub use senses::{
 };
 pub use spans::Span;
 pub use speaking::Speaker;
-pub use traces::Trace;
+pub use traces::{TRACE_LIMIT, Trace};

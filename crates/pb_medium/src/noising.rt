@@ -15,7 +15,7 @@ impl Trace {
     ghost use Rattle.law_model.specs.Step.{with_noise};
     ghost use Rattle.law_model.specs.World.{clock_limit};
     ghost use Rattle.pb_medium.specs.Noising.{has_noise, has_no_room, RefusesNoise};
-    ghost use Rattle.pb_medium.specs.Traces.{entries_of, recent_of, RecentBecomes, StaysAs};
+    ghost use Rattle.pb_medium.specs.Traces.{entries_of, limit_of, recent_of, RecentBecomes, StaysAs};
 
     /// Makes noise for `bits` bit times from the clock on: noise on the bus is extended, else there is new noise.
     ///
@@ -27,10 +27,10 @@ impl Trace {
             self.old self.new) }
         ensures some { OnOk result ((bits == 0) ≡ false) }
         ensures room { OnOk result
-            (has_no_room (has_noise now (recent_of self.old)) (length (entries_of self.old)) ≡ false) }
+            (has_no_room (has_noise now (recent_of self.old)) (limit_of self.old) (length (entries_of self.old)) ≡ false) }
         ensures err { OnErr result (StaysAs self.old self.new) }
         ensures fault { IfErr result
-            (RefusesNoise bits (has_noise now (recent_of self.old)) (length (entries_of self.old))) }
+            (RefusesNoise bits (has_noise now (recent_of self.old)) (limit_of self.old) (length (entries_of self.old))) }
     {
         if bits == 0 {
             return Err(WorldFault::ZeroTime);

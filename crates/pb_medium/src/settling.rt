@@ -1,16 +1,17 @@
 //! Settles how telegrams reached the taps, as time passes.
 
-ghost use Rattle.std.specs.Prelude.{◌≡◌, ◌<◌, ◌∷◌, [], ℕ, IsTrue, true, get_or, length, map, slice_get, slice_set};
+ghost use Rattle.std.specs.Prelude.{◌≡◌, ◌<◌, ◌≤◌, ◌∷◌, [], ℕ, IsTrue, true, get_or, length, map, slice_get, slice_set};
 ghost use Rattle.law_model.specs.Medium.{ends_between, entry_at, heard_by, is_whole_at, reaches};
 ghost use Rattle.law_model.specs.Trace.{Pending, Sent};
 ghost use Rattle.pb_medium.specs.Entries.{entry_of, record_of};
-ghost use Rattle.pb_medium.specs.Settling.{comes_whole, hears_all, heard_with, settled, settled_as};
+ghost use Rattle.pb_medium.specs.Settling.{comes_whole, count_over, first_ended, hears_all, heard_with};
+ghost use Rattle.pb_medium.specs.Settling.{latest_end, none_before, settled, settled_as};
 ghost use Rattle.pb_taps.specs.Taps.{tap_of};
 
 use crate::entries::{Entry, Record};
 use crate::lone::is_plain;
 use crate::receptions::Reception;
-use crate::senses::{is_undamaged_at, is_whole_at, next_end, sent_octets};
+use crate::senses::{is_undamaged_at, is_whole_at, sent_octets};
 use crate::traces::Trace;
 use pb_taps::Tap;
 use pb_timers::Moment;
@@ -20,7 +21,7 @@ impl Trace {
     ghost use Rattle.law_model.specs.Laws.{AllBegun};
     ghost use Rattle.pb_medium.specs.Airs.{IsCut};
     ghost use Rattle.pb_medium.specs.Settling.{over_after, settled};
-    ghost use Rattle.pb_medium.specs.Traces.{entries_of, over_of, RecentBecomes};
+    ghost use Rattle.pb_medium.specs.Traces.{entries_of, limit_of, over_of, RecentBecomes};
     ghost use Rattle.pb_taps.specs.Taps.{tap_of};
 
     /// Time has passed: telegrams whose ends have reached the taps meanwhile are no longer pending.
@@ -30,18 +31,65 @@ impl Trace {
         settle(&mut self.entries[self.over..], delay, taps, from, to);
     }
 
-    /// Marks all entries as over, if none of them is still on the bus.
+    /// Moves the mark of what is over: behind the first entries that have ended at the taps, if the others reach the taps
+    /// no earlier.
     pub fn close(&mut self, delay: u32, now: Moment)
         ensures entries { entries_of self.new ≡ entries_of self.old }
+        ensures limit { limit_of self.new ≡ limit_of self.old }
         ensures over { over_of self.new ≡ over_after delay now (over_of self.old) (entries_of self.old) }
         ensures cut { (before : ℕ) → before ≤ now
             → IsCut delay before (over_of self.old) (entries_of self.old)
             → AllBegun now (entries_of self.old) → IsCut delay now (over_of self.new) (entries_of self.new) }
     {
-        if next_end(self.recent(), delay, now.get()).is_none() {
-            self.over = self.entries.len();
-        }
+        self.over += count_over(self.recent(), delay, now.get());
     }
+}
+
+/// How many of some entries are over: the first ones that have ended, if the others reach the taps no earlier.
+fn count_over(entries: &[Entry], delay: u32, now: u64) -> usize
+    ensures count { result ≡ count_over delay now (map entry_of entries.now) }
+    ensures bound { result ≤ length entries.now }
+{
+    let ended = first_ended(entries, delay, now);
+    if none_before(
+        &entries[ended..],
+        delay,
+        latest_end(&entries[..ended], delay),
+    ) {
+        ended
+    } else {
+        0
+    }
+}
+
+/// How many of the first entries have ended at the taps by now.
+fn first_ended(entries: &[Entry], delay: u32, now: u64) -> usize
+    ensures count { result ≡ first_ended delay now (map entry_of entries.now) }
+    ensures bound { result ≤ length entries.now }
+{
+    entries
+        .iter()
+        .position(|entry| now < entry.reaches_taps(delay).end())
+        .unwrap_or(entries.len())
+}
+
+/// When all of some entries have ended at the taps.
+fn latest_end(entries: &[Entry], delay: u32) -> u64
+    ensures { result ≡ latest_end delay (map entry_of entries.now) }
+{
+    entries.iter().fold(
+        0,
+        |latest, entry| latest.max(entry.reaches_taps(delay).end()),
+    )
+}
+
+/// Whether no entry reaches the taps before a moment.
+fn none_before(entries: &[Entry], delay: u32, moment: u64) -> bool
+    ensures { result ≡ none_before delay moment (map entry_of entries.now) }
+{
+    entries
+        .iter()
+        .all(|entry| moment <= entry.reaches_taps(delay).begin())
 }
 
 /// Telegrams whose ends have reached the taps meanwhile are no longer pending.

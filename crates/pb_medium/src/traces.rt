@@ -9,7 +9,7 @@ use pb_taps::WorldFault;
 use std::alloc::Global;
 
 /// The most entries of a trace.
-const TRACE_LIMIT: usize = 100_000;
+pub const TRACE_LIMIT: usize = 100_000;
 
 /// How many entries are reserved at first; later, three times the present number are added. Without reserved memory the
 /// entries would be moved, and a turn would first be tested for whether it sends. Reserved memory that is not used is
@@ -22,26 +22,29 @@ pub struct Trace {
     pub(crate) entries: Vec<Entry>,
     /// How many entries had ended before all others began.
     pub(crate) over: usize,
+    /// How many entries there may be.
+    pub(crate) limit: usize,
     ghost within: { over ≤ length entries.items },
 }
 
 impl Trace {
     ghost use Rattle.std.specs.Prelude.{◌≡◌, ◌≤◌, ◌+◌, [], nat_le, IsTrue, ◌↔◌, IfErr, OnOk, length, map};
     ghost use Rattle.std.specs.List.{insert};
-    ghost use Rattle.law_model.specs.World.{trace_limit};
     ghost use Rattle.law_model.specs.Trace.{with_entry};
     ghost use Rattle.pb_medium.specs.Entries.{entry_of};
-    ghost use Rattle.pb_medium.specs.Traces.{entries_of, over_of, place_of, recent_of};
+    ghost use Rattle.pb_medium.specs.Traces.{entries_of, limit_of, over_of, place_of, recent_of};
     ghost use Rattle.pb_medium.specs.Traces.{HasRoom, RecentBecomes, RefusesRoom, StaysAs};
 
     /// A trace without entries.
-    pub fn new(alloc: Global) -> Trace
+    pub fn new(alloc: Global, limit: usize) -> Trace
+        ensures limit { limit_of result ≡ limit }
         ensures empty { entries_of result ≡ [] }
         ensures over { over_of result ≡ 0 }
     {
         Trace {
             entries: Vec::new(alloc),
             over: 0,
+            limit,
         }
     }
 
@@ -70,14 +73,14 @@ impl Trace {
     pub fn has_room(&self) -> bool
         ensures { IsTrue result ↔ HasRoom self.now }
     {
-        self.entries.len() < self.entries.capacity().min(TRACE_LIMIT)
+        self.entries.len() < self.entries.capacity().min(self.limit)
     }
 
     /// Whether it has the most entries that a trace may have.
     pub fn is_full(&self) -> bool
-        ensures { result ≡ nat_le trace_limit (length (entries_of self.entry.now)) }
+        ensures { result ≡ nat_le (limit_of self.entry.now) (length (entries_of self.entry.now)) }
     {
-        self.entries.len() >= TRACE_LIMIT
+        self.entries.len() >= self.limit
     }
 
     /// Reserves memory for one more entry.
@@ -95,7 +98,10 @@ impl Trace {
             return Err(WorldFault::TraceFull);
         }
         let count = self.entries.len();
-        let more = (3 * count).max(FIRST_ROOM).min(TRACE_LIMIT - count);
+        let more = count
+            .saturating_mul(3)
+            .max(FIRST_ROOM)
+            .min(self.limit - count);
         self.entries.reserve(more)?;
         Ok(())
     }

@@ -4,7 +4,8 @@ use Rattle.pb_transitions.specs.Clocks.{last_turn}
 use Rattle.pb_cycles.specs.RequestFields.{RequestFields}
 use Rattle.pb_faults.specs.FirstFault.{first_fault}
 use Rattle.pb_station.specs.Decisions.{turned}
-use Rattle.pb_station.specs.Stations.{StationView}
+use Rattle.pb_station.specs.Indications.{IndicationFields, indications_of}
+use Rattle.pb_station.specs.Stations.{StationView, with_reply}
 use Rattle.pb_timers.specs.Timers.{Params}
 use Rattle.law_turn.specs.Marks.{Mark, moment_of, seen_at}
 use Rattle.law_turn.specs.Stations.{due_of, list_for, new_station, pushed, started, stopped}
@@ -16,6 +17,7 @@ pub record PortView : Type 0 where
   pub marks : List Mark  -- the unread ones
   pub clock : ℕ  -- the latest moment of a call
   pub past : ℕ  -- the latest of the marks' own moments, the turns and the start: no later mark may be before it
+  pub indications : List IndicationFields  -- the requests of others that the last turn executed
 
 -- ---- why a call is refused
 
@@ -47,6 +49,7 @@ new_port params address master reply = record {
   marks = [];
   clock = 0;
   past = 0;
+  indications = [];
 }
 
 -- the station starts at a moment, and nothing was heard
@@ -56,6 +59,7 @@ started_port p now = record {
   marks = [];
   clock = now;
   past = now;
+  indications = [];
 }
 
 -- the station stops, and its unread marks are dropped
@@ -76,7 +80,17 @@ due_port p = due_of p.station.params p.station.station p.marks
 
 -- the station takes its turn at a moment with its unread marks; and what it says
 abbrev pub turned_port : PortView → ℕ → PortView
-turned_port p now = record { station = (turned p.station p.marks now).0; marks = []; clock = now; past = now }
+turned_port p now = record {
+  station = (turned p.station p.marks now).0;
+  marks = [];
+  clock = now;
+  past = now;
+  indications = indications_of p.station.params p.station.station p.marks;
+}
+
+-- the station replies to the next request for data with other data
+abbrev pub replying_port : PortView → List ℕ → PortView
+replying_port p reply = record p { station = with_reply p.station reply }
 
 abbrev pub said_by : PortView → ℕ → Option (List ℕ)
 said_by p now = (turned p.station p.marks now).1

@@ -15,7 +15,5 @@ mod ports;
 pub use faults::PortFault;
 pub use feeds::{Feed, FeedFault, FeedMark};
 pub use handles::Handle;
+pub use pb_station::Indication;
 pub use ports::Port;
-
-#[cfg(test)]
-mod tests;

@@ -11,7 +11,7 @@ use arrayvec::ArrayVec;
 use pb_cycles::{Outcome, Request};
 use pb_faults::NoMemory;
 use pb_ring::Las;
-use pb_station::{Inbox, MARK_LIMIT, SendBuffer, Station};
+use pb_station::{Inbox, Indication, Indications, MARK_LIMIT, SendBuffer, Station};
 use pb_telegram::RxChar;
 use pb_timers::{BusParams, Moment};
 use pb_tokenfsm::Phase;
@@ -38,6 +38,8 @@ pub struct Port {
     past: Moment,
     /// What the station sent in its last turn: room that each turn uses again.
     sent: SendBuffer,
+    /// The requests of others that it executed in its last turn.
+    told: Indications,
 }
 
 /// A mark's own moment, and when it is delivered.
@@ -55,7 +57,13 @@ impl Model for Port {
 
     ghost Value = { PortView };
 
-    ghost view = { λ p. record { station = p.station; marks = p.inbox; clock = p.clock; past = p.past } };
+    ghost view = { λ p. record {
+      station = p.station;
+      marks = p.inbox;
+      clock = p.clock;
+      past = p.past;
+      indications = p.told;
+    } };
 
     ghost invariant = { λ p. AllOver p.clock p.inbox × (p.clock ≤ last_turn) };
 }
@@ -67,7 +75,8 @@ impl Port {
     ghost use Rattle.pb_telegram.specs.declared.chars.RxChar.TheVariants.{Good, Bad};
     ghost use Rattle.law_turn.specs.Marks as model;
     ghost use Rattle.pb_tokenfsm.specs.Phases.{phase_of};
-    ghost use Rattle.pb_port.specs.Ports.{new_port, started_port, stopped_port, pushed_port, told_port, turned_port, said_by, due_port, clock_faults, mark_faults, push_faults, Answers, Sends};
+    ghost use Rattle.pb_port.specs.Ports.{new_port, started_port, stopped_port, pushed_port, told_port, turned_port, replying_port, said_by, due_port, clock_faults, mark_faults, push_faults, Answers, Sends};
+    ghost use Rattle.pb_station.specs.Indications.{fields_of};
 
     /// A station that does not run, a master or a passive station, with an address, 0 to 126, the caller's condition,
     /// and the data that it replies to a request for data.
@@ -89,6 +98,7 @@ impl Port {
             clock: Moment::at(0),
             past: Moment::at(0),
             sent: SendBuffer::new(),
+            told: Indications::new(alloc)?,
         })
     }
 
@@ -101,6 +111,7 @@ impl Port {
     {
         let now = self.moment(now)?;
         self.inbox.clear();
+        self.told.clear();
         self.station.start(now);
         self.clock = now;
         self.past = now;
@@ -127,6 +138,14 @@ impl Port {
             Ok(()) => Ok(()),
             Err(_) => Err(PortFault::QueueFull),
         }
+    }
+
+    /// Changes the data that the station replies to the next request for data, SRD: at most 246 octets, and with none it
+    /// replies that it has no data. A repeat of the last request still gets the reply that was sent.
+    pub fn set_reply(&mut self, reply: ArrayVec<u8, 246>)
+        ensures { self.new ≡ replying_port self.old reply.items }
+    {
+        self.station.set_reply(reply);
     }
 
     /// Activity of others has begun at the moment `at`, which is told at the moment `seen`.
@@ -213,11 +232,20 @@ impl Port {
             (λ _. out.new ≡ out.old) }
     {
         let now = self.moment(now)?;
-        self.station.take_turn(&self.inbox, now, &mut self.sent);
+        self.station
+            .take_turn_telling(&self.inbox, now, &mut self.sent, &mut self.told);
         self.inbox.clear();
         self.clock = now;
         self.past = now;
         Ok(copy_sent(&self.sent, out))
+    }
+
+    /// The requests of others that the station executed in its last turn, in order: SDA, SDN and SRD that are no repeats
+    /// (EN 50170-2, message cycles). A start forgets them.
+    pub fn indications(&self) -> &[Indication]
+        ensures { map fields_of result.now ≡ self.entry.now.indications }
+    {
+        self.told.as_slice()
     }
 
     /// The phase that the station is in.

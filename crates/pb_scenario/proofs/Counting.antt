@@ -41,7 +41,7 @@ count-turn w u r tap None ok = absurd cc
 count-turn w u r tap (Some t) ok =
     let turn = turn_of w.params t.station t.marks w.now in
     let turned : Tap = record t { station = turn.0; marks = [] } in
-    count-unless ((not t.running, NotRunning) ∷ (is_some turn.1 && nat_le trace_limit (length w.trace), TraceFull) ∷ [])
+    count-unless ((not t.running, NotRunning) ∷ (is_some turn.1 && nat_le w.limit (length w.trace), TraceFull) ∷ [])
     (record w { trace = with_said tap turn.1 w.now w.taps w.trace; taps = slice_set w.taps tap turned }, record { now = w.now; spoke = turn.1 }) u r ok
     ∙ count-set w.taps tap turned
 
@@ -92,7 +92,7 @@ count-step w u r (Start tap) ok = count-start w u r tap (slice_get w.taps tap) o
 count-step w u r (Stop tap) ok = count-stop w u r tap (slice_get w.taps tap) ok
 count-step w u r (Queue tap request) ok = count-queue w u r tap request (slice_get w.taps tap) ok
 count-step w u r (Noise bits) ok =
-    count-unless ((bits == 0, ZeroTime) ∷ (not (is_noisy w) && nat_le trace_limit (length w.trace), TraceFull) ∷ [])
+    count-unless ((bits == 0, ZeroTime) ∷ (not (is_noisy w) && nat_le w.limit (length w.trace), TraceFull) ∷ [])
     (record w { trace = with_noise w.now (w.now + bits) (is_noisy w) w.trace }, record { now = w.now; spoke = None }) u r ok
 count-step w u r (Unheard tap speaker) ok = count-unheard w u r tap speaker (slice_get w.taps tap) (slice_get w.taps speaker) ok
 
@@ -111,5 +111,5 @@ count-all now (e ∷ es) w u same = by (λ v. count-all now es v u) (step w e) r
 
 pub count-new : (p : Params) (specs : List TapSpec) (w : World) → new_world p specs ≡ Ok w → length w.taps ≡ length specs
 count-new p specs w ok =
-    let first : World = record { params = p; now = 0; trace = []; taps = map (stopped_tap p) specs } in
+    let first : World = record { params = p; now = 0; trace = []; taps = map (stopped_tap p) specs; limit = trace_limit } in
     ap (λ (x : World). length x.taps) (sym (made (new_faults p specs) first w ok)) ∙ length-map specs (stopped_tap p)

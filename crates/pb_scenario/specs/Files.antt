@@ -228,6 +228,13 @@ scenario_in top =
     and_then (typed as_array Top key.Tap top) (λ list.
     and_then (taps_in version list) (with_steps top until params)))))))
 
+-- the parameters of the bus alone
+unfoldable pub bus_in : Members → Result Params Fault
+bus_in top =
+    and_then (version_in Top top) (λ version.
+    and_then (typed as_table Top key.Bus top) (λ bus.
+    params_in version Bus bus))
+
 -- the file is text in UTF-8, and as TOML it is this table
 pub record IsToml (file : List ℕ) (top : Members) : Type 0 where
   pub text : IsUtf8 file
@@ -242,3 +249,13 @@ abbrev pub RefusesFile : List ℕ → ScenarioFault → Type 0
 RefusesFile file fault.NotToml = (top : Members) → IsToml file top → ⊥
 RefusesFile file fault.NoMemory = Unit {0}
 RefusesFile file f = (top : Members) × IsToml file top × Tells f (scenario_in top)
+
+-- the file describes a bus
+abbrev pub DescribesBus : List ℕ → Params → Type 0
+DescribesBus file p = (top : Members) × IsToml file top × (bus_in top ≡ Ok p)
+
+-- why it describes none
+abbrev pub RefusesBus : List ℕ → ScenarioFault → Type 0
+RefusesBus file fault.NotToml = (top : Members) → IsToml file top → ⊥
+RefusesBus file fault.NoMemory = Unit {0}
+RefusesBus file f = (top : Members) × IsToml file top × Tells f (bus_in top)

@@ -46,6 +46,42 @@ pub fn read(alloc: Global, file: &[u8]) -> Result<Scenario, ScenarioFault>
     }
 }
 
+/// Reads the parameters of the bus that a TOML file gives in its table `bus`. Apart from that table and the version
+/// nothing of the file is read.
+///
+/// Faults: `NotToml` if the file is not TOML in UTF-8; else the first of `BadVersion`, `Missing`, `BadKind`, `BadValue`,
+/// `Unknown` and `Params` that applies to these keys; or `NoMemory`.
+pub fn read_bus(alloc: Global, file: &[u8]) -> Result<BusParams, ScenarioFault>
+    ensures params { IfOk result (files.DescribesBus file.now) }
+    ensures fault { IfErr result (files.RefusesBus file.now) }
+{
+    match toml::table_from_slice(alloc, file) {
+        Ok(table) => bus_in(alloc, &table),
+        Err(fault) => if fault.is_memory() {
+            Err(ScenarioFault::NoMemory)
+        } else {
+            Err(ScenarioFault::NotToml)
+        },
+    }
+}
+
+/// The parameters of the bus in the table of a whole file.
+#[tactic(auto, unfolding(crate::specs::Files::bus_in), using(crate::proofs::Chains::then_ok, crate::proofs::Chains::then_tells, crate::proofs::Chains::then_tells_next))]
+fn bus_in(alloc: Global, table: &Table) -> Result<BusParams, ScenarioFault>
+    ensures { Answers (λ p. p) result (files.bus_in (table_view table.now)) }
+{
+    let top = Fields {
+        section: Section::Top,
+        table,
+    };
+    let file_version = version_in(top)?;
+    let bus = Fields {
+        section: Section::Bus,
+        table: top.table(Key::Bus)?,
+    };
+    params_in(alloc, bus, file_version)
+}
+
 /// The scenario that the table of a whole file describes.
 #[tactic(auto, unfolding(crate::specs::Files::scenario_in), using(crate::proofs::Chains::then_ok, crate::proofs::Chains::then_tells, crate::proofs::Chains::then_tells_next))]
 fn scenario_in(alloc: Global, table: &Table) -> Result<Scenario, ScenarioFault>

@@ -31,7 +31,7 @@ mod words;
 pub use courses::{Course, course_of};
 pub use deeds::{Deed, Step, When};
 pub use faults::{RunFault, ScenarioFault};
-pub use files::read;
+pub use files::{read, read_bus};
 pub use keys::{Key, Path, Section, UnknownKey};
 pub use pb_faults::NoMemory;
 pub use pb_medium::Entry;

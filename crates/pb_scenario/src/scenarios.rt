@@ -15,6 +15,20 @@ use std::marker::Model;
 
 /// What is played on a bus: its parameters, its named taps, the steps in order of time, and the moment until which time
 /// passes.
+///
+/// ```
+/// let file = b"
+/// version = 1
+/// until = 1400
+/// bus = { tsl = 100, tid1 = 37, tid2 = 60, tsdr = 11, lag = 0, ttr = 10000, gap = 10, hsa = 5, retries = 1 }
+/// tap = [{ name = 'a', kind = 'master', address = 1 }]
+/// step = [{ at = 0, do = 'start', tap = 'a' }]
+/// ";
+/// let scenario = read(rt.alloc(), file).expect(&rt, "a scenario");
+/// assert_eq!(rt; scenario.until(), 1400);
+/// let found = audit_of(rt.alloc(), &scenario).expect(&rt, "an audit");
+/// assert!(rt; found.premise.is_none() && found.illegal.is_none());
+/// ```
 #[derive(Debug, Drop)]
 pub struct Scenario {
     params: BusParams,

@@ -4,13 +4,13 @@ use Rattle.std.specs.Prelude.{slice_get}
 use Rattle.std.proofs.lemmas.Option.{none-some, same_Some}
 use Rattle.pb_timers.specs.Timers.{Params}
 use Rattle.law_model.specs.Medium.{Tap, TapSpec}
-use Rattle.law_model.specs.World.{World, stopped_tap, new_faults, new_world}
+use Rattle.law_model.specs.World.{World, stopped_tap, new_faults, new_world, trace_limit}
 use Rattle.law_model.proofs.Worlds.{unless-Ok}
 use Rattle.law_runs.specs.Headline.{specs_of}
 use Rattle.pb_segment.specs.Origins.{Origin, IsMadeOf, IsMade, IsNew}
 
 abbrev made : Params → List TapSpec → World
-made p specs = record { params = p; now = 0; trace = []; taps = map (stopped_tap p) specs }
+made p specs = record { params = p; now = 0; trace = []; taps = map (stopped_tap p) specs; limit = trace_limit }
 
 pub new_is : (p : Params) (specs : List TapSpec) (w : World) → new_world p specs ≡ Ok w → made p specs ≡ w
 new_is p specs w new = (unless-Ok (new_faults p specs) (made p specs) w new).1

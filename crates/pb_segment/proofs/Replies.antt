@@ -6,7 +6,7 @@ use Rattle.pb_cycles.specs.RequestFields.{RequestFields}
 use Rattle.law_turn.specs.Stations.{list_for, pushed}
 use Rattle.law_model.specs.Medium.{Tap, entry_at}
 use Rattle.law_model.specs.Trace.{begins_from, cut_at, unheard_at}
-use Rattle.law_model.specs.World.{World, Event, Turn, Pass, Damage, Start, Stop, Queue, Noise, Unheard, Reply, Fault, NoSuchTap, Running, NotRunning, NothingInAir, ZeroTime, QueueFull, TraceFull, unless, is_in_air_by, trace_limit, queue_limit}
+use Rattle.law_model.specs.World.{World, Event, Turn, Pass, Damage, Start, Stop, Queue, Noise, Unheard, Reply, Fault, NoSuchTap, Running, NotRunning, NothingInAir, ZeroTime, QueueFull, TraceFull, unless, is_in_air_by, queue_limit}
 use Rattle.law_model.specs.Step.{step, step_start, step_stop, step_queue, told, pass_faults, has_place, change_first, with_hit, started_tap, halted, with_noise, is_noisy}
 use Rattle.law_model.proofs.Worlds.{unless-Ok}
 use Rattle.pb_segment.specs.Histories.{Receipt, is_turn}
@@ -47,7 +47,7 @@ driven_silent w u (Start tap) reply driven ok = start_silent w u tap (slice_get 
 driven_silent w u (Stop tap) reply driven ok = stop_silent w u tap (slice_get w.taps tap) reply ok
 driven_silent w u (Queue tap r) reply driven ok = queue_silent w u tap r (slice_get w.taps tap) reply ok
 driven_silent w u (Noise bits) reply driven ok =
-    silent ((bits == 0, ZeroTime) ∷ (not (is_noisy w) && nat_le trace_limit (length w.trace), TraceFull) ∷ []) (record w { trace = with_noise w.now (w.now + bits) (is_noisy w) w.trace }) u w.now reply ok
+    silent ((bits == 0, ZeroTime) ∷ (not (is_noisy w) && nat_le w.limit (length w.trace), TraceFull) ∷ []) (record w { trace = with_noise w.now (w.now + bits) (is_noisy w) w.trace }) u w.now reply ok
 driven_silent w u (Unheard tap speaker) reply driven ok =
     let begins = begins_from w.now speaker in
     silent ((is_none (slice_get w.taps tap) || is_none (slice_get w.taps speaker), NoSuchTap) ∷ (tap == speaker || not (list_any begins w.trace), NothingInAir) ∷ [])

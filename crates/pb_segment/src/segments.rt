@@ -167,8 +167,8 @@ impl<L: Ledger> SharedSegment<L> {
     /// Closes the segment. The receipts of each seat are then the indices of its events in the history, with the
     /// replies there, and each outlook is that of the world after the events before it. The trace is that of a world
     /// with one token, if the events of the history break no premise; and with no master in silence, as it hears the
-    /// bus, for longer than its time-out and the lag, if none of them loses a telegram or lets a turn be late. It does
-    /// not block, and allocates nothing.
+    /// bus, for longer than its time-out and the lag, if none of them loses a telegram or lets a turn be late; and of a
+    /// bus that is never dead, if they break no premise. It does not block, and allocates nothing.
     ///
     /// Faults, the first that applies, with all that was passed in: `MissingSeat` if there are more or fewer tap seats
     /// than taps; `Disagree` if receipts or outlooks of the seats differ from those of the history, or the history

@@ -1,3 +1,4 @@
+pub mod Indicated
 pub mod MarkByMark
 pub mod Noted
 pub mod Overdue

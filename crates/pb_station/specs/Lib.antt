@@ -1,5 +1,6 @@
 pub mod Decisions
 pub mod Halves
+pub mod Indications
 pub mod MarkViews
 pub mod Notes
 pub mod Stations

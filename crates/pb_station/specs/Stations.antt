@@ -16,3 +16,9 @@ abbrev pub station_view : Inside → StationView
 station_view s =
     let parts = s.parts.value in
     record { tap = parts.tap; params = parts.params; master = parts.master; reply_data = parts.reply_data.items; station = station_of parts.core }
+
+-- a station that replies to a request for data with other data
+abbrev pub with_reply : StationView → List ℕ → StationView
+with_reply s reply =
+    let cycles = s.station.cycles in
+    record s { reply_data = reply; station = record s.station { cycles = record cycles { responder = record cycles.responder { reply = reply } } } }

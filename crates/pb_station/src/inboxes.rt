@@ -205,6 +205,7 @@ impl Inbox {
     pub(crate) fn unread(&self) -> Unread<'_>
         ensures marks { marks_in result.notes.now result.chars.now result.octets.now ≡ self.now }
         ensures of { AreOf result.notes.now result.chars.now result.octets.now }
+        ensures few { length result.notes.now ≤ 64 }
     {
         Unread {
             notes: &self.notes,

@@ -7,6 +7,7 @@
 
 mod decisions;
 mod inboxes;
+mod indications;
 mod marks;
 mod notes;
 mod reading;
@@ -16,6 +17,7 @@ mod turns;
 
 pub use decisions::{Decided, Decision, Glance, decide, decide_in, due};
 pub use inboxes::{Inbox, MARK_LIMIT};
+pub use indications::{Indication, Indications};
 pub use marks::Mark;
 pub use pb_faults::NoMemory;
 pub use pb_transitions::SendBuffer;

@@ -8,8 +8,11 @@ ghost use Rattle.law_turn.specs.Phases as phases;
 ghost use Rattle.pb_tokenfsm.specs.Phases.{phase_of};
 
 use crate::inboxes::Inbox;
+use crate::indications::Indications;
 use crate::marks::Mark;
-use crate::turns::{due_of, due_on, is_overdue, read_on, speak_on, take_turn, would_speak};
+use crate::turns::{
+    due_of, due_on, is_overdue, read_on, speak_on, take_turn, take_turn_telling, would_speak,
+};
 use arrayvec::ArrayVec;
 use pb_cycles::{Outcome, Queue, Request};
 use pb_faults::NoMemory;
@@ -75,6 +78,8 @@ impl Station {
     ghost use Rattle.pb_transitions.specs.Clocks.{last_turn, is_past};
     ghost use Rattle.pb_station.specs.Decisions.{turned};
     ghost use Rattle.pb_station.specs.Halves.{at_clock, has_come, spoken};
+    ghost use Rattle.pb_station.specs.Indications.{indications_of};
+    ghost use Rattle.pb_station.specs.Stations.{with_reply};
     ghost use Rattle.pb_station.specs.MarkViews.{mark_of, AllOver, AreOver};
 
     /// A station that does not run, at the tap with this index, from 0. It is a master or a passive station, with the
@@ -220,6 +225,20 @@ impl Station {
         stop_core(&mut self.parts.core);
     }
 
+    /// Changes the data with which it replies to the next request for data. A repeat of the last request still gets the
+    /// reply that it got.
+    pub fn set_reply(&mut self, reply: ArrayVec<u8, 246>)
+        ensures { self.new ≡ with_reply self.old reply.items }
+    {
+        let Parts {
+            reply_data,
+            core,
+            ..
+        } = &mut *self.parts;
+        core.kept.cycles.responder.set_data(&reply);
+        *reply_data = reply;
+    }
+
     /// Appends a request to those of its priority. If 16 of them wait, it is returned and nothing changes.
     pub fn push(&mut self, request: Request) -> Result<(), Request>
         ensures outcome { MatchResult result (λ _. self.new ≡ record
@@ -310,6 +329,24 @@ impl Station {
     {
         let Parts { params, core, .. } = &mut *self.parts;
         take_turn(core, params, inbox, now, out);
+    }
+
+    /// Takes the same turn, and replaces the content of `told` by the requests of others that the station executes in
+    /// it, in order: those by which [`executed`](Station::executed) grows.
+    pub fn take_turn_telling(
+        &mut self,
+        inbox: &Inbox,
+        now: Moment,
+        out: &mut SendBuffer,
+        told: &mut Indications,
+    )
+        requires clock { now ≤ last_turn }
+        requires over { AllOver now inbox.now }
+        ensures turn { (self.new, out.new) ≡ turned self.old inbox.now now }
+        ensures told { told.new ≡ indications_of self.old.params self.old.station inbox.now }
+    {
+        let Parts { params, core, .. } = &mut *self.parts;
+        take_turn_telling(core, params, inbox, now, out, told);
     }
 
     /// Takes the same turn with a list of marks.

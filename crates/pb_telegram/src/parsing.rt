@@ -16,6 +16,14 @@ use crate::telegrams::Telegram;
 /// the first damaged character; `BadStart`; `Truncated`; for a telegram with data of variable length, `BadLength` if
 /// the length octet is not 4 to 249, `LengthsDiffer` and `BadSecondStart`; `BadAddress` for a token with an address
 /// octet over 126, or another telegram with the source address 127; `BadFc`; `BadFcs`; `BadEnd`; `Trailing`.
+///
+/// ```
+/// let token = [RxChar::Good(0xdc), RxChar::Good(2), RxChar::Good(1)];
+/// let telegram = Telegram::Token(TokenTelegram { da: 2, sa: 1 });
+/// assert_eq!(rt; parse(&token), Ok(telegram));
+/// let damaged = [RxChar::Good(0xdc), RxChar::Bad, RxChar::Good(1)];
+/// assert_eq!(rt; parse(&damaged), Err(TelegramFault::Faulty(1)));
+/// ```
 pub fn parse(chars: &[RxChar]) -> Result<Telegram, TelegramFault>
     ensures telegram { IfOk result (Spells chars.now) }
     ensures sound { OnOk result (fault_of chars.now ≡ None) }

@@ -31,6 +31,16 @@ const TOKEN_LENGTH: u64 = 3;
 ///
 /// Calls on the path of most octets and of each answer are inlined: the telegram is then built in the caller's memory
 /// and not moved there.
+///
+/// ```
+/// let mut receiver = Receiver::new();
+/// receiver.feed(RxChar::Good(0xdc));
+/// receiver.feed(RxChar::Good(2));
+/// assert_eq!(rt; receiver.answer(), Err(TelegramFault::Truncated));
+/// receiver.feed(RxChar::Good(1));
+/// let telegram = Telegram::Token(TokenTelegram { da: 2, sa: 1 });
+/// assert_eq!(rt; receiver.end(), Ok(telegram));
+/// ```
 #[derive(Drop)]
 pub struct Receiver {
     /// How many characters were fed.

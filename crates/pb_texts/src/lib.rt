@@ -39,8 +39,3 @@ pub use plays::traced;
 pub use shown::Shown;
 pub use texts::bounds_text;
 pub use warnings::warn;
-
-#[cfg(test)]
-mod hint_tests;
-#[cfg(test)]
-mod tests;

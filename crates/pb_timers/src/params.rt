@@ -68,6 +68,14 @@ impl ParamFault {
 
 /// The parameters that all stations of a segment share (IEC 61158-4-3, timing parameters): times in bit times, the GAP
 /// factor, the highest station address and the number of retries. Each value meets all ten rules.
+///
+/// ```
+/// let params = BusParams::new(100, 37, 60, 11, 0, 10_000, 10, 5, 1, 0);
+/// assert!(rt; params.is_ok());
+/// // idle time 2, 60, and a lag of 40 are not under the slot time, 100
+/// let late = BusParams::new(100, 37, 60, 11, 40, 10_000, 10, 5, 1, 0);
+/// assert_eq!(rt; late.err(), Some(ParamFault::TakeLate));
+/// ```
 #[derive(Clone, Copy, Debug)]
 pub struct BusParams {
     tsl: u32,

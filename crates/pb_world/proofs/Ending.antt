@@ -85,7 +85,7 @@ in-time-turn w tap (Some t) e clock sound by =
     world_after-unless EndsInTime w
     (record w { trace = with_said tap turn.1 w.now w.taps w.trace; taps = slice_set w.taps tap (record t { station = turn.0; marks = [] }) })
     (record { now = w.now; spoke = turn.1 })
-    ((not t.running, NotRunning) ∷ (is_some turn.1 && nat_le trace_limit (length w.trace), TraceFull) ∷ [])
+    ((not t.running, NotRunning) ∷ (is_some turn.1 && nat_le w.limit (length w.trace), TraceFull) ∷ [])
     by
     (λ _. by-with_said w tap turn.1 clock (fits-turn_of w.params t.station t.marks w.now has) by)
 
@@ -130,7 +130,7 @@ in-time-queue w tap r (Some t) by =
 in-time-noise : (w : World) (bits : ℕ) (noisy : Bool) → w.now ≤ clock_limit → bits ≤ longest → EndsInTime w → EndsInTime (world_after w (step_noise w bits noisy))
 in-time-noise w bits noisy clock short by =
     world_after-unless EndsInTime w (record w { trace = with_noise w.now (w.now + bits) noisy w.trace }) (record { now = w.now; spoke = None })
-    ((bits == 0, ZeroTime) ∷ (not noisy && nat_le trace_limit (length w.trace), TraceFull) ∷ [])
+    ((bits == 0, ZeroTime) ∷ (not noisy && nat_le w.limit (length w.trace), TraceFull) ∷ [])
     by (λ _. by-with_noise w bits noisy clock short by)
 
 in-time-unheard : (w : World) (tap speaker : ℕ) (at from : Option Tap) → EndsInTime w → EndsInTime (world_after w (step_unheard w tap speaker at from))

@@ -105,16 +105,16 @@ turn-stopped b i fault.NotRunning (t, at, down) =
     subst (λ r. Refuses w (Turn i) r fault.NotRunning)
     (sym (
     ap (λ o. step_turn w i o) (tap-at b i t at)
-    ∙ ap (λ (up : Bool). unless ((not up, NotRunning) ∷ (is_some turn.1 && nat_le trace_limit (length w.trace), TraceFull) ∷ []) next) down
+    ∙ ap (λ (up : Bool). unless ((not up, NotRunning) ∷ (is_some turn.1 && nat_le w.limit (length w.trace), TraceFull) ∷ []) next) down
     ))
     refl
 turn-stopped b i other wrong = absurd wrong
 
 -- ---- Pass
 
-fault-widened : (past : List Entry) (p : Params) (r : Result (World × Reply) Fault) → fault_of (widened past p r) ≡ fault_of r
-fault-widened past p (Ok next) = refl
-fault-widened past p (Err f) = refl
+fault-widened : (past : List Entry) (p : Params) (limit : ℕ) (r : Result (World × Reply) Fault) → fault_of (widened past p limit r) ≡ fault_of r
+fault-widened past p limit (Ok next) = refl
+fault-widened past p limit (Err f) = refl
 
 fault-is : (r : Result (World × Reply) Fault) (reason : WorldFault) → IsFault r reason → fault_of r ≡ Some reason
 fault-is (Ok next) reason wrong = absurd wrong
@@ -122,7 +122,7 @@ fault-is (Err f) reason is = ap (λ x. Some x) (sym is)
 
 -- a pass is judged by the recent entries
 pass-behind : (w : World) (over bits : ℕ) → IsCut w.params.ttd w.now over w.trace → fault_of (step_pass w bits) ≡ fault_of (step_pass (stepping.recent_of over w) bits)
-pass-behind w over bits cut = ap fault_of (pass-whole w over bits cut) ∙ fault-widened (take over w.trace) w.params (step_pass (stepping.recent_of over w) bits)
+pass-behind w over bits cut = ap fault_of (pass-whole w over bits cut) ∙ fault-widened (take over w.trace) w.params w.limit (step_pass (stepping.recent_of over w) bits)
 
 pub pass-can : (b : Bus) (bits to : ℕ) → IsKept b → CanPass (air b.params.ttd b.now (recent_of b.trace) b.taps.items) bits to → fault_of (step (world_of b) (Pass bits)) ≡ None
 pass-can b bits to kept can =

@@ -77,7 +77,7 @@ after-turn w tap (Some t) found =
     let turn = turn_of w.params t.station t.marks w.now in
     let turned : Tap = record t { station = turn.0; marks = [] } in
     world_after-unless (RunsAlike w) w (record w { trace = with_said tap turn.1 w.now w.taps w.trace; taps = slice_set w.taps tap turned }) (record { now = w.now; spoke = turn.1 })
-    ((not t.running, NotRunning) ∷ (is_some turn.1 && nat_le trace_limit (length w.trace), TraceFull) ∷ [])
+    ((not t.running, NotRunning) ∷ (is_some turn.1 && nat_le w.limit (length w.trace), TraceFull) ∷ [])
     (alike-same w.taps) (λ _. alike-set w.taps tap t turned found refl refl)
 
 after-pass : (w : World) (d : ℕ) → RunsAlike w (world_after w (step_pass w d))
@@ -106,7 +106,7 @@ after-queue w tap r (Some t) found =
 after-noise : (w : World) (bits : ℕ) (noisy : Bool) → RunsAlike w (world_after w (step_noise w bits noisy))
 after-noise w bits noisy =
     world_after-unless (RunsAlike w) w (record w { trace = with_noise w.now (w.now + bits) noisy w.trace }) (record { now = w.now; spoke = None })
-    ((bits == 0, ZeroTime) ∷ (not noisy && nat_le trace_limit (length w.trace), TraceFull) ∷ []) (alike-same w.taps) (λ _. alike-same w.taps)
+    ((bits == 0, ZeroTime) ∷ (not noisy && nat_le w.limit (length w.trace), TraceFull) ∷ []) (alike-same w.taps) (λ _. alike-same w.taps)
 
 after-unheard : (w : World) (tap speaker : ℕ) (at from : Option Tap) → RunsAlike w (world_after w (step_unheard w tap speaker at from))
 after-unheard w tap speaker at from =
@@ -174,7 +174,7 @@ no-namesakes p (spec ∷ specs) = no-namesakes p specs
 -- no tap of it runs
 pub namesakes-new : (p : Params) (specs : List TapSpec) (w : World) → new_world p specs ≡ Ok w → has_namesakes w.taps ≡ false
 namesakes-new p specs w ok =
-    let made : World = record { params = p; now = 0; trace = []; taps = map (stopped_tap p) specs } in
+    let made : World = record { params = p; now = 0; trace = []; taps = map (stopped_tap p) specs; limit = trace_limit } in
     subst (λ (x : World). has_namesakes x.taps ≡ false) (unless-Ok (new_faults p specs) made w ok).1 (no-namesakes p specs)
 
 -- an event of code that is neither

@@ -7,7 +7,7 @@ use Rattle.std.proofs.lemmas.Option.{slice_get-get_or}
 use Rattle.pb_cycles.specs.RequestFields.{RequestFields}
 use Rattle.law_turn.specs.Stations.{Station, list_for, pushed}
 use Rattle.law_model.specs.Trace.{Hit, Record, cut_end, cut_at, Entry, Sent, Noise, entry_begin, goes_before, with_entry, is_noise_at, noisy_until, begins_from, unheard_at}
-use Rattle.law_model.specs.Medium.{Tap, entry_at, ends_between, reaches, heard_by}
+use Rattle.law_model.specs.Medium.{Tap, entry_at, ends_between, reaches, heard_by, reaches_taps}
 use Rattle.law_turn.specs.Turns.{turn_of}
 use Rattle.law_model.specs.World as world
 use Rattle.law_model.specs.World.{World, Event, Turn, Pass, Damage, Start, Stop, Queue, Reply, Fault, NoSuchTap, Running, NotRunning, NothingInAir, ZeroTime, QueueFull, TraceFull, unless, is_in_air_by, queue_limit, trace_limit}
@@ -23,7 +23,7 @@ use Rattle.pb_medium.specs.Losing.{has_nothing_to_lose}
 use Rattle.pb_medium.specs.Noising.{has_noise, has_no_room, RefusesNoise}
 use Rattle.pb_medium.specs.Speaking.{is_full, RefusesSaid}
 use Rattle.pb_medium.specs.Traces as traces
-use Rattle.pb_medium.specs.Traces.{entries_of, over_of, HasRoom, RecentBecomes, StaysAs}
+use Rattle.pb_medium.specs.Traces.{limit_of, entries_of, over_of, HasRoom, RecentBecomes, StaysAs}
 use Rattle.pb_medium.specs.Entries.{entry_of}
 use Rattle.pb_medium.specs.declared.traces.Trace.{Trace}
 use Rattle.pb_taps.specs.declared.faults.WorldFault.{WorldFault}
@@ -35,13 +35,20 @@ use Rattle.std.proofs.lemmas.Bool.{not-true, not-false, lt-leb}
 
 -- the world of the recent entries
 abbrev pub recent_of : ℕ → World → World
-recent_of over w = record w { params = plain w.params.ttd; trace = drop over w.trace }
+recent_of over w = record w { params = plain w.params.ttd; trace = drop over w.trace; limit = 0 }
 
 -- ---- results
 
 pub in-err : {X F : Type 0} (P : X → Type 0) (Q : F → Type 0) (r : Result X F) (f : F) → IsErr r → IsErrAnd r (λ e. e ≡ f) → Q f → MatchResult r P Q
 in-err P Q (Ok x) f err same q = absurd (let wrong : false ≡ true = err in cc)
 in-err P Q (Err e) f err same q = subst Q (sym same) q
+
+-- a trace that stays, in a world
+pub stays-whole : (w : World) (before after : Trace) → StaysAs before after
+    → record w { trace = entries_of after; limit = limit_of after } ≡ record w { trace = entries_of before; limit = limit_of before }
+stays-whole w before after same =
+    ap (λ es. record w { trace = es; limit = limit_of after }) same.entries
+    ∙ ap (λ l. record w { trace = entries_of before; limit = l }) same.limit
 
 -- a tap that is there
 pub is-there : {X : Type 0} (xs : List X) (i : ℕ) → i < length xs → is_none (slice_get xs i) ≡ false
@@ -64,53 +71,54 @@ sound-recent over w sound = record {
   sayable = sound.sayable;
 }
 
--- other entries behind those that are over, none of which began before they had ended
-pub cut-with : (delay now over : ℕ) (es recent : List Entry) → ((m : ℕ) → m ≤ now → AllFrom m (drop over es) → AllFrom m recent) → IsCut delay now over es
+-- other entries behind those that are over, none of which reaches the taps before they had ended
+pub cut-with : (delay now over : ℕ) (es recent : List Entry) → ((m : ℕ) → m ≤ now → AllFrom delay m (drop over es) → AllFrom delay m recent) → IsCut delay now over es
     → IsCut delay now over (take over es ++ recent)
 cut-with delay now over es recent from (m, at, some, old, begun) =
     let front = take over es in
     let size : length front ≡ over = length-take-le over es some in
     let same : take over (front ++ recent) ≡ front = ap (λ n. take n (front ++ recent)) (sym size) ∙ take-append_seam front recent in
     let rest : drop over (front ++ recent) ≡ recent = ap (λ n. drop n (front ++ recent)) (sym size) ∙ drop-append_seam front recent in
-    (m, at, omega (arith, size, length-append front recent), subst (AllOver delay m) (sym same) old, subst (AllFrom m) (sym rest) (from m at begun))
+    (m, at, omega (arith, size, length-append front recent), subst (AllOver delay m) (sym same) old, subst (AllFrom delay m) (sym rest) (from m at begun))
 
--- the recent entries of a trace change, none of which began before the others had ended
+-- the recent entries of a trace change, none of which reaches the taps before the others had ended
 pub cut-after : (delay now : ℕ) (change : List Entry → List Entry) (before after : Trace) → RecentBecomes change before after
-    → ((m : ℕ) → m ≤ now → AllFrom m (traces.recent_of before) → AllFrom m (change (traces.recent_of before)))
+    → ((m : ℕ) → m ≤ now → AllFrom delay m (traces.recent_of before) → AllFrom delay m (change (traces.recent_of before)))
     → IsCut delay now (over_of before) (entries_of before) → IsCut delay now (over_of after) (entries_of after)
 cut-after delay now change before after becomes from cut =
     subst (λ over. IsCut delay now over (entries_of after)) (sym becomes.over)
     (subst (IsCut delay now (over_of before)) (sym becomes.entries) (cut-with delay now (over_of before) (entries_of before) (change (traces.recent_of before)) from cut))
 
-pub from-changed : (m : ℕ) (test : Entry → Bool) (change : Entry → Entry) (es : List Entry) → ((e : Entry) → entry_begin (change e) ≡ entry_begin e) → AllFrom m es
-    → AllFrom m (change_first test change es)
-from-changed m test change [] same from = tt
-from-changed m test change (e ∷ es) same from =
-    by_test (AllFrom m) (test e) (change e ∷ es) (e ∷ change_first test change es)
-    (λ _. (omega (arith, same e, from.0), from.1)) (λ _. (from.0, from-changed m test change es same from.1))
+pub from-changed : (delay m : ℕ) (test : Entry → Bool) (change : Entry → Entry) (es : List Entry)
+    → ((e : Entry) → (reaches_taps delay (change e)).begin ≡ (reaches_taps delay e).begin) → AllFrom delay m es
+    → AllFrom delay m (change_first test change es)
+from-changed delay m test change [] same from = tt
+from-changed delay m test change (e ∷ es) same from =
+    by_test (AllFrom delay m) (test e) (change e ∷ es) (e ∷ change_first test change es)
+    (λ _. (omega (arith, same e, from.0), from.1)) (λ _. (from.0, from-changed delay m test change es same from.1))
 
-pub begin-with_hit : (hit : Hit) (e : Entry) → entry_begin (with_hit hit e) ≡ entry_begin e
-begin-with_hit hit (Noise span) = refl
-begin-with_hit hit (Sent r) = refl
+pub begin-with_hit : (delay : ℕ) (hit : Hit) (e : Entry) → (reaches_taps delay (with_hit hit e)).begin ≡ (reaches_taps delay e).begin
+begin-with_hit delay hit (Noise span) = refl
+begin-with_hit delay hit (Sent r) = refl
 
-begin-noisy_until : (m : ℕ) (e : Entry) → entry_begin (noisy_until m e) ≡ entry_begin e
-begin-noisy_until m (Noise span) = refl
-begin-noisy_until m (Sent r) = refl
+begin-noisy_until : (delay : ℕ) (m : ℕ) (e : Entry) → (reaches_taps delay (noisy_until m e)).begin ≡ (reaches_taps delay e).begin
+begin-noisy_until delay m (Noise span) = refl
+begin-noisy_until delay m (Sent r) = refl
 
-pub begin-unheard_at : (tap : ℕ) (e : Entry) → entry_begin (unheard_at tap e) ≡ entry_begin e
-begin-unheard_at tap (Noise span) = refl
-begin-unheard_at tap (Sent r) = refl
+pub begin-unheard_at : (delay : ℕ) (tap : ℕ) (e : Entry) → (reaches_taps delay (unheard_at tap e)).begin ≡ (reaches_taps delay e).begin
+begin-unheard_at delay tap (Noise span) = refl
+begin-unheard_at delay tap (Sent r) = refl
 
-pub from-entered : (m : ℕ) (e : Entry) (es : List Entry) → m ≤ entry_begin e → AllFrom m es → AllFrom m (with_entry e es)
-from-entered m e [] later from = (later, tt)
-from-entered m e (x ∷ es) later from =
-    by_test (AllFrom m) (goes_before e x) (e ∷ x ∷ es) (x ∷ with_entry e es) (λ _. (later, from)) (λ _. (from.0, from-entered m e es later from.1))
+pub from-entered : (delay m : ℕ) (e : Entry) (es : List Entry) → m ≤ (reaches_taps delay e).begin → AllFrom delay m es → AllFrom delay m (with_entry e es)
+from-entered delay m e [] later from = (later, tt)
+from-entered delay m e (x ∷ es) later from =
+    by_test (AllFrom delay m) (goes_before e x) (e ∷ x ∷ es) (x ∷ with_entry e es) (λ _. (later, from)) (λ _. (from.0, from-entered delay m e es later from.1))
 
-from-settled : (m delay : ℕ) (taps : List Tap) (trace : List Entry) (t u : ℕ) (es : List Entry) → AllFrom m es → AllFrom m (map (entry_at delay taps trace t u) es)
+from-settled : (m delay : ℕ) (taps : List Tap) (trace : List Entry) (t u : ℕ) (es : List Entry) → AllFrom delay m es → AllFrom delay m (map (entry_at delay taps trace t u) es)
 from-settled m delay taps trace t u [] from = tt
 from-settled m delay taps trace t u (Noise span ∷ es) from = (from.0, from-settled m delay taps trace t u es from.1)
 from-settled m delay taps trace t u (Sent r ∷ es) from =
-    by_test (λ (e : Entry). AllFrom m (e ∷ map (entry_at delay taps trace t u) es)) (ends_between t u (reaches delay r))
+    by_test (λ (e : Entry). AllFrom delay m (e ∷ map (entry_at delay taps trace t u) es)) (ends_between t u (reaches delay r))
     (Sent (record r { heard = heard_by delay trace r 0 taps r.heard })) (Sent r)
     (λ _. (from.0, from-settled m delay taps trace t u es from.1)) (λ _. (from.0, from-settled m delay taps trace t u es from.1))
 
@@ -120,7 +128,7 @@ pub pass-done : (w : World) (over d to : ℕ) (entries : List Entry) (taps : Lis
     → PassesTo (recent_of over w) d (take over w.trace) to entries taps
     → step_pass w d ≡ Ok (record w { now = to; trace = entries; taps = taps }, record { now = to; spoke = None })
 pass-done w over d to entries taps cut (recent, are, passed) =
-    pass-whole w over d cut ∙ ap (widened (take over w.trace) w.params) passed
+    pass-whole w over d cut ∙ ap (widened (take over w.trace) w.params w.limit) passed
     ∙ ap (λ es. Ok (record w { now = to; trace = es; taps = taps }, record { now = to; spoke = None })) (sym are)
 
 pub pass-refused : (w : World) (over d : ℕ) (reason : WorldFault) → IsCut w.params.ttd w.now over w.trace
@@ -128,7 +136,7 @@ pub pass-refused : (w : World) (over d : ℕ) (reason : WorldFault) → IsCut w.
 pass-refused w over d reason cut refused =
     subst (λ r. Refuses w (Pass d) r reason) (sym (pass-whole w over d cut)) (by (step_pass (recent_of over w) d) refused)
   where
-    by : (r : Result (World × Reply) Fault) → IsFault r reason → Refuses w (Pass d) (widened (take over w.trace) w.params r) reason
+    by : (r : Result (World × Reply) Fault) → IsFault r reason → Refuses w (Pass d) (widened (take over w.trace) w.params w.limit r) reason
     by (Ok next) refused = absurd refused
     by (Err f) refused = refused
 
@@ -155,11 +163,11 @@ pub damage-done : (w : World) (over tap speaker : ℕ) (place : Option ℕ) (at 
 damage-done w over tap speaker place at from cut there can =
     let es = drop over w.trace in
     let test = tap == speaker || not (has_place (find (is_in_air_by w.params.ttd w.now speaker) es) place) in
-    let next : World = record w { params = plain w.params.ttd; trace = change_first (is_in_air_by w.params.ttd w.now speaker) (with_hit (record { tap = tap; place = place })) es } in
+    let next : World = record w { params = plain w.params.ttd; trace = change_first (is_in_air_by w.params.ttd w.now speaker) (with_hit (record { tap = tap; place = place })) es; limit = 0 } in
     let reply : Reply = record { now = w.now; spoke = None } in
     damage-whole w over tap speaker place at from cut
-    ∙ ap (λ (b : Bool). widened (take over w.trace) w.params (unless ((b, NoSuchTap) ∷ (test, NothingInAir) ∷ []) (next, reply))) there
-    ∙ ap (λ (b : Bool). widened (take over w.trace) w.params (unless ((false, NoSuchTap) ∷ (b, NothingInAir) ∷ []) (next, reply))) (not-true test can)
+    ∙ ap (λ (b : Bool). widened (take over w.trace) w.params w.limit (unless ((b, NoSuchTap) ∷ (test, NothingInAir) ∷ []) (next, reply))) there
+    ∙ ap (λ (b : Bool). widened (take over w.trace) w.params w.limit (unless ((false, NoSuchTap) ∷ (b, NothingInAir) ∷ []) (next, reply))) (not-true test can)
 
 pub damage-refused : (w : World) (over tap speaker : ℕ) (place : Option ℕ) (at from : Option Tap) (reason : WorldFault) → IsCut w.params.ttd w.now over w.trace
     → (is_none at || is_none from) ≡ false → RefusesHit (can_hit w.params.ttd speaker w.now (record { tap = tap; place = place }) (drop over w.trace)) reason
@@ -169,13 +177,13 @@ damage-refused w over tap speaker place at from fault.NoMemory cut there can =
 damage-refused w over tap speaker place at from fault.NothingInAir cut there can =
     let es = drop over w.trace in
     let test = tap == speaker || not (has_place (find (is_in_air_by w.params.ttd w.now speaker) es) place) in
-    let next : World = record w { params = plain w.params.ttd; trace = change_first (is_in_air_by w.params.ttd w.now speaker) (with_hit (record { tap = tap; place = place })) es } in
+    let next : World = record w { params = plain w.params.ttd; trace = change_first (is_in_air_by w.params.ttd w.now speaker) (with_hit (record { tap = tap; place = place })) es; limit = 0 } in
     let reply : Reply = record { now = w.now; spoke = None } in
     subst (λ r. Refuses w (Damage tap speaker place) r fault.NothingInAir)
     (sym (
     damage-whole w over tap speaker place at from cut
-    ∙ ap (λ (b : Bool). widened (take over w.trace) w.params (unless ((b, NoSuchTap) ∷ (test, NothingInAir) ∷ []) (next, reply))) there
-    ∙ ap (λ (b : Bool). widened (take over w.trace) w.params (unless ((false, NoSuchTap) ∷ (b, NothingInAir) ∷ []) (next, reply))) (not-false test can)
+    ∙ ap (λ (b : Bool). widened (take over w.trace) w.params w.limit (unless ((b, NoSuchTap) ∷ (test, NothingInAir) ∷ []) (next, reply))) there
+    ∙ ap (λ (b : Bool). widened (take over w.trace) w.params w.limit (unless ((false, NoSuchTap) ∷ (b, NothingInAir) ∷ []) (next, reply))) (not-false test can)
     ))
     refl
 damage-refused w over tap speaker place at from other cut there can = absurd can
@@ -223,12 +231,12 @@ stop-stopped w tap t at down =
     ))
     refl
 
-pub from-cut : (m now tap : ℕ) (es : List Entry) → AllFrom m es → AllFrom m (map (cut_at now tap) es)
-from-cut m now tap [] from = tt
-from-cut m now tap (Noise span ∷ es) from = (from.0, from-cut m now tap es from.1)
-from-cut m now tap (Sent r ∷ es) from =
-    by_test (λ (x : Record). AllFrom m (Sent x ∷ map (cut_at now tap) es)) (r.tap == tap) (record r { end = cut_end now r }) r
-    (λ _. (from.0, from-cut m now tap es from.1)) (λ _. (from.0, from-cut m now tap es from.1))
+pub from-cut : (delay m now tap : ℕ) (es : List Entry) → AllFrom delay m es → AllFrom delay m (map (cut_at now tap) es)
+from-cut delay m now tap [] from = tt
+from-cut delay m now tap (Noise span ∷ es) from = (from.0, from-cut delay m now tap es from.1)
+from-cut delay m now tap (Sent r ∷ es) from =
+    by_test (λ (x : Record). AllFrom delay m (Sent x ∷ map (cut_at now tap) es)) (r.tap == tap) (record r { end = cut_end now r }) r
+    (λ _. (from.0, from-cut delay m now tap es from.1)) (λ _. (from.0, from-cut delay m now tap es from.1))
 
 -- ---- Queue
 
@@ -263,7 +271,7 @@ queue-full w tap r t at takes full =
 
 -- ---- Noise
 
-pub noise-done : (w : World) (over bits : ℕ) → IsCut w.params.ttd w.now over w.trace → (bits == 0) ≡ false → has_no_room (has_noise w.now (drop over w.trace)) (length w.trace) ≡ false
+pub noise-done : (w : World) (over bits : ℕ) → IsCut w.params.ttd w.now over w.trace → (bits == 0) ≡ false → has_no_room (has_noise w.now (drop over w.trace)) w.limit (length w.trace) ≡ false
     → step_noise w bits (is_noisy w) ≡ Ok (
       record w { trace = take over w.trace ++ with_noise w.now (w.now + bits) (has_noise w.now (drop over w.trace)) (drop over w.trace) },
       record { now = w.now; spoke = None },
@@ -272,10 +280,10 @@ noise-done w over bits cut some room =
     let next = record w { trace = take over w.trace ++ with_noise w.now (w.now + bits) (has_noise w.now (drop over w.trace)) (drop over w.trace) } in
     let reply : Reply = record { now = w.now; spoke = None } in
     noise-whole w over bits cut
-    ∙ ap (λ (b : Bool). unless ((b, ZeroTime) ∷ (has_no_room (has_noise w.now (drop over w.trace)) (length w.trace), TraceFull) ∷ []) (next, reply)) some
+    ∙ ap (λ (b : Bool). unless ((b, ZeroTime) ∷ (has_no_room (has_noise w.now (drop over w.trace)) w.limit (length w.trace), TraceFull) ∷ []) (next, reply)) some
     ∙ ap (λ (b : Bool). unless ((false, ZeroTime) ∷ (b, TraceFull) ∷ []) (next, reply)) room
 
-pub noise-refused : (w : World) (over bits : ℕ) (reason : WorldFault) → IsCut w.params.ttd w.now over w.trace → RefusesNoise bits (has_noise w.now (drop over w.trace)) (length w.trace) reason
+pub noise-refused : (w : World) (over bits : ℕ) (reason : WorldFault) → IsCut w.params.ttd w.now over w.trace → RefusesNoise bits (has_noise w.now (drop over w.trace)) w.limit (length w.trace) reason
     → Refuses w (world.Noise bits) (step_noise w bits (is_noisy w)) reason
 noise-refused w over bits fault.ZeroTime cut none =
     let next = record w { trace = take over w.trace ++ with_noise w.now (w.now + bits) (has_noise w.now (drop over w.trace)) (drop over w.trace) } in
@@ -283,7 +291,7 @@ noise-refused w over bits fault.ZeroTime cut none =
     subst (λ r. Refuses w (world.Noise bits) r fault.ZeroTime)
     (sym (
     noise-whole w over bits cut
-    ∙ ap (λ (b : Bool). unless ((b, ZeroTime) ∷ (has_no_room (has_noise w.now (drop over w.trace)) (length w.trace), TraceFull) ∷ []) (next, reply)) none
+    ∙ ap (λ (b : Bool). unless ((b, ZeroTime) ∷ (has_no_room (has_noise w.now (drop over w.trace)) w.limit (length w.trace), TraceFull) ∷ []) (next, reply)) none
     ))
     refl
 noise-refused w over bits fault.TraceFull cut (some, full) =
@@ -292,7 +300,7 @@ noise-refused w over bits fault.TraceFull cut (some, full) =
     subst (λ r. Refuses w (world.Noise bits) r fault.TraceFull)
     (sym (
     noise-whole w over bits cut
-    ∙ ap (λ (b : Bool). unless ((b, ZeroTime) ∷ (has_no_room (has_noise w.now (drop over w.trace)) (length w.trace), TraceFull) ∷ []) (next, reply)) some
+    ∙ ap (λ (b : Bool). unless ((b, ZeroTime) ∷ (has_no_room (has_noise w.now (drop over w.trace)) w.limit (length w.trace), TraceFull) ∷ []) (next, reply)) some
     ∙ ap (λ (b : Bool). unless ((false, ZeroTime) ∷ (b, TraceFull) ∷ []) (next, reply)) full
     ))
     refl
@@ -300,9 +308,9 @@ noise-refused w over bits fault.NoMemory cut (some, room, silent) =
     subst (λ r. Refuses w (world.Noise bits) r fault.NoMemory) (sym (noise-done w over bits cut some room)) (ap not (noisy-behind w over cut ∙ silent), refl)
 noise-refused w over bits other cut wrong = absurd wrong
 
-pub from-noise : (m now end : ℕ) (noisy : Bool) (es : List Entry) → m ≤ now → AllFrom m es → AllFrom m (with_noise now end noisy es)
-from-noise m now end true es later from = from-changed m (is_noise_at now) (noisy_until end) es (begin-noisy_until end) from
-from-noise m now end false es later from = from-entered m (Noise (record { begin = now; end = end })) es later from
+pub from-noise : (delay m now end : ℕ) (noisy : Bool) (es : List Entry) → m ≤ now → AllFrom delay m es → AllFrom delay m (with_noise now end noisy es)
+from-noise delay m now end true es later from = from-changed delay m (is_noise_at now) (noisy_until end) es (begin-noisy_until delay end) from
+from-noise delay m now end false es later from = from-entered delay m (Noise (record { begin = now; end = end })) es later from
 
 -- ---- Unheard
 
@@ -337,13 +345,13 @@ unheard-refused w over tap speaker at from reason cut there nothing is =
 -- the turn of a running tap
 turn-by : (w : World) (tap : ℕ) (t : Tap) (s : Station) (said : Option (List ℕ)) → slice_get w.taps tap ≡ Some t → t.running ≡ true
     → (s, said) ≡ turn_of w.params t.station t.marks w.now
-    → step w (Turn tap) ≡ unless ((is_full said (length w.trace), TraceFull) ∷ []) (
+    → step w (Turn tap) ≡ unless ((is_full said w.limit (length w.trace), TraceFull) ∷ []) (
       record w { trace = with_said tap said w.now w.taps w.trace; taps = slice_set w.taps tap (record t { station = s; marks = [] }) },
       record { now = w.now; spoke = said },
     )
 turn-by w tap t s said at runs turns =
     ap (λ o. step_turn w tap o) at ∙ ap (after_turn w tap t) (sym turns)
-    ∙ ap (λ (b : Bool). unless ((not b, NotRunning) ∷ (is_full said (length w.trace), TraceFull) ∷ []) (
+    ∙ ap (λ (b : Bool). unless ((not b, NotRunning) ∷ (is_full said w.limit (length w.trace), TraceFull) ∷ []) (
       record w { trace = with_said tap said w.now w.taps w.trace; taps = slice_set w.taps tap (record t { station = s; marks = [] }) },
       record { now = w.now; spoke = said },
     )) runs
@@ -356,7 +364,7 @@ said-behind w over tap (Some octets) (m, at, some, old, begun) =
     ap (with_entry e) (sym (take-append-drop over w.trace)) ∙ entered-behind w.params.ttd m e (take over w.trace) (drop over w.trace) old at
 
 pub turn-done : (w : World) (over tap : ℕ) (t : Tap) (s : Station) (said : Option (List ℕ)) → slice_get w.taps tap ≡ Some t → t.running ≡ true
-    → (s, said) ≡ turn_of w.params t.station t.marks w.now → IsCut w.params.ttd w.now over w.trace → is_full said (length w.trace) ≡ false
+    → (s, said) ≡ turn_of w.params t.station t.marks w.now → IsCut w.params.ttd w.now over w.trace → is_full said w.limit (length w.trace) ≡ false
     → step w (Turn tap) ≡ Ok (
       record w {
         trace = take over w.trace ++ with_said tap said w.now w.taps (drop over w.trace);
@@ -372,7 +380,7 @@ turn-done w over tap t s said at runs turns cut room =
     ∙ ap (λ es. Ok (record w { trace = es; taps = taps }, reply)) (said-behind w over tap said cut)
 
 pub turn-refused : (w : World) (tap : ℕ) (t : Tap) (s : Station) (said : Option (List ℕ)) (reason : WorldFault) → slice_get w.taps tap ≡ Some t → t.running ≡ true
-    → (s, said) ≡ turn_of w.params t.station t.marks w.now → RefusesSaid said (length w.trace) reason → Refuses w (Turn tap) (step w (Turn tap)) reason
+    → (s, said) ≡ turn_of w.params t.station t.marks w.now → RefusesSaid said w.limit (length w.trace) reason → Refuses w (Turn tap) (step w (Turn tap)) reason
 turn-refused w tap t s said fault.TraceFull at runs turns full =
     let next = record w { trace = with_said tap said w.now w.taps w.trace; taps = slice_set w.taps tap (record t { station = s; marks = [] }) } in
     let reply : Reply = record { now = w.now; spoke = said } in
@@ -384,13 +392,14 @@ turn-refused w tap t s said fault.NoMemory at runs turns room =
 turn-refused w tap t s said other at runs turns wrong = absurd wrong
 
 -- what is said at the clock goes behind what is over
-pub from-said : (m tap now : ℕ) (said : Option (List ℕ)) (ts : List Tap) (es : List Entry) → m ≤ now → AllFrom m es → AllFrom m (with_said tap said now ts es)
-from-said m tap now None ts es at from = from
-from-said m tap now (Some octets) ts es at from = from-entered m (Sent (sending tap octets now ts)) es at from
+pub from-said : (delay m tap now : ℕ) (said : Option (List ℕ)) (ts : List Tap) (es : List Entry) → m ≤ now → AllFrom delay m es
+    → AllFrom delay m (with_said tap said now ts es)
+from-said delay m tap now None ts es at from = from
+from-said delay m tap now (Some octets) ts es at from = from-entered delay m (Sent (sending tap octets now ts)) es (omega (arith, at)) from
 
 -- where a trace has room for what is said, it is not full
-pub room-said : (said : Option (List ℕ)) (before roomy : Trace) → StaysAs before roomy → (is_some said ≡ true → HasRoom roomy) → is_full said (length (entries_of before)) ≡ false
+pub room-said : (said : Option (List ℕ)) (before roomy : Trace) → StaysAs before roomy → (is_some said ≡ true → HasRoom roomy) → is_full said (limit_of before) (length (entries_of before)) ≡ false
 room-said None before roomy same room = refl
 room-said (Some octets) before roomy same room =
     let few = (room refl).few in
-    lt-leb trace_limit (length (entries_of before)) (omega (arith, few, length-map roomy.entries.items entry_of, ap length same.entries))
+    lt-leb (limit_of before) (length (entries_of before)) (omega (arith, few, same.limit, length-map roomy.entries.items entry_of, ap length same.entries))

@@ -13,7 +13,7 @@ use Rattle.law_model.specs.Trace as trace
 use Rattle.law_model.specs.Trace.{Hit, Record, Entry, Sent, entry_begin, entry_end, goes_before, with_entry, cut_end, cut_at, is_noise_at, noisy_until, begins_from, unheard_at}
 use Rattle.law_model.specs.Medium.{Tap, reaches, reaches_taps, ends_between, entry_at, heard_by}
 use Rattle.law_model.specs.World as world
-use Rattle.law_model.specs.World.{World, Event, Turn, Damage, Start, Stop, Queue, Unheard, Reply, Fault, NoSuchTap, Running, NotRunning, NothingInAir, ZeroTime, QueueFull, TraceFull, trace_limit, queue_limit, is_in_air_by, later_end, entry_next_end, next_end_of}
+use Rattle.law_model.specs.World.{World, Event, Turn, Damage, Start, Stop, Queue, Unheard, Reply, Fault, NoSuchTap, Running, NotRunning, NothingInAir, ZeroTime, QueueFull, TraceFull, queue_limit, is_in_air_by, later_end, entry_next_end, next_end_of}
 use Rattle.law_model.specs.Step.{step, sending, with_said, step_turn, told, pass_faults, is_past, step_pass, with_hit, change_first, has_place, step_damage, started_tap, step_start, halted, step_stop, step_queue, with_noise, is_noisy, step_noise, step_unheard}
 use Rattle.law_model.specs.Laws.{AllBegun, AllOver, IsSound}
 use Rattle.law_model.proofs.Cases.{by_test}
@@ -191,7 +191,7 @@ stays-turn w next tap reply (Some t) at ok =
     let turn = turn_of w.params t.station t.marks w.now in
     let y : Tap = record t { station = turn.0; marks = [] } in
     let made : World × Reply = (record w { trace = with_said tap turn.1 w.now w.taps w.trace; taps = slice_set w.taps tap y }, record { now = w.now; spoke = turn.1 }) in
-    let is = unless-Ok ((not t.running, NotRunning) ∷ (is_some turn.1 && nat_le trace_limit (length w.trace), TraceFull) ∷ []) made (next, reply) ok in
+    let is = unless-Ok ((not t.running, NotRunning) ∷ (is_some turn.1 && nat_le w.limit (length w.trace), TraceFull) ∷ []) made (next, reply) ok in
     subst (StaysBy w) is.1 (record { now = refl; trace = keeps-said tap w.now turn.1 w.taps w.trace; taps = taps-set w.now w.taps tap t y at (was-turn w t) })
 
 stays-damage : (w next : World) (tap speaker : ℕ) (place : Option ℕ) (reply : Reply) (at from : Option Tap) → step_damage w tap speaker place at from ≡ Ok (next, reply) → StaysBy w (next, reply)
@@ -236,7 +236,7 @@ stays-queue w next tap r reply (Some t) at ok =
 stays-noise : (w next : World) (bits : ℕ) (noisy : Bool) (reply : Reply) → step_noise w bits noisy ≡ Ok (next, reply) → StaysBy w (next, reply)
 stays-noise w next bits noisy reply ok =
     let made : World × Reply = (record w { trace = with_noise w.now (w.now + bits) noisy w.trace }, record { now = w.now; spoke = None }) in
-    let is = unless-Ok ((bits == 0, ZeroTime) ∷ (not noisy && nat_le trace_limit (length w.trace), TraceFull) ∷ []) made (next, reply) ok in
+    let is = unless-Ok ((bits == 0, ZeroTime) ∷ (not noisy && nat_le w.limit (length w.trace), TraceFull) ∷ []) made (next, reply) ok in
     subst (StaysBy w) is.1 (record { now = refl; trace = keeps-noise w.now (w.now + bits) noisy w.trace; taps = taps-same w.now w.taps })
 
 stays-unheard : (w next : World) (tap speaker : ℕ) (reply : Reply) (at from : Option Tap) → step_unheard w tap speaker at from ≡ Ok (next, reply) → StaysBy w (next, reply)

@@ -16,7 +16,7 @@ use Rattle.law_turn.specs.Marks.{Mark}
 use Rattle.law_turn.specs.Turns.{turn_of}
 use Rattle.pb_world.specs.Buses.{world_of, IsKept}
 use Rattle.pb_world.specs.declared.buses.Bus.{Bus}
-use Rattle.pb_medium.specs.Traces.{entries_of, over_of, recent_of, HasRoom, RecentBecomes, StaysAs}
+use Rattle.pb_medium.specs.Traces.{entries_of, limit_of, over_of, recent_of, HasRoom, RecentBecomes, StaysAs}
 use Rattle.pb_medium.specs.declared.traces.Trace.{Trace}
 use Rattle.pb_medium.proofs.Lending.{after-room}
 use Rattle.pb_taps.specs.Taps.{tap_of, seat_of, AreSeated}
@@ -45,7 +45,7 @@ pub record Grows (b : Bus) (i : ℕ) (said : Option (List ℕ)) (roomy after : T
 
 pub turn-follows : (b : Bus) (i : ℕ) (next taps : List Tap) (said : Option (List ℕ)) (roomy after : Trace) → IsKept b → Runs b.taps.items i
     → TakesTurn b.taps.items i b.now next said → taps ≡ next → Grows b i said roomy after
-    → step (world_of b) (Turn i) ≡ Ok (record (world_of b) { trace = entries_of after; taps = map tap_of taps }, record { now = b.now; spoke = said })
+    → step (world_of b) (Turn i) ≡ Ok (record (world_of b) { trace = entries_of after; taps = map tap_of taps; limit = limit_of after }, record { now = b.now; spoke = said })
 turn-follows b i next taps said roomy after kept (u, there, runs) (t, at, are, spoken) back grows =
     let w = world_of b in
     let items = b.taps.items in
@@ -61,6 +61,7 @@ turn-follows b i next taps said roomy after kept (u, there, runs) (t, at, are, s
     turn-done w over i (tap_of t) turn.0 said (tap-at b i t at) (ap (λ y. y.running) same ∙ runs) (ap (λ o. (turn.0, o)) spoken ∙ turns) kept.cut room
     ∙ ap (λ es. Ok (record w { trace = es; taps = slice_set w.taps i turned }, record { now = b.now; spoke = said })) (sym becomes.entries)
     ∙ ap (λ ts. Ok (record w { trace = entries_of after; taps = ts }, record { now = b.now; spoke = said })) (sym set)
+    ∙ ap (λ l. Ok (record w { trace = entries_of after; taps = map tap_of taps; limit = l }, record { now = b.now; spoke = said })) (sym becomes.limit)
 
 pub turn-kept : (b : Bus) (i : ℕ) (next : List Tap) (taps : Vec Tap) (said : Option (List ℕ)) (roomy after : Trace) (out : SendBuffer) (spares : Spares) → IsKept b → Runs b.taps.items i
     → TakesTurn b.taps.items i b.now next said → taps.items ≡ next → Grows b i said roomy after → IsKept (record b { trace = after; taps = taps; sent = out; spares = spares })
@@ -74,6 +75,6 @@ turn-kept b i next taps said roomy after out spares kept runs (t, at, are, spoke
       clock = kept.clock;
       room = omega (arith, ap length back, ap length are, length-set items i (turned_tap t b.now), kept.room);
       seats = subst (AreSeated b.params 0) (sym (ap (map seat_of) (back ∙ are) ∙ same-seats items i t (turned_tap t b.now) at (turned-seat t b.now))) kept.seats;
-      cut = cut-after b.params.ttd b.now (with_said i said b.now w.taps) b.trace after becomes (λ m at from. from-said m i b.now said w.taps (recent_of b.trace) at from) kept.cut;
+      cut = cut-after b.params.ttd b.now (with_said i said b.now w.taps) b.trace after becomes (λ m at from. from-said b.params.ttd m i b.now said w.taps (recent_of b.trace) at from) kept.cut;
       ends = in-time w (Turn i) _ _ follows tt kept.clock kept.sound kept.ends;
     }

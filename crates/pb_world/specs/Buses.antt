@@ -6,12 +6,12 @@ use Rattle.pb_world.specs.Worlds.{Sends}
 use Rattle.pb_taps.specs.declared.faults.WorldFault.{WorldFault}
 use Rattle.law_model.specs.Laws.{IsSound}
 use Rattle.pb_medium.specs.Airs.{IsCut}
-use Rattle.pb_medium.specs.Traces.{entries_of, over_of}
+use Rattle.pb_medium.specs.Traces.{limit_of, entries_of, over_of}
 use Rattle.pb_taps.specs.Taps.{tap_of, seat_of, AreSeated}
 use Rattle.pb_world.specs.declared.buses.Bus.{Bus}
 
 abbrev pub world_of : Bus → World
-world_of w = record { params = w.params; now = w.now; trace = entries_of w.trace; taps = map tap_of w.taps.items }
+world_of w = record { params = w.params; now = w.now; trace = entries_of w.trace; taps = map tap_of w.taps.items; limit = limit_of w.trace }
 
 -- the invariant of its fields
 pub record IsKept (w : Bus) : Type 0 where

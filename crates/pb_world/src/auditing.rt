@@ -21,10 +21,30 @@ use std::alloc::Global;
 /// cable delay apart, each by the activity at its own tap while it ran. If none is broken, no record is illegal, and
 /// after the events at most one station may initiate, which the trace names (medium access: token passing). If no event
 /// loses a telegram at a tap and no turn is late, no running master that is not offline has been in silence, as it
-/// hears the bus, for longer than its time-out and the lag.
+/// hears the bus, for longer than its time-out and the lag. If no premise is broken, the bus has been without a token
+/// telegram and without noise for no longer than the bound of [`liveness`](crate::liveness) while a running master was not
+/// offline.
 ///
 /// Faults, the first that applies: `New` with the fault of the new bus; `At` with the index of the first refused event,
 /// from 0, and its fault.
+///
+/// ```
+/// let alloc = rt.alloc();
+/// let params = BusParams::new(100, 37, 60, 11, 0, 10_000, 10, 5, 1, 0);
+/// let params = params.expect(&rt, "valid parameters");
+/// let (address, kind, reply) = (1, Kind::Master, ArrayVec::new());
+/// let taps = [TapSpec {
+///     address,
+///     kind,
+///     reply,
+/// }];
+/// // the turn is due at 800, and the lag is 0: at 900 it is late, which breaks premise 3
+/// let events = [Event::Start(0), Event::Pass(900), Event::Turn(0)];
+/// let found = audit(alloc, params, &taps, &events).expect(&rt, "an audit");
+/// let (premise, clock) = found.premise.expect(&rt, "a broken premise");
+/// assert_eq!(rt; (premise, clock.get()), (3, 900));
+/// assert!(rt; found.illegal.is_none());
+/// ```
 pub fn audit(
     alloc: Global,
     params: BusParams,

@@ -5,7 +5,7 @@ ghost use Rattle.pb_faults.specs.FirstFault.{first_fault};
 ghost use Rattle.law_model.specs.Step.{step_pass};
 ghost use Rattle.law_model.specs.World as world;
 ghost use Rattle.pb_medium.specs.Airs.{air};
-ghost use Rattle.pb_medium.specs.Traces.{entries_of, over_of, recent_of};
+ghost use Rattle.pb_medium.specs.Traces.{limit_of, entries_of, over_of, recent_of};
 ghost use Rattle.pb_world.specs.Clocks.{time_faults, CanPass, IsFault, IsFirstOf, PassesTo};
 ghost use Rattle.pb_medium.specs.Entries.{entry_of};
 ghost use Rattle.pb_taps.specs.Taps.{seat_of, tap_of};
@@ -33,6 +33,7 @@ pub(crate) fn pass(
     ensures clock { IfOk result (λ to. (now ≤ to) × (to ≤ world.clock_limit)) }
     ensures seats { map seat_of taps.new ≡ map seat_of taps.old }
     ensures over { over_of trace.new ≡ over_of trace.old }
+    ensures limit { limit_of trace.new ≡ limit_of trace.old }
     ensures err { OnErr result ((trace.new ≡ trace.old) × (taps.new ≡ taps.old)) }
     ensures fault { IfErr result (IsFault (step_pass (air delay now (recent_of trace.old) taps.old) bits)) }
 {

@@ -9,7 +9,7 @@ ghost use Rattle.pb_taps.specs.Faults.{RefusesNew};
 ghost use Rattle.pb_taps.specs.Taps.{spec_of};
 
 use crate::buses::Bus;
-use pb_medium::Trace;
+use pb_medium::{TRACE_LIMIT, Trace};
 use pb_station::{SendBuffer, Spares};
 use pb_taps::{NewFault, TapSpec, check_taps, new_taps};
 use pb_timers::BusParams;
@@ -34,7 +34,7 @@ pub fn new_bus(alloc: Global, params: BusParams, specs: &[TapSpec]) -> Result<Bu
     Ok(Bus {
         params,
         now: beginning(),
-        trace: Trace::new(alloc),
+        trace: Trace::new(alloc, TRACE_LIMIT),
         taps,
         sent: SendBuffer::new(),
         spares: Spares::new(alloc),

@@ -4,7 +4,7 @@ ghost use Rattle.std.specs.Prelude.{◌≡◌, ◌≤◌, ◌<◌, true, is_some
 ghost use Rattle.law_model.specs.Laws.{AllInOrder};
 ghost use Rattle.law_model.specs.World.{clock_limit};
 ghost use Rattle.pb_medium.specs.Speaking.{RefusesSaid};
-ghost use Rattle.pb_medium.specs.Traces.{entries_of, HasRoom, StaysAs};
+ghost use Rattle.pb_medium.specs.Traces.{limit_of, entries_of, HasRoom, StaysAs};
 ghost use Rattle.pb_taps.specs.Taps.{tap_of};
 ghost use Rattle.pb_taps.specs.Turning.{says};
 ghost use Rattle.pb_taps.specs.declared.taps.Tap as declared;
@@ -30,7 +30,7 @@ pub(crate) fn make_room(
     ensures ok { (t : declared.Tap) → slice_get taps.now tap ≡ Some t
         → OnOk result (is_some (says t now) ≡ true → HasRoom trace.new) }
     ensures fault { (t : declared.Tap) → slice_get taps.now tap ≡ Some t
-        → IfErr result (RefusesSaid (says t now) (length (entries_of trace.old))) }
+        → IfErr result (RefusesSaid (says t now) (limit_of trace.old) (length (entries_of trace.old))) }
 {
     if !trace.has_room() && would_speak(taps, tap, now) {
         trace.make_room()?;
@@ -44,7 +44,7 @@ pub(crate) fn make_room(
 pub(crate) fn make_room_for(trace: &mut Trace, decided: &Decided<'_>) -> Result<(), WorldFault>
     ensures same { StaysAs trace.old trace.new }
     ensures ok { OnOk result (is_some decided.entry.now.speak ≡ true → HasRoom trace.new) }
-    ensures fault { IfErr result (RefusesSaid decided.entry.now.speak (length (entries_of trace.old))) }
+    ensures fault { IfErr result (RefusesSaid decided.entry.now.speak (limit_of trace.old) (length (entries_of trace.old))) }
 {
     if decided.speak.is_some() {
         trace.make_room()?;

@@ -99,7 +99,29 @@ impl World {
     /// If the events that led to this world, and this one, break no premise, at most one station may initiate after it,
     /// the trace names that one, and each telegram that only a holder sends is legal (medium access: token passing). If
     /// none of these events loses a telegram at a tap or lets a turn be late, no running master that is not offline has
-    /// been in silence, as it hears the bus, for longer than its time-out and the lag.
+    /// been in silence, as it hears the bus, for longer than its time-out and the lag. If they break no premise, the bus
+    /// has been without a token telegram and without noise for no longer than the bound of
+    /// [`liveness`](crate::liveness) while a running master was not offline.
+    ///
+    /// ```
+    /// let alloc = rt.alloc();
+    /// let params = BusParams::new(100, 37, 60, 11, 0, 10_000, 10, 5, 1, 0);
+    /// let params = params.expect(&rt, "valid parameters");
+    /// let (address, kind, reply) = (1, Kind::Master, ArrayVec::new());
+    /// let taps = [TapSpec {
+    ///     address,
+    ///     kind,
+    ///     reply,
+    /// }];
+    /// let mut world = World::new(alloc, params, &taps).expect(&rt, "a world");
+    /// world.apply(alloc, Event::Start(0)).expect(&rt, "a start");
+    /// world.apply(alloc, Event::Pass(800)).expect(&rt, "time");
+    /// // after 800 bit times of silence the master claims the token, by a token to itself
+    /// let reply = world.apply(alloc, Event::Turn(0)).expect(&rt, "a turn");
+    /// let claim = reply.spoke.expect(&rt, "a telegram");
+    /// assert_eq!(rt; claim.as_slice(), [0xdc, 1, 1].as_slice());
+    /// assert_eq!(rt; world.trace().len(), 1);
+    /// ```
     pub fn apply(&mut self, alloc: Global, event: Event) -> Result<Reply, WorldFault>
         ensures follows { Follows self.old (event_of event) result self.new }
         ensures promises { OnOk result (LeadOn self.old (event_of event ∷ []) self.new) }
@@ -282,7 +304,26 @@ fn spoken_reply(now: Moment, octets: &[u8]) -> Reply
 /// If the events that led to the world, and those applied, break no premise, at most one station may initiate after
 /// them, the trace names that one, and each telegram that only a holder sends is legal. If none of them loses a
 /// telegram at a tap or lets a turn be late, no running master that is not offline has been in silence, as it hears the
-/// bus, for longer than its time-out and the lag.
+/// bus, for longer than its time-out and the lag. If they break no premise, the bus has been without a token telegram and
+/// without noise for no longer than the bound of [`liveness`](crate::liveness) while a running master was not offline.
+///
+/// ```
+/// let alloc = rt.alloc();
+/// let params = BusParams::new(100, 37, 60, 11, 0, 10_000, 10, 5, 1, 0);
+/// let params = params.expect(&rt, "valid parameters");
+/// let (address, kind, reply) = (1, Kind::Master, ArrayVec::new());
+/// let taps = [TapSpec {
+///     address,
+///     kind,
+///     reply,
+/// }];
+/// let mut world = World::new(alloc, params, &taps).expect(&rt, "a world");
+/// let events = [Event::Start(0), Event::Pass(800), Event::Stop(7)];
+/// // the third event is refused, since there is no such tap; the others remain applied
+/// let (place, _fault) = run(alloc, &mut world, &events).expect_err(&rt, "a fault");
+/// assert_eq!(rt; place, 2);
+/// assert_eq!(rt; world.now().get(), 800);
+/// ```
 pub fn run(alloc: Global, world: &mut World, events: &[Event]) -> Result<(), (usize, WorldFault)>
     ensures ok { OnOk result (RunsTo world.old (map event_of events.now) world.new) }
     ensures err { IfErr result (λ e. StopsAt world.old (map event_of events.now) e.0 e.1 world.new) }

@@ -31,6 +31,9 @@ pub(crate) const BAD_KIND: u32 = 67;
 /// The room for octets is too short.
 pub(crate) const NO_ROOM: u32 = 68;
 
+/// The last turn executed no such request.
+pub(crate) const NO_INDICATION: u32 = 69;
+
 /// More than 255 characters.
 pub(crate) const TOO_LONG: u32 = 44;
 

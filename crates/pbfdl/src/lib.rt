@@ -6,6 +6,7 @@
 #![tactic(auto)]
 
 mod codes;
+mod indications;
 mod params;
 mod ports;
 mod readings;

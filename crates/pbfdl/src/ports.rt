@@ -4,7 +4,7 @@ ghost use Rattle.std.specs.Prelude.{◌≡◌, ◌≢◌, ◌<◌, ◌≤◌, �
 ghost use Rattle.pb_faults.specs.FirstFault.{first_fault};
 ghost use Rattle.pb_telegram.specs.declared.chars.RxChar.TheVariants.{Good, Bad};
 ghost use Rattle.law_turn.specs.Marks as model;
-ghost use Rattle.pb_port.specs.Ports.{new_port, started_port, stopped_port, pushed_port, told_port, turned_port, said_by, due_port, clock_faults, mark_faults, push_faults};
+ghost use Rattle.pb_port.specs.Ports.{new_port, started_port, stopped_port, pushed_port, told_port, turned_port, replying_port, said_by, due_port, clock_faults, mark_faults, push_faults};
 ghost use Rattle.pbfdl.specs.Calls.{params_of, is_bad_station, character_of, service_of, new_codes, request_codes, request_fields, Answers, FindsNone};
 
 use crate::codes::{
@@ -126,6 +126,26 @@ pub extern "C" fn fdl_port_push(
     let code = code_of(station.push(request));
     port.put(station);
     code
+}
+
+/// Changes the data that the station replies to the next request for data. Codes, in order: 66 for more than 246 octets;
+/// 61.
+#[unsafe(no_mangle)]
+pub extern "C" fn fdl_port_set_reply(alloc: Global, port: &mut Handle, unit: &[u8]) -> u32
+    ensures long { 246 < length unit.now → (result ≡ 66) × (port.new.value ≡ port.old.value) }
+    ensures none { length unit.now ≤ 246 → port.old.value ≡ None → FindsNone result port.new.value }
+    ensures replies { length unit.now ≤ 246 → IfSome port.old.value
+        (λ p. (result ≡ 0) × (port.new.value ≡ Some (replying_port p unit.now))) }
+{
+    if unit.len() > MOST_DATA {
+        return LONG_DATA;
+    }
+    let Some(mut station) = port.take(alloc) else {
+        return EMPTY_HANDLE;
+    };
+    station.set_reply(copy_octets(unit));
+    port.put(station);
+    0
 }
 
 /// Activity of others has begun. Codes: 61, 41, 42, 43, 45.

@@ -3,10 +3,12 @@
 mod changed_octets;
 mod cycles;
 mod edges;
+mod examples;
 mod first_half;
 mod heard;
 mod lists;
 mod messages;
+mod ports;
 mod queues;
 mod requests;
 mod rotations;

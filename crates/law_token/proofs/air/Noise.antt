@@ -71,7 +71,7 @@ noise_keeps w bits waited next reply ok event kept set k =
     let noisy = is_noisy w in
     let new = waited_by next 0 next.taps in
     let made : World = record w { trace = with_noise w.now (w.now + bits) noisy w.trace } in
-    let both = unless-Ok ((bits == 0, ZeroTime) ∷ (not noisy && nat_le trace_limit (length w.trace), TraceFull) ∷ []) (made, record { now = w.now; spoke = None }) (next, reply) ok in
+    let both = unless-Ok ((bits == 0, ZeroTime) ∷ (not noisy && nat_le w.limit (length w.trace), TraceFull) ∷ []) (made, record { now = w.now; spoke = None }) (next, reply) ok in
     let some : bits ≡ 0 → ⊥ = eqb-false bits 0 both.0.0 in
     subst (λ z. Keeps z (new ++ waited)) (ap (λ (z : World × Reply). z.0) both.1) (noise_more w bits waited new noisy (grind (arith, some)) k)
 

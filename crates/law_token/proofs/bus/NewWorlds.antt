@@ -4,7 +4,7 @@ use Rattle.std.specs.Prelude.{slice_get}
 use Rattle.std.proofs.lemmas.Option.{none-some, same_Some}
 use Rattle.pb_timers.specs.Timers.{Params}
 use Rattle.law_model.specs.Medium.{Tap, TapSpec}
-use Rattle.law_model.specs.World.{World, stopped_tap, new_faults, new_world}
+use Rattle.law_model.specs.World.{trace_limit, World, stopped_tap, new_faults, new_world}
 use Rattle.law_model.specs.Laws.{AllFit}
 use Rattle.law_model.proofs.Worlds.{unless-Ok}
 use Rattle.law_runs.specs.Premises.{has_namesakes}
@@ -24,7 +24,7 @@ none_run p (spec ∷ specs) (suc k) t at run = none_run p specs k t at run
 
 pub new_keeps : (p : Params) (specs : List TapSpec) (w : World) → LeavesTime p → AllFit specs → new_world p specs ≡ Ok w → Keeps w []
 new_keeps p specs w fits fit new =
-    let made : World = record { params = p; now = 0; trace = []; taps = map (stopped_tap p) specs } in
+    let made : World = record { params = p; now = 0; trace = []; taps = map (stopped_tap p) specs; limit = trace_limit } in
     subst (λ z. Keeps z []) (unless-Ok (new_faults p specs) made w new).1 (record {
       fits = fits;
       inv = record {

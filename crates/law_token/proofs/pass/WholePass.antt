@@ -177,10 +177,10 @@ abbrev Both : Params → ℕ → List Tap → List Entry → List Waited → Opt
 Both p now taps trace waited last e = EntryHolds p now taps trace waited last e × SpeaksOk p now taps e
 
 -- what stands after a pass
-pub inv_pass : (p : Params) (now to : ℕ) (trace : List Entry) (taps : List Tap) (new waited : List Waited) → LeavesTime p → now < to → is_past (next_end_of p.ttd now trace) to ≡ false → list_any (is_late p to) taps ≡ false
-    → has_namesakes (told p.ttd trace now to 0 taps) ≡ false → InvariantHolds (record { params = p; now = now; trace = trace; taps = taps }) waited
-    → InvariantHolds (record { params = p; now = to; trace = map (entry_at p.ttd taps trace now to) trace; taps = told p.ttd trace now to 0 taps }) (new ++ waited)
-inv_pass p now to trace taps new waited fits lt past late distinct v =
+pub inv_pass : (p : Params) (now to limit : ℕ) (trace : List Entry) (taps : List Tap) (new waited : List Waited) → LeavesTime p → now < to → is_past (next_end_of p.ttd now trace) to ≡ false → list_any (is_late p to) taps ≡ false
+    → has_namesakes (told p.ttd trace now to 0 taps) ≡ false → InvariantHolds (record { params = p; now = now; trace = trace; taps = taps; limit = limit }) waited
+    → InvariantHolds (record { params = p; now = to; trace = map (entry_at p.ttd taps trace now to) trace; taps = told p.ttd trace now to 0 taps; limit = limit }) (new ++ waited)
+inv_pass p now to limit trace taps new waited fits lt past late distinct v =
     record {
       last = last';
       is_last = last_pass p.ttd taps trace now to None trace (omega arith) (each_map (EntryHolds p now taps trace waited v.last) (λ e. entry_begin e ≤ now) trace (begun_of p now taps trace waited v.last) v.entries) ∙ ap (option_map (relabel p.ttd taps trace now to)) v.is_last;
@@ -232,7 +232,7 @@ pass_keeps w bits waited next reply ok event kept set k =
     let some : w.now < to = omega (arith, some_bits bits both.0.0) in
     subst (λ z. Keeps z (new ++ waited)) same (record {
       fits = k.fits;
-      inv = inv_pass w.params w.now to w.trace w.taps new waited k.fits some both.0.1.0 premises.1 (subst (λ (z : World). has_namesakes z.taps ≡ false) (sym same) premises.0) k.inv;
+      inv = inv_pass w.params w.now to w.limit w.trace w.taps new waited k.fits some both.0.1.0 premises.1 (subst (λ (z : World). has_namesakes z.taps ≡ false) (sym same) premises.0) k.inv;
       legal = subst (λ l. first_illegal w.params l (map (entry_at w.params.ttd w.taps w.trace w.now to) w.trace) ≡ None) (sym (specs_told w.params.ttd w.trace w.now to 0 w.taps))
           (still_legal_pass w.params (specs_of w) w.taps w.now to w.trace k.legal);
     })

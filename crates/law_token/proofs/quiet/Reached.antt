@@ -2,7 +2,7 @@
 use Rattle.std.proofs.Common.{◌≡◌, Bool, true, false, not, ◌&&◌, List, [], ◌∷◌, refl, sym, ap, subst, arith, Result, Ok, Err}
 use Rattle.std.specs.Prelude.{map}
 use Rattle.std.proofs.lemmas.Bool.{and_parts}
-use Rattle.law_model.specs.World.{World, Event, Reply, Fault, stopped_tap}
+use Rattle.law_model.specs.World.{trace_limit, World, Event, Reply, Fault, stopped_tap}
 use Rattle.law_model.specs.Step.{step, world_after, replay, RunsTo}
 use Rattle.law_model.specs.Scenarios.{two_masters}
 use Rattle.law_runs.specs.Premises.{loses, comes_late}
@@ -55,7 +55,7 @@ none_late w (e ∷ es) h =
 -- ---- the run
 
 abbrev first_world : World
-first_world = record { params = long_bus; now = 0; trace = []; taps = map (stopped_tap long_bus) two_masters }
+first_world = record { params = long_bus; now = 0; trace = []; taps = map (stopped_tap long_bus) two_masters; limit = trace_limit }
 
 abbrev last_world : World
 last_world = replay first_world long_silence

@@ -70,7 +70,7 @@ turn_watches w tap p next reply ok event heard_ in_time k = by (slice_get w.taps
         let turn = turn_of w.params t.station t.marks w.now in
         let y : Tap = record t { station = turn.0; marks = [] } in
         let made : World = record w { trace = with_said tap turn.1 w.now w.taps w.trace; taps = slice_set w.taps tap y } in
-        let both = unless-Ok ((not t.running, NotRunning) ∷ (is_some turn.1 && nat_le trace_limit (length w.trace), TraceFull) ∷ []) (made, record { now = w.now; spoke = turn.1 }) (next, reply) ok in
+        let both = unless-Ok ((not t.running, NotRunning) ∷ (is_some turn.1 && nat_le w.limit (length w.trace), TraceFull) ∷ []) (made, record { now = w.now; spoke = turn.1 }) (next, reply) ok in
         let same : made ≡ next = ap (λ (z : World × Reply). z.0) both.1 in
         let has = sayable-at w.taps tap t k.sayable at in
         subst (λ z. Watch p z) same (record {
@@ -251,7 +251,7 @@ alert_noise p now end false entries k t o =
 noise_watches : (w : World) (bits : ℕ) → Watches w (Noise bits)
 noise_watches w bits p next reply ok event heard_ in_time k =
     let made : World = record w { trace = with_noise w.now (w.now + bits) (is_noisy w) w.trace } in
-    let both = unless-Ok ((bits == 0, ZeroTime) ∷ (not (is_noisy w) && nat_le trace_limit (length w.trace), TraceFull) ∷ []) (made, record { now = w.now; spoke = None }) (next, reply) ok in
+    let both = unless-Ok ((bits == 0, ZeroTime) ∷ (not (is_noisy w) && nat_le w.limit (length w.trace), TraceFull) ∷ []) (made, record { now = w.now; spoke = None }) (next, reply) ok in
     let same : made ≡ next = ap (λ (z : World × Reply). z.0) both.1 in
     let some : bits ≡ 0 → ⊥ = eqb-false bits 0 both.0.0 in
     subst (λ z. Watch p z) same (record {
@@ -284,7 +284,7 @@ new_taps p (spec ∷ specs) (suc k) t at = new_taps p specs k t at
 
 pub new_watches : (p : Params) (specs : List TapSpec) (w : World) → LeavesTime p → AllFit specs → new_world p specs ≡ Ok w → Watch p w
 new_watches p specs w fits fit new =
-    let made : World = record { params = p; now = 0; trace = []; taps = map (stopped_tap p) specs } in
+    let made : World = record { params = p; now = 0; trace = []; taps = map (stopped_tap p) specs; limit = trace_limit } in
     let same = unless-Ok (new_faults p specs) made w new in
     subst (λ z. Watch p z) same.1 (record {
       params = refl;

@@ -210,7 +210,7 @@ turn_keeps_by w k spelled waited next reply ok event unbroken set kept = by (sli
     by None here ok = absurd cc
     by (Some t) here ok =
         let turn = turn_of w.params t.station t.marks w.now in
-        let done = unless-Ok ((not t.running, world.NotRunning) ∷ (is_some turn.1 && nat_le world.trace_limit (length w.trace), world.TraceFull) ∷ []) (turned w k t turn.0 turn.1, record { now = w.now; spoke = turn.1 }) (next, reply) ok in
+        let done = unless-Ok ((not t.running, world.NotRunning) ∷ (is_some turn.1 && nat_le w.limit (length w.trace), world.TraceFull) ∷ []) (turned w k t turn.0 turn.1, record { now = w.now; spoke = turn.1 }) (next, reply) ok in
         let running = runs_then t.running done.0.0 in
         let is : turned w k t turn.0 turn.1 ≡ next = ap (λ (z : World × world.Reply). z.0) done.1 in
         let both = numbers (has_namesakes next.taps) false false (two_have_waited next.params.ttd (waited_by next 0 next.taps) (waited_by next 0 next.taps ++ waited)) unbroken in

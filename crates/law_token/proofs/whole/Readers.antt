@@ -6,7 +6,7 @@ use Rattle.pb_timers.specs.Timers.{Params, tto}
 use Rattle.pb_timers.specs.ParamRules.{IsValid}
 use Rattle.law_turn.specs.Phases.{may_initiate, Offline}
 use Rattle.law_model.specs.Medium.{TapSpec, Tap}
-use Rattle.law_model.specs.World.{World, Event, stopped_tap, new_faults, new_world}
+use Rattle.law_model.specs.World.{trace_limit, World, Event, stopped_tap, new_faults, new_world}
 use Rattle.law_model.specs.Step.{RunsTo}
 use Rattle.law_model.proofs.Worlds.{unless-Ok}
 use Rattle.law_runs.specs.Activity.{is_silent}

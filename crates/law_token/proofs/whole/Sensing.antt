@@ -220,7 +220,7 @@ step_sensed w next (Turn tap) reply ok set k = by (slice_get w.taps tap) refl ok
     by (Some t) at ok =
         let turn = turn_of w.params t.station t.marks w.now in
         let y : Tap = record t { station = turn.0; marks = [] } in
-        made ((not t.running, NotRunning) ∷ (is_some turn.1 && nat_le trace_limit (length w.trace), TraceFull) ∷ [])
+        made ((not t.running, NotRunning) ∷ (is_some turn.1 && nat_le w.limit (length w.trace), TraceFull) ∷ [])
         (record w { trace = with_said tap turn.1 w.now w.taps w.trace; taps = slice_set w.taps tap y }) next (record { now = w.now; spoke = turn.1 }) reply ok (record {
           begun = begun-with_said w tap turn.1 (fits-turn_of w.params t.station t.marks w.now (set.stays tap t at).sayable) k.begun;
           taps = at_set (λ j u. u.running ≡ true → Hears w.params w.now (with_said tap turn.1 w.now w.taps w.trace) j u) w.taps tap y
@@ -286,7 +286,7 @@ step_sensed w next (Queue tap r) reply ok set k = by (slice_get w.taps tap) refl
           taps = at_set (λ j u. u.running ≡ true → Hears w.params w.now w.trace j u) w.taps tap y (λ run. hears_queue w.params w.now w.trace tap t r (k.taps tap t at run)) (λ j u ne h run. k.taps j u h run);
         })
 step_sensed w next (Noise bits) reply ok set k =
-    let tests : List (Bool × Fault) = (bits == 0, ZeroTime) ∷ (not (is_noisy w) && nat_le trace_limit (length w.trace), TraceFull) ∷ [] in
+    let tests : List (Bool × Fault) = (bits == 0, ZeroTime) ∷ (not (is_noisy w) && nat_le w.limit (length w.trace), TraceFull) ∷ [] in
     let after : World = record w { trace = with_noise w.now (w.now + bits) (is_noisy w) w.trace } in
     let both = unless-Ok tests (after, record { now = w.now; spoke = None }) (next, reply) ok in
     let some : bits ≡ 0 → ⊥ = eqb-false bits 0 both.0.0 in
@@ -306,7 +306,7 @@ step_sensed w next (Unheard tap speaker) reply ok set k =
 
 new_sensed : (p : Params) (specs : List TapSpec) (w : World) → new_world p specs ≡ Ok w → Sensed w
 new_sensed p specs w new =
-    let made : World = record { params = p; now = 0; trace = []; taps = map (stopped_tap p) specs } in
+    let made : World = record { params = p; now = 0; trace = []; taps = map (stopped_tap p) specs; limit = trace_limit } in
     subst Sensed (unless-Ok (new_faults p specs) made w new).1 (record { begun = tt; taps = λ k t at run. absurd (none_runs p specs k t at run) })
   where
     none_runs : (p : Params) (specs : List TapSpec) (k : ℕ) (t : Tap) → slice_get (map (stopped_tap p) specs) k ≡ Some t → t.running ≡ true → ⊥

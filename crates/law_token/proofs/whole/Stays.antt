@@ -83,7 +83,7 @@ turn_after R Q w next q reply tap None at ok all = absurd cc
 turn_after R Q w next q reply tap (Some t) at ok all =
     let turn = turn_of w.params t.station t.marks w.now in
     let y = record t { station = turn.0; marks = [] } in
-    let tests : List (Bool × Fault) = (not t.running, NotRunning) ∷ (is_some turn.1 && nat_le trace_limit (length w.trace), TraceFull) ∷ [] in
+    let tests : List (Bool × Fault) = (not t.running, NotRunning) ∷ (is_some turn.1 && nat_le w.limit (length w.trace), TraceFull) ∷ [] in
     let made : World = record w { trace = with_said tap turn.1 w.now w.taps w.trace; taps = slice_set w.taps tap y } in
     let running = runs_then t.running (unless-Ok tests (made, record { now = w.now; spoke = turn.1 }) (next, reply) ok).0.0 in
     made_after Q tests w made next (record { now = w.now; spoke = turn.1 }) reply ok (record { params = refl; specs = set_specs w.taps tap t y at refl }) (set_tap Q w.taps tap y (q.turn t w.now running (all tap t at)) all)
@@ -157,7 +157,7 @@ step_after R Q w next q (Stop tap) reply is ok all = stop_after R Q w next q rep
 step_after R Q w next q (Queue tap r) reply is ok all = queue_after R Q w next q reply tap r is (slice_get w.taps tap) refl ok all
 step_after R Q w next q (Noise bits) reply is ok all =
     let noisy = is_noisy w in
-    made_after Q ((bits == 0, ZeroTime) ∷ (not noisy && nat_le trace_limit (length w.trace), TraceFull) ∷ []) w (record w { trace = with_noise w.now (w.now + bits) noisy w.trace }) next (record { now = w.now; spoke = None }) reply ok (record { params = refl; specs = refl }) all
+    made_after Q ((bits == 0, ZeroTime) ∷ (not noisy && nat_le w.limit (length w.trace), TraceFull) ∷ []) w (record w { trace = with_noise w.now (w.now + bits) noisy w.trace }) next (record { now = w.now; spoke = None }) reply ok (record { params = refl; specs = refl }) all
 step_after R Q w next q (Unheard tap speaker) reply is ok all =
     let begins = begins_from w.now speaker in
     made_after Q ((is_none (slice_get w.taps tap) || is_none (slice_get w.taps speaker), NoSuchTap) ∷ (tap == speaker || not (list_any begins w.trace), NothingInAir) ∷ []) w
@@ -261,7 +261,7 @@ new_taps p n (spec ∷ specs) highest good fit (suc k) t at = new_taps p (n + 1)
 
 pub settled_new : (p : Params) (specs : List TapSpec) (w : World) → p.hsa < 127 → AllFit specs → new_world p specs ≡ Ok w → Settled w
 settled_new p specs w highest fit made =
-    let new : World = record { params = p; now = 0; trace = []; taps = map (stopped_tap p) specs } in
+    let new : World = record { params = p; now = 0; trace = []; taps = map (stopped_tap p) specs; limit = trace_limit } in
     let done = unless-Ok (new_faults p specs) new w made in
     let stays = subst (λ (z : World). EachTap (TapStays z.params) z.taps) done.1 (new_taps p 0 specs highest done.0.1.1.0 fit) in
     record { stands = stands-new p specs w made; stays = stays }
@@ -280,4 +280,4 @@ same_bus w next e reply ok =
 
 pub new_params : (p : Params) (specs : List TapSpec) (w : World) → new_world p specs ≡ Ok w → w.params ≡ p
 new_params p specs w made =
-    let new : World = record { params = p; now = 0; trace = []; taps = map (stopped_tap p) specs } in sym (ap (λ (z : World). z.params) (unless-Ok (new_faults p specs) new w made).1)
+    let new : World = record { params = p; now = 0; trace = []; taps = map (stopped_tap p) specs; limit = trace_limit } in sym (ap (λ (z : World). z.params) (unless-Ok (new_faults p specs) new w made).1)

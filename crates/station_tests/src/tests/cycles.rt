@@ -58,8 +58,10 @@ fn what_is_kept_can_be_read(rt: HostRuntime) -> Result<(), Fail> {
     equal(&rt, &initiator.open_to(), &None);
     initiator.request(1, request(7, Service::Srd, true, "-")?);
     equal(&rt, &initiator.open_to(), &Some(7));
-    let responder = Responder::new(unit("aabb")?);
+    let mut responder = Responder::new(unit("aabb")?);
     equal(&rt, &responder.data(), &[0xaa, 0xbb].as_slice());
+    responder.set_data(&unit("cc")?);
+    equal(&rt, &responder.data(), &[0xcc].as_slice());
     let outcome = Outcome::Data(unit("aabb")?);
     equal(&rt, &outcome.copy(), &outcome);
     let mut other = Outcome::NoAnswer;

@@ -1,4 +1,4 @@
-use Rattle.std.proofs.Common.{rules, refl, sym, ap, ◌∙◌, ◌++◌, ◌∷◌, [], ◌+◌, List, length, map, arith, append_assoc, length-take-le}
+use Rattle.std.proofs.Common.{refl, sym, ap, ◌∙◌, ◌++◌, ◌∷◌, [], ◌+◌, List, length, map, arith, append_assoc, length-take-le}
 use Rattle.std.specs.Prelude.{drop}
 use Rattle.std.proofs.lemmas.List.{append-nil}
 use Rattle.law_turn.specs.Marks.{Mark}

@@ -1,4 +1,4 @@
-use Rattle.std.proofs.Common.{◌∙◌, ap, sym, ℕ, ◌+◌, Bool, false, ◌||◌, Option}
+use Rattle.std.proofs.Common.{◌∙◌, ap, sym, ℕ, ◌+◌, Bool, ◌||◌, Option}
 use Rattle.law_turn.specs.Stations.{earlier, first_seen, timer_of, speaks_at}
 use Rattle.pb_transitions.specs.Clocks.{is_past}
 use Rattle.pb_transitions.specs.Cores.{station_of}

@@ -22,7 +22,7 @@ returns-clause-ok c =
     let taps = map tap_of c.args.taps.now in
     let full = ap (λ n. first_full 0 (told c.args.delay w.trace c.args.now n 0 taps)) (sym can.later) ∙ can.room in
     let after : ℕ → List model.Tap → World
-    = λ n ts. record { params = plain c.args.delay; now = n; trace = map (entry_at c.args.delay ts w.trace c.args.now n) w.trace; taps = ts } in
+    = λ n ts. record { params = plain c.args.delay; now = n; trace = map (entry_at c.args.delay ts w.trace c.args.now n) w.trace; taps = ts; limit = 0 } in
     let news = c.tell_all.ensures.told ∙ ap (λ es. told c.args.delay es c.args.now to 0 taps) c.recent-3.ensures in (
       settled c.args.delay (map tap_of c.tell_all.new.taps) c.args.now to w.trace,
       c.settle.ensures.entries,

@@ -13,6 +13,7 @@ returns-clause-ok c =
     on-ok c.damage.result
     (λ hits. record {
       over = refl;
+      limit = refl;
       entries = given-back c.args.self.now c.deref_mut.result.now c.damage.new.entries (damaged c.args.delay c.args.speaker c.args.now (hit_of c.args.hit))
           c.deref_mut.ensures.value c.deref_mut.ensures.len c.damage.ensures.length hits;
     })
@@ -29,6 +30,7 @@ returns-clause-err c =
     on-err c.damage.result
     (λ same. record {
       over = refl;
+      limit = refl;
       entries = given-back t c.deref_mut.result.now c.damage.new.entries (λ es. es) c.deref_mut.ensures.value c.deref_mut.ensures.len c.damage.ensures.length same
           ∙ take-append-drop t.over (entries_of t);
     })

@@ -14,6 +14,7 @@ returns-in-Some-clause-ok c =
     let here : position test (recent_of t) ≡ Some c.in-Some.place = ap (position test) (sym c.recent.ensures) ∙ sym c.begun_at_clock.ensures ∙ c.in-Some.is in
     record {
       over = refl;
+      limit = refl;
       entries = set-behind entry_of test (unheard_at c.args.tap) t.entries.items t.over c.in-Some.place c.lose_at.new.entry c.index_mut.result.now here t.within
           (c.lose_at.ensures ∙ ap (λ e. unheard_at c.args.tap (entry_of e)) c.index_mut.ensures.value);
     }

@@ -14,6 +14,7 @@ returns-clause-becomes c =
     let e = entry_of c.args.entry in
     record {
       over = refl;
+      limit = refl;
       entries = returns-clause-entries c
           ∙ ap (λ n. insert (entries_of t) (t.over + n) e) (c.place_among.ensures.place ∙ ap (place_of e) c.recent.ensures)
           ∙ stands-behind e t.over (entries_of t);

@@ -13,6 +13,7 @@ returns-in-Some c = λ ts taps.
     let octets = c.in-Some.octets.now in
     record {
       over = c.put-place.ensures.becomes.over;
+      limit = c.put-place.ensures.becomes.limit;
       entries = spelt-behind entry_of octets (entry_of c.sending.result) t.over (entries_of t) c.put-place.result c.put-place.new.self.entries.items c.index_mut.result.now c.spell.new.entry
           c.put-place.ensures.place c.put-place.ensures.bound c.put-place.ensures.entries c.index_mut.ensures.value c.spell.ensures
           ∙ ap (λ e. take t.over (entries_of t) ++ with_entry e (recent_of t)) (c.sending.ensures octets ts refl taps)

@@ -3,9 +3,9 @@ use Rattle.std.specs.Prelude.{nat_le}
 use Rattle.std.proofs.Math.Bool.{and-false}
 use Rattle.std.proofs.lemmas.Bool.{ne_eqb}
 use Rattle.law_model.specs.Step.{is_noisy, step_noise}
-use Rattle.law_model.specs.World.{trace_limit, Noise}
+use Rattle.law_model.specs.World.{Noise}
 use Rattle.pb_medium.specs.Noising.{has_noise, has_no_room}
-use Rattle.pb_medium.specs.Traces.{entries_of, over_of, recent_of}
+use Rattle.pb_medium.specs.Traces.{entries_of, limit_of, over_of, recent_of}
 use Rattle.pb_taps.specs.declared.faults.WorldFault.TheVariants as fault
 use Rattle.pb_world.specs.Buses.{world_of, IsKept}
 use Rattle.pb_world.specs.Refusals.{fault_of}
@@ -16,12 +16,12 @@ use Rattle.pb_world.proofs.buses.Bus.check_noise.Goals as goal
 use Rattle.pb_world.proofs.buses.Bus.check_noise.Goals.{else-is_full-via-then-is_full+else-not-has_noise, else-is_full-via-else-is_full}
 
 -- what the noise and the room of a trace come to
-room : (noisy full : Bool) (b : Bus) → noisy ≡ has_noise b.now (recent_of b.trace) → full ≡ nat_le trace_limit (length (entries_of b.trace))
-    → has_no_room (has_noise b.now (recent_of b.trace)) (length (entries_of b.trace)) ≡ (not noisy && full)
+room : (noisy full : Bool) (b : Bus) → noisy ≡ has_noise b.now (recent_of b.trace) → full ≡ nat_le (limit_of b.trace) (length (entries_of b.trace))
+    → has_no_room (has_noise b.now (recent_of b.trace)) (limit_of b.trace) (length (entries_of b.trace)) ≡ (not noisy && full)
 room noisy full b heard holds =
-    ap (λ (x : Bool). not x && nat_le trace_limit (length (entries_of b.trace))) (sym heard) ∙ ap (λ (x : Bool). not noisy && x) (sym holds)
+    ap (λ (x : Bool). not x && nat_le (limit_of b.trace) (length (entries_of b.trace))) (sym heard) ∙ ap (λ (x : Bool). not noisy && x) (sym holds)
 
-fits : (b : Bus) (bits : ℕ) → IsKept b → (bits == 0) ≡ false → has_no_room (has_noise b.now (recent_of b.trace)) (length (entries_of b.trace)) ≡ false
+fits : (b : Bus) (bits : ℕ) → IsKept b → (bits == 0) ≡ false → has_no_room (has_noise b.now (recent_of b.trace)) (limit_of b.trace) (length (entries_of b.trace)) ≡ false
     → fault_of (step_noise (world_of b) bits (is_noisy (world_of b))) ≡ None
 fits b bits kept some room = ap fault_of (noise-done (world_of b) (over_of b.trace) bits kept.cut some room)
 

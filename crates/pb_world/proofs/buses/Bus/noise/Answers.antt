@@ -4,9 +4,9 @@ use Rattle.law_model.specs.Step.{with_noise}
 use Rattle.law_model.specs.World.{Noise}
 use Rattle.pb_world.specs.Buses.{world_of}
 use Rattle.pb_medium.specs.Noising.{has_noise}
-use Rattle.pb_medium.specs.Traces.{over_of, recent_of}
+use Rattle.pb_medium.specs.Traces.{entries_of, over_of, recent_of}
 use Rattle.pb_world.proofs.Ending.{in-time}
-use Rattle.pb_world.proofs.Stepping.{in-err, sound-after, cut-after, from-noise, noise-done, noise-refused}
+use Rattle.pb_world.proofs.Stepping.{in-err, stays-whole, sound-after, cut-after, from-noise, noise-done, noise-refused}
 use Rattle.pb_world.proofs.buses.Bus.noise.Goals as goal
 
 pub returns-in_err-make_noise-clause-follows : goal.returns-in_err-make_noise-clause-follows
@@ -15,7 +15,7 @@ returns-in_err-make_noise-clause-follows c =
     let w = world_of bus in
     let reason = c.in_err-make_noise.field-0.0 in
     in-err _ _ c.from_residual.result reason c.from_residual.ensures.0 c.from_residual.ensures.1 (
-      ap (λ es. record w { trace = es }) c.in_err-make_noise.ensures.err.entries,
+      stays-whole w bus.trace c.make_noise.new.self c.in_err-make_noise.ensures.err,
       noise-refused w (over_of bus.trace) c.args.bits reason c.requires.cut c.in_err-make_noise.ensures.fault,
     )
 
@@ -28,6 +28,7 @@ returns-clause-follows c =
     noise-done w over c.args.bits c.requires.cut c.in_ok-make_noise.ensures.some c.in_ok-make_noise.ensures.room
     ∙ ap (λ o. Ok (record w { trace = take over w.trace ++ with_noise bus.now (bus.now + c.args.bits) noisy (drop over w.trace) }, record { now = bus.now; spoke = o })) (sym c.clear.ensures)
     ∙ ap (λ es. Ok (record w { trace = es }, record { now = bus.now; spoke = c.clear.new.self })) (sym c.in_ok-make_noise.ensures.ok.entries)
+    ∙ ap (λ l. Ok (record w { trace = entries_of c.make_noise.new.self; limit = l }, record { now = bus.now; spoke = c.clear.new.self })) (sym c.in_ok-make_noise.ensures.ok.limit)
 
 pub returns-clause-kept : goal.returns-clause-kept
 returns-clause-kept c =
@@ -41,6 +42,6 @@ returns-clause-kept c =
       room = c.requires.room;
       seats = c.requires.seats;
       cut = cut-after bus.params.ttd bus.now (with_noise bus.now end noisy) bus.trace c.make_noise.new.self c.in_ok-make_noise.ensures.ok
-          (λ m at from. from-noise m bus.now end noisy recent at from) c.requires.cut;
+          (λ m at from. from-noise bus.params.ttd m bus.now end noisy recent at from) c.requires.cut;
       ends = in-time (world_of bus) (Noise c.args.bits) _ _ (returns-clause-follows c) (omega arith) c.requires.clock c.requires.sound c.requires.ends;
     }

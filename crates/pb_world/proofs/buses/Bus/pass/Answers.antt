@@ -5,7 +5,7 @@ use Rattle.law_model.specs.Laws.{AllBegun}
 use Rattle.law_model.specs.Step.{step_pass}
 use Rattle.law_model.specs.World.{World, Pass}
 use Rattle.pb_medium.specs.Airs.{IsCut}
-use Rattle.pb_medium.specs.Traces.{entries_of, over_of}
+use Rattle.pb_medium.specs.Traces.{entries_of, limit_of, over_of}
 use Rattle.pb_world.specs.Buses.{world_of}
 use Rattle.pb_world.specs.Clocks.{IsFault, PassesTo}
 use Rattle.pb_taps.specs.Taps.{tap_of, seat_of, AreSeated}
@@ -22,10 +22,10 @@ returns-in_err-self-clause-follows c =
     let w = world_of bus in
     let items = c.deref_mut.ensures.value in
     let back = written-back bus.taps.len bus.taps.items c.pass.new.taps (ap length (sym items) ∙ c.deref_mut.ensures.len) (as-many seat_of c.pass.new.taps c.deref_mut.result.now c.pass.ensures.seats ∙ ap length items) in
-    let same = air-recent bus.params c.ttd.result bus.now (over_of bus.trace) (entries_of bus.trace) bus.taps.items c.deref_mut.result.now c.ttd.ensures items in
+    let same = air-recent bus.params c.ttd.result bus.now (limit_of bus.trace) (over_of bus.trace) (entries_of bus.trace) bus.taps.items c.deref_mut.result.now c.ttd.ensures items in
     let reason = c.in_err-self.field-0.0 in
     in-err _ _ c.from_residual.result reason c.from_residual.ensures.0 c.from_residual.ensures.1 (
-      ap (λ t. record w { trace = entries_of t; taps = map tap_of (with_items bus.taps c.pass.new.taps).items }) c.in_err-self.ensures.err.0
+      ap (λ t. record w { trace = entries_of t; taps = map tap_of (with_items bus.taps c.pass.new.taps).items; limit = limit_of t }) c.in_err-self.ensures.err.0
           ∙ ap (λ ts. record w { taps = map tap_of ts }) (back ∙ c.in_err-self.ensures.err.1 ∙ items),
       pass-refused w (over_of bus.trace) c.args.bits reason c.requires.cut
           (subst (λ (x : World). IsFault (step_pass x c.args.bits) reason) same c.in_err-self.ensures.fault),
@@ -38,7 +38,7 @@ returns-clause-follows c =
     let over = over_of bus.trace in
     let items = c.deref_mut.ensures.value in
     let back = written-back bus.taps.len bus.taps.items c.pass.new.taps (ap length (sym items) ∙ c.deref_mut.ensures.len) (as-many seat_of c.pass.new.taps c.deref_mut.result.now c.pass.ensures.seats ∙ ap length items) in
-    let same = air-recent bus.params c.ttd.result bus.now over w.trace bus.taps.items c.deref_mut.result.now c.ttd.ensures items in
+    let same = air-recent bus.params c.ttd.result bus.now (limit_of bus.trace) over w.trace bus.taps.items c.deref_mut.result.now c.ttd.ensures items in
     let to = c.in_ok-self.field-0 in
     let after = entries_of c.pass.new.trace in
     let taps = map tap_of c.pass.new.taps in
@@ -46,7 +46,8 @@ returns-clause-follows c =
     pass-done w over c.args.bits to after taps c.requires.cut passes
     ∙ ap (λ o. Ok (record w { now = to; trace = after; taps = taps }, record { now = to; spoke = o })) (sym c.clear.ensures)
     ∙ ap (λ es. Ok (record w { now = to; trace = es; taps = taps }, record { now = to; spoke = c.clear.new.self })) (sym c.close.ensures.entries)
-    ∙ ap (λ ts. Ok (record w { now = to; trace = entries_of c.close.new.self; taps = map tap_of ts }, record { now = to; spoke = c.clear.new.self })) (sym back)
+    ∙ ap (λ l. Ok (record w { now = to; trace = entries_of c.close.new.self; taps = taps; limit = l }, record { now = to; spoke = c.clear.new.self })) (sym (c.close.ensures.limit ∙ c.pass.ensures.limit))
+    ∙ ap (λ ts. Ok (record w { now = to; trace = entries_of c.close.new.self; taps = map tap_of ts; limit = limit_of c.close.new.self }, record { now = to; spoke = c.clear.new.self })) (sym back)
 
 pub returns-clause-kept : goal.returns-clause-kept
 returns-clause-kept c =
@@ -56,7 +57,7 @@ returns-clause-kept c =
     let items = c.deref_mut.ensures.value in
     let seats = c.pass.ensures.seats in
     let back = written-back bus.taps.len bus.taps.items c.pass.new.taps (ap length (sym items) ∙ c.deref_mut.ensures.len) (as-many seat_of c.pass.new.taps c.deref_mut.result.now seats ∙ ap length items) in
-    let same = air-recent bus.params c.ttd.result bus.now over w.trace bus.taps.items c.deref_mut.result.now c.ttd.ensures items in
+    let same = air-recent bus.params c.ttd.result bus.now (limit_of bus.trace) over w.trace bus.taps.items c.deref_mut.result.now c.ttd.ensures items in
     let to = c.in_ok-self.field-0 in
     let after = entries_of c.pass.new.trace in
     let taps = map tap_of c.pass.new.taps in

@@ -8,7 +8,7 @@ use Rattle.law_model.specs.Trace as trace
 use Rattle.law_model.specs.Trace.{cut_at}
 use Rattle.law_model.specs.World.{Stop}
 use Rattle.pb_world.specs.Buses.{world_of, IsKept}
-use Rattle.pb_medium.specs.Traces.{entries_of, over_of, recent_of}
+use Rattle.pb_medium.specs.Traces.{entries_of, limit_of, over_of, recent_of}
 use Rattle.pb_taps.specs.Turning.{RefusesStopped}
 use Rattle.pb_world.specs.Stopping.{halted_tap, IsStopped}
 use Rattle.pb_taps.specs.Taps.{tap_of, seat_of, AreSeated}
@@ -63,7 +63,8 @@ returns-clause-follows c =
     done bus c.args.tap next c.requires stops
     ∙ ap (λ o. Ok (record w { trace = cut_trace bus c.args.tap; taps = map tap_of next }, record { now = bus.now; spoke = o })) (sym c.clear.ensures)
     ∙ ap (λ es. Ok (record w { trace = es; taps = map tap_of next }, record { now = bus.now; spoke = c.clear.new.self })) (sym c.cut.ensures.entries)
-    ∙ ap (λ ts. Ok (record w { trace = entries_of c.cut.new.self; taps = map tap_of ts }, record { now = bus.now; spoke = c.clear.new.self })) (sym back)
+    ∙ ap (λ l. Ok (record w { trace = entries_of c.cut.new.self; taps = map tap_of next; limit = l }, record { now = bus.now; spoke = c.clear.new.self })) (sym c.cut.ensures.limit)
+    ∙ ap (λ ts. Ok (record w { trace = entries_of c.cut.new.self; taps = map tap_of ts; limit = limit_of c.cut.new.self }, record { now = bus.now; spoke = c.clear.new.self })) (sym back)
 
 pub returns-clause-kept : goal.returns-clause-kept
 returns-clause-kept c =
@@ -78,6 +79,6 @@ returns-clause-kept c =
       room = omega (arith, ap length back, size bus c.args.tap next stops, c.requires.room);
       seats = subst (λ ts. AreSeated bus.params 0 (map seat_of ts)) (sym back) (seated bus c.args.tap next c.requires stops);
       cut = cut-after bus.params.ttd bus.now (map (cut_at bus.now c.args.tap)) bus.trace c.cut.new.self c.cut.ensures
-          (λ m at from. from-cut m bus.now c.args.tap (recent_of bus.trace) from) c.requires.cut;
+          (λ m at from. from-cut bus.params.ttd m bus.now c.args.tap (recent_of bus.trace) from) c.requires.cut;
       ends = in-time (world_of bus) (Stop c.args.tap) _ _ (returns-clause-follows c) tt c.requires.clock c.requires.sound c.requires.ends;
     }

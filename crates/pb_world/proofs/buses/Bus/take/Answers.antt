@@ -4,7 +4,7 @@ use Rattle.std.specs.Vec.{with_items}
 use Rattle.std.proofs.lemmas.List.{length-map, length-set}
 use Rattle.law_turn.specs.Turns.{turn_of}
 use Rattle.pb_medium.specs.Speaking.{RefusesSaid}
-use Rattle.pb_medium.specs.Traces.{entries_of, RecentBecomes}
+use Rattle.pb_medium.specs.Traces.{entries_of, limit_of, RecentBecomes}
 use Rattle.law_model.specs.Step.{with_said}
 use Rattle.pb_station.specs.Decisions.{DecisionView, IsDecision}
 use Rattle.pb_taps.specs.Glancing.{FitsTap}
@@ -15,7 +15,7 @@ use Rattle.pb_taps.specs.Taps.{tap_of}
 use Rattle.pb_taps.specs.Turning.{says, turned_tap, Runs, RefusesStopped, TakesTurn}
 use Rattle.pb_taps.proofs.Behind.{written-back}
 use Rattle.pb_taps.proofs.Seats.{seat-of-tap}
-use Rattle.pb_world.proofs.Stepping.{in-err, turn-refused}
+use Rattle.pb_world.proofs.Stepping.{in-err, stays-whole, turn-refused}
 use Rattle.pb_world.proofs.Turns.{decided-says, turn-follows, turn-kept, Grows}
 use Rattle.pb_world.proofs.buses.Bus.take.Goals as goal
 
@@ -43,9 +43,9 @@ returns-in_err-make_room_for-clause-follows c =
     let said = decided-says bus.taps.items bus.now d t fit (subst IsDecision c.decided.view_is c.decided.invariant) at in
     let reason = c.in_err-make_room_for.field-0.0 in
     in-err _ _ c.from_residual-in_err-make_room_for.result reason c.from_residual-in_err-make_room_for.ensures.0 c.from_residual-in_err-make_room_for.ensures.1 (
-      ap (λ es. record w { trace = es }) c.in_err-make_room_for.ensures.same.entries,
+      stays-whole w bus.trace c.make_room_for.new.trace c.in_err-make_room_for.ensures.same,
       turn-refused w d.tap (tap_of t) (turn_of t.station.params t.station.station t.marks bus.now).0 (says t bus.now) reason (tap-at bus d.tap t at) runs.2 turns
-          (subst (λ o. RefusesSaid o (length (entries_of bus.trace)) reason) said c.in_err-make_room_for.ensures.fault),
+          (subst (λ o. RefusesSaid o (limit_of bus.trace) (length (entries_of bus.trace)) reason) said c.in_err-make_room_for.ensures.fault),
     )
 
 pub take_decided-replaced-requires : goal.take_decided-replaced-requires

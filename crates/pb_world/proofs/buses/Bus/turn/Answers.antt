@@ -10,7 +10,7 @@ use Rattle.pb_taps.specs.Taps.{tap_of}
 use Rattle.pb_taps.specs.Turning.{says, turned_tap, Runs, TakesTurn}
 use Rattle.pb_taps.proofs.Behind.{written-back}
 use Rattle.pb_taps.proofs.Seats.{seat-of-tap}
-use Rattle.pb_world.proofs.Stepping.{in-err, turn-refused}
+use Rattle.pb_world.proofs.Stepping.{in-err, stays-whole, turn-refused}
 use Rattle.pb_world.proofs.Turns.{turn-follows, turn-kept, Grows}
 use Rattle.pb_world.proofs.buses.Bus.turn.Goals as goal
 
@@ -27,7 +27,7 @@ returns-in_err-make_room-clause-follows c =
     let turns = ap (λ p. turn_of p t.station.station t.marks bus.now) (ap (λ y. y.params) seat) in
     let reason = c.in_err-make_room.field-0.0 in
     in-err _ _ c.from_residual-in_err-make_room.result reason c.from_residual-in_err-make_room.ensures.0 c.from_residual-in_err-make_room.ensures.1 (
-      ap (λ es. record w { trace = es }) c.in_err-make_room.ensures.same.entries,
+      stays-whole w bus.trace c.make_room.new.trace c.in_err-make_room.ensures.same,
       turn-refused w i (tap_of t) (turn_of t.station.params t.station.station t.marks bus.now).0 (says t bus.now) reason there runs.2 turns
           (c.in_err-make_room.ensures.fault t (ap (λ xs. slice_get xs i) c.deref-2.ensures.value ∙ at)),
     )

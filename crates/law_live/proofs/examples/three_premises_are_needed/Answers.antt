@@ -1,7 +1,7 @@
 -- each clause computes; a false one is refused at once
 use Rattle.std.proofs.Common.{refl}
 use Rattle.law_live.specs.NeverDead.{tries}
-use Rattle.law_live.proofs.examples.each_premise_is_needed.Goals as goal
+use Rattle.law_live.proofs.examples.three_premises_are_needed.Goals as goal
 
 pub returns-clause-noise : goal.returns-clause-noise
 unfolding tries

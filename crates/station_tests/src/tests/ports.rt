@@ -2,10 +2,10 @@
 
 ghost use Rattle.std.specs.Prelude.{◌≤◌};
 
-use crate::{Feed, FeedFault, FeedMark, Port, PortFault};
 use arrayvec::ArrayVec;
 use pb_cycles::{Request, Service};
 use pb_faults::NoMemory;
+use pb_port::{Feed, FeedFault, FeedMark, Port, PortFault};
 use pb_telegram::RxChar;
 use pb_timers::BusParams;
 use pb_tokenfsm::Phase;
@@ -94,4 +94,31 @@ fn refused_memory_for_a_port(rt: HostRuntime) {
             let _ = println!(rt; "refused");
         }
     }
+}
+
+/// A passive station replies to a request for data with what was set last, and tells the request.
+#[test]
+fn data_go_in_and_out(rt: HostRuntime) {
+    let params = BusParams::new(100, 37, 60, 11, 0, 10_000, 10, 5, 1, 0).unwrap();
+    let mut port = Port::new(rt.alloc(), params, 7, false, ArrayVec::new()).expect(&rt, "memory");
+    let mut reply = ArrayVec::new();
+    reply.push(0xbb);
+    let mut out = [0; 255];
+    port.start(0).expect(&rt, "start");
+    port.set_reply(reply);
+    port.begin(100, 100).expect(&rt, "begin");
+    let request = [0x68, 4, 4, 0x68, 7, 1, 0x7d, 0xaa, 0x2f, 0x16];
+    port.end_good(210, 210, &request).expect(&rt, "end");
+    assert!(rt; port.turn(210, &mut out) == Ok(0));
+    match port.indications() {
+        [asked] => {
+            assert!(rt; asked.source == 1 && asked.high && asked.service == Service::Srd);
+            assert!(rt; asked.unit.as_slice() == [0xaa].as_slice());
+        }
+        _ => panic!(rt; "one request"),
+    }
+    assert!(rt; port.turn(221, &mut out) == Ok(10));
+    let spoken = &out[..10];
+    assert!(rt; spoken == [0x68, 4, 4, 0x68, 1, 7, 0x0a, 0xbb, 0xcd, 0x16].as_slice());
+    assert!(rt; port.indications().is_empty());
 }

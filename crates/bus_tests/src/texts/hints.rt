@@ -1,6 +1,6 @@
 //! Hints for files with one mistake each.
 
-use crate::{explain, warn};
+use pb_texts::{explain, warn};
 use std::process::Abort;
 
 const HEAD: &str =

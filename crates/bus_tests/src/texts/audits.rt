@@ -1,6 +1,6 @@
 //! The text for an audit.
 
-use crate::audited;
+use pb_texts::audited;
 
 /// Two masters whose starts are as far apart as their time-outs differ.
 const FILE: &[u8] = b"version = 1

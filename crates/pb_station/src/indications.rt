@@ -1,0 +1,169 @@
+//! The requests of others that a station executes in a turn.
+
+ghost use Rattle.std.specs.Prelude.{◌≡◌, ◌≤◌, ◌<◌, ◌+◌, ◌++◌, ◌%◌, [], length, map, take, option_map};
+ghost use Rattle.pb_cycles.specs.Requests.{asked_by};
+ghost use Rattle.pb_station.specs.Indications.{asked_in, executed_in, fields_of, request_in, with_front};
+ghost use Rattle.pb_station.specs.MarkViews.{brought};
+ghost use Rattle.pb_station.specs.Notes.{chars_of, octets_of, mark_with};
+ghost use Rattle.pb_transitions.specs.Arrivals.{brings};
+ghost use Rattle.law_turn.specs.Arrivals.{arrival_of};
+
+use crate::inboxes::MARK_LIMIT;
+use crate::notes::Note;
+use arrayvec::ArrayVec;
+use pb_cycles::{Asked, Frame, Message, Service};
+use pb_telegram::{Fc, RxChar, Telegram, copy_octets};
+use pb_transitions::{spelled_telegram, whole_telegram};
+use std::alloc::{AllocError, Global};
+use std::marker::Model;
+
+/// A request of another station that a station has executed (EN 50170-2, message cycles).
+#[derive(Debug, PartialEq, Eq, Drop)]
+pub struct Indication {
+    /// The address of the station that asks, 0 to 126.
+    pub source: u8,
+    /// The service: SDA, SDN or SRD.
+    pub service: Service,
+    /// Whether its priority is high.
+    pub high: bool,
+    /// Its data, at most 246 octets.
+    pub unit: ArrayVec<u8, 246>,
+}
+
+/// The requests that a station executed in a turn, with memory reserved for as many as there may be, 64.
+#[derive(Debug, Drop)]
+pub struct Indications {
+    list: Vec<Indication>,
+}
+
+impl Model for Indications {
+    ghost use Rattle.std.specs.Prelude.{◌≤◌, List, map};
+    ghost use Rattle.std.specs.Vec.{vec_capacity};
+    ghost use Rattle.pb_station.specs.Indications.{IndicationFields, fields_of};
+
+    ghost Value = { List IndicationFields };
+
+    ghost view = { λ i. map fields_of i.list.items };
+
+    ghost invariant = { λ i. 64 ≤ vec_capacity i.list };
+}
+
+impl Indications {
+    ghost use Rattle.std.specs.Prelude.{◌≡◌, ◌<◌, ◌++◌, ◌∷◌, [], IfOk, length, map};
+    ghost use Rattle.pb_station.specs.Indications.{fields_of};
+
+    /// None, with memory for all that there may be.
+    ///
+    /// Fault: memory was refused.
+    pub fn new(alloc: Global) -> Result<Indications, AllocError>
+        ensures { IfOk result (λ i. i ≡ []) }
+    {
+        let list = Vec::with_capacity(alloc, MARK_LIMIT)?;
+        Ok(Indications { list })
+    }
+
+    /// The requests, in the order in which they were executed.
+    pub fn as_slice(&self) -> &[Indication]
+        ensures { map fields_of result.now ≡ self.now }
+    {
+        &self.list
+    }
+
+    /// Removes all.
+    pub fn clear(&mut self)
+        ensures { self.new ≡ [] }
+    {
+        self.list.clear();
+    }
+
+    /// Appends a request.
+    fn push(&mut self, indication: Indication)
+        requires { length self.old < 64 }
+        ensures { self.new ≡ self.old ++ fields_of indication ∷ [] }
+    {
+        self.list.push_reserved(indication);
+    }
+}
+
+/// Appends the request in a mark that was read, if it was executed: the count of executed requests has changed.
+pub(crate) fn tell(
+    told: &mut Indications,
+    before: u64,
+    after: u64,
+    note: &Note,
+    chars: &[RxChar],
+    octets: &[u8],
+)
+    requires room { length told.old < 64 }
+    requires chars { chars_of note.now ≤ length chars.now }
+    requires octets { octets_of note.now ≤ length octets.now }
+    ensures told { let mark = mark_with note.now (take (chars_of note.now) chars.now)
+        (take (octets_of note.now) octets.now) in
+        told.new ≡ told.old ++ with_front (executed_in before after mark) [] }
+    ensures few { length told.new ≤ length told.old + 1 }
+{
+    if before == after {
+        return;
+    }
+    tell_request(told, note, chars, octets);
+}
+
+/// Appends the request in a mark. Kept out of line: its frame has room for the longest telegram.
+#[inline(never)]
+fn tell_request(told: &mut Indications, note: &Note, chars: &[RxChar], octets: &[u8])
+    requires room { length told.old < 64 }
+    requires chars { chars_of note.now ≤ length chars.now }
+    requires octets { octets_of note.now ≤ length octets.now }
+    ensures told { let mark = mark_with note.now (take (chars_of note.now) chars.now)
+        (take (octets_of note.now) octets.now) in
+        told.new ≡ told.old ++ with_front (request_in (arrival_of (brought mark))) [] }
+    ensures few { length told.new ≤ length told.old + 1 }
+{
+    if let Some(indication) = request_of(&telegram_of(note, chars, octets)) {
+        told.push(indication);
+    }
+}
+
+/// The telegram that a mark brings.
+fn telegram_of(note: &Note, chars: &[RxChar], octets: &[u8]) -> Option<Telegram>
+    requires chars { chars_of note.now ≤ length chars.now }
+    requires octets { octets_of note.now ≤ length octets.now }
+    ensures { brings result ≡ arrival_of (brought
+        (mark_with note.now (take (chars_of note.now) chars.now) (take (octets_of note.now) octets.now))) }
+{
+    match note {
+        Note::Begin { .. } => whole_telegram(&[]),
+        Note::End { count, .. } => whole_telegram(&chars[..*count]),
+        Note::GoodEnd { count, .. } => spelled_telegram(&octets[..*count]),
+        Note::Three { octets, .. } => spelled_telegram(octets),
+        Note::Noise { .. } => whole_telegram(&[RxChar::Bad]),
+    }
+}
+
+/// The request for a service that a telegram is.
+fn request_of(telegram: &Option<Telegram>) -> Option<Indication>
+    ensures { option_map fields_of result ≡ request_in (brings telegram.now) }
+{
+    match telegram {
+        Some(telegram) => match Message::read(telegram) {
+            Message::Framed(frame) => asked_in(&frame),
+            Message::Acknowledgement | Message::TokenPass => None,
+        },
+        None => None,
+    }
+}
+
+/// The request for a service with these fields.
+fn asked_in(frame: &Frame) -> Option<Indication>
+    ensures { option_map fields_of result ≡ asked_in frame.now (asked_by (frame.now.fc % 16)) }
+{
+    match Asked::by(Fc(frame.fc()).code()) {
+        Asked::Send(service, high) => Some(Indication {
+            source: frame.sa() % 128,
+            service,
+            high,
+            unit: copy_octets(frame.unit()),
+        }),
+        Asked::Status | Asked::Unknown => None,
+    }
+}
