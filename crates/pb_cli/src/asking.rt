@@ -8,8 +8,10 @@ ghost use Rattle.pb_cli.specs.Playing.{IsUpTo};
 use crate::bounding::{LEAST_BAUD, MOST_BAUD, USUAL_BAUD};
 use crate::playing::{MOST_LINES, MOST_WORKERS};
 use crate::words::{Ask, AskFault, Asked};
+use clap::builder::ValueParser;
 use clap::error::ErrorKind;
 use clap::{Arg, ArgAction, ArgMatches, Command, Error, value_parser};
+use pb_monitor::{Classes, Form, Options, SummaryForm};
 use std::alloc::{AllocError, Global};
 
 const RUN: &str = "run";
@@ -18,7 +20,38 @@ const AUDIT: &str = "audit";
 
 const BOUNDS: &str = "bounds";
 
+const MONITOR: &str = "monitor";
+
+const CAPTURE: &str = "capture";
+
 const FILE: &str = "FILE";
+
+const FORM: &str = "form";
+
+const ALARMS: &str = "alarms";
+
+const EVERY: &str = "every";
+
+const SUMMARY: &str = "summary";
+
+const SLACK: &str = "slack";
+
+const TAP: &str = "tap";
+
+/// The forms of a capture.
+const FORMS: [&str; 3] = ["lines", "raw", "pcap"];
+
+/// The forms of a summary.
+const SUMMARIES: [&str; 3] = ["text", "json", "csv"];
+
+/// The classes of alarms.
+const CLASSES: [&str; 5] = ["legality", "loss", "timing", "all", "none"];
+
+/// The most bit times between two summaries.
+const MOST_EVERY: u64 = 1 << 62;
+
+/// The most bit times by which the difference of two moments may be wrong.
+const MOST_SLACK: u32 = 1_000_000;
 
 const WORKERS: &str = "workers";
 
@@ -81,6 +114,14 @@ fn asked(alloc: Global, matches: &ArgMatches<'_>) -> Result<Ask, AllocError>
             baud: baud_in(bounds),
             json: bounds.get_flag(JSON),
         }),
+        Some((MONITOR, monitor)) => Ok(Ask::Monitor {
+            file: text_in(alloc, monitor, FILE)?,
+            options: options_in(monitor),
+        }),
+        Some((CAPTURE, capture)) => Ok(Ask::Capture {
+            file: file_in(alloc, capture)?,
+            tap: text_in(alloc, capture, TAP)?,
+        }),
         _ => Ok(Ask::Decode),
     }
 }
@@ -88,7 +129,7 @@ fn asked(alloc: Global, matches: &ArgMatches<'_>) -> Result<Ask, AllocError>
 /// Whether the words suppress hints.
 fn is_quiet(matches: &ArgMatches<'_>) -> bool {
     match matches.subcommand() {
-        Some((RUN | AUDIT | BOUNDS, words)) => words.get_flag(QUIET),
+        Some((RUN | AUDIT | BOUNDS | MONITOR | CAPTURE, words)) => words.get_flag(QUIET),
         _ => false,
     }
 }
@@ -96,6 +137,66 @@ fn is_quiet(matches: &ArgMatches<'_>) -> bool {
 /// The path of the file.
 fn file_in(alloc: Global, matches: &ArgMatches<'_>) -> Result<String, AllocError> {
     String::from_str(alloc, matches.get_str(FILE).unwrap_or(""))
+}
+
+/// The text of an argument, if it is given.
+fn text_in(
+    alloc: Global,
+    matches: &ArgMatches<'_>,
+    name: &str,
+) -> Result<Option<String>, AllocError> {
+    match matches.get_str(name) {
+        Some(text) => Ok(Some(String::from_str(alloc, text)?)),
+        None => Ok(None),
+    }
+}
+
+/// What a monitor is asked for.
+fn options_in(matches: &ArgMatches<'_>) -> Options {
+    Options {
+        form: match matches.get_str(FORM) {
+            Some("raw") => Form::Raw,
+            Some("pcap") => Form::Pcap,
+            _ => Form::Lines,
+        },
+        classes: match matches.get_str(ALARMS) {
+            Some(words) => classes_in(words),
+            None => Classes::all(),
+        },
+        every: matches.get_one::<u64>(EVERY),
+        summary: match matches.get_str(SUMMARY) {
+            Some("text") => Some(SummaryForm::Text),
+            Some("json") => Some(SummaryForm::Json),
+            Some("csv") => Some(SummaryForm::Csv),
+            _ => None,
+        },
+        baud: matches.get_one::<u32>(BAUD),
+        slack: matches.get_one::<u32>(SLACK).unwrap_or(0),
+    }
+}
+
+/// The class of alarms that a word names, or all or none.
+fn classes_in(word: &str) -> Classes {
+    let none = Classes::none();
+    match word {
+        "legality" => Classes {
+            legality: true,
+            loss: none.loss,
+            timing: none.timing,
+        },
+        "loss" => Classes {
+            legality: none.legality,
+            loss: true,
+            timing: none.timing,
+        },
+        "timing" => Classes {
+            legality: none.legality,
+            loss: none.loss,
+            timing: true,
+        },
+        "none" => none,
+        _ => Classes::all(),
+    }
 }
 
 /// The number of an option, if it is given. The option's parser has checked its range.
@@ -128,7 +229,9 @@ fn command<'a>(alloc: Global) -> Result<Command<'a>, AllocError> {
         .subcommand(decode_command(alloc))?
         .subcommand(run_command(alloc)?)?
         .subcommand(audit_command(alloc)?)?
-        .subcommand(bounds_command(alloc)?)
+        .subcommand(bounds_command(alloc)?)?
+        .subcommand(monitor_command(alloc)?)?
+        .subcommand(capture_command(alloc)?)
 }
 
 fn decode_command<'a>(alloc: Global) -> Command<'a> {
@@ -172,6 +275,79 @@ fn bounds_command<'a>(alloc: Global) -> Result<Command<'a>, AllocError> {
                 .help("Prints one JSON object"),
         )?
         .arg(quiet(alloc))
+}
+
+fn monitor_command<'a>(alloc: Global) -> Result<Command<'a>, AllocError> {
+    Command::new(alloc, MONITOR)
+        .about(
+            "Reads a capture on standard input as it comes: words, who holds the token, alarms, statistics",
+        )
+        .after_help(
+            "Example: ringplay capture examples/two-masters.toml | ringplay monitor examples/two-masters.toml",
+        )
+        .arg(Arg::new(alloc, FILE).help(
+            "A file with the parameters of the bus, as a scenario has; without it nothing is judged",
+        ))?
+        .arg(choice(alloc, FORM, "FORM", &FORMS).help(
+            "lines: BEGIN END HEX, BEGIN HEX or HEX; raw: octets; pcap: a file of packets [default: lines]",
+        ))?
+        .arg(choice(alloc, ALARMS, "CLASS", &CLASSES).help(
+            "Which alarms are raised [default: all]",
+        ))?
+        .arg(limited(alloc, EVERY, "BITS", 1, MOST_EVERY).help(
+            "Prints a summary each time that so many bit times have passed",
+        ))?
+        .arg(choice(alloc, SUMMARY, "FORMAT", &SUMMARIES).help(
+            "Prints the summary alone, as text, one JSON object or a table of the stations",
+        ))?
+        .arg(
+            Arg::new(alloc, BAUD)
+                .long(BAUD)
+                .value_name("N")
+                .help("Bits a second, 9600 to 12000000, for the moments of packets")
+                .value_parser(value_parser!(u32).range(
+                    i64::from(LEAST_BAUD)..=i64::from(MOST_BAUD),
+                )),
+        )?
+        .arg(
+            Arg::new(alloc, SLACK)
+                .long(SLACK)
+                .value_name("BITS")
+                .help(
+                    "By how many bit times the difference of two moments may be wrong [default: 0]",
+                )
+                .value_parser(value_parser!(u32).range(0..=i64::from(MOST_SLACK))),
+        )?
+        .arg(quiet(alloc))
+}
+
+fn capture_command<'a>(alloc: Global) -> Result<Command<'a>, AllocError> {
+    Command::new(alloc, CAPTURE)
+        .about("Prints what a listener hears of a scenario's run, as lines for monitor")
+        .after_help("Example: ringplay capture examples/two-masters.toml --tap m1")
+        .arg(file(alloc))?
+        .arg(
+            Arg::new(alloc, TAP).long(TAP).value_name("NAME").help(
+                "The tap that listens, while it runs [default: all telegrams, as they are sent]",
+            ),
+        )?
+        .arg(quiet(alloc))
+}
+
+/// An option whose value is one of some words.
+fn choice<'a>(alloc: Global, name: &'a str, value: &'a str, words: &'a [&'a str]) -> Arg<'a> {
+    Arg::new(alloc, name)
+        .long(name)
+        .value_name(value)
+        .value_parser(words)
+}
+
+/// An option whose value is a number from `least` to `most`.
+fn limited<'a>(alloc: Global, name: &'a str, value: &'a str, least: u64, most: u64) -> Arg<'a> {
+    Arg::new(alloc, name)
+        .long(name)
+        .value_name(value)
+        .value_parser(ValueParser::unsigned(least, most))
 }
 
 /// An option whose value is a number from 1 to `most`.

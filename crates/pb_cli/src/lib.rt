@@ -1,7 +1,8 @@
 //! What the program `ringplay` does, over any reader and writer.
 //!
 //! [`ask`] reads the program's words, [`decode_lines`] decodes lines of hex, [`play`] plays a scenario file with some
-//! workers, [`audit_file`] judges its run, and [`bounds_file`] computes the bounds of its bus. The contracts name the bytes:
+//! workers, [`audit_file`] judges its run, [`bounds_file`] computes the bounds of its bus, and [`monitor`]
+//! reads captures. The contracts name the bytes:
 //! what is written is a stated function of what is read, and `Read`, `TooLong` and `Write` are returned only if their
 //! cause is there. A [`Source`] is read from and a [`Sink`] is written to; [`CountedReader`] and [`CountedWriter`] make
 //! them from any reader and writer of std.
@@ -11,11 +12,13 @@ mod answers;
 mod asking;
 mod auditing;
 mod bounding;
+mod capturing;
 mod counted_reader;
 mod counted_writer;
 mod decoding;
 mod faults;
 mod fleets;
+mod monitoring;
 mod playing;
 mod reading;
 mod streams;
@@ -25,14 +28,17 @@ mod writing;
 pub use asking::{VERSION, ask, ask_with_options};
 pub use auditing::{Found, audit_file, audit_with_reasons};
 pub use bounding::bounds_file;
+pub use capturing::capture_file;
 pub use counted_reader::CountedReader;
 pub use counted_writer::CountedWriter;
 pub use decoding::decode_lines;
 pub use faults::{CliFault, Status};
+pub use monitoring::{Bus, bus_of, monitor};
 pub use playing::play;
 pub use reading::read_input;
 pub use streams::{ReadFault, Sink, Source, WriteFault};
-pub use words::{Ask, AskFault, Asked};
+pub use words::{Ask, AskFault, Asked, Options};
+pub use writing::write_out;
 
 #[cfg(test)]
 mod tests;

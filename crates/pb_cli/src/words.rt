@@ -3,6 +3,7 @@
 ghost use Rattle.std.specs.Prelude.{◌≡◌};
 ghost use Rattle.pb_cli.specs.declared.words.AskFault.TheVariants.{NoMemory};
 
+pub use pb_monitor::Options;
 use std::alloc::AllocError;
 use thiserror::Error;
 
@@ -33,6 +34,20 @@ pub enum Ask {
         baud: u32,
         /// Whether they are wanted as one JSON object.
         json: bool,
+    },
+    /// Read a capture on standard input.
+    Monitor {
+        /// The path of the file that has the parameters of the bus.
+        file: Option<String>,
+        /// What the monitor is asked for.
+        options: Options,
+    },
+    /// Print what a listener hears of the run of a scenario file.
+    Capture {
+        /// The file's path.
+        file: String,
+        /// The tap that listens; without it each telegram is heard as it was sent.
+        tap: Option<String>,
     },
     /// Print the version.
     Version,

@@ -52,7 +52,7 @@ pub(crate) struct Pool<L: Ledger> {
     ended: AtomicBool,
     conductor: Parker,
     /// Where each helper waits.
-    beds: Vec<Bed>,
+    helpers: Vec<HelperState>,
     /// How many helpers wait for any offer.
     idle: AtomicUsize,
     /// Whether one of these helpers watches.
@@ -63,7 +63,7 @@ pub(crate) struct Pool<L: Ledger> {
 
 /// Where a helper waits.
 #[derive(Drop)]
-struct Bed {
+struct HelperState {
     helper: Parker,
     /// Whether the helper waits for any offer.
     is_idle: AtomicBool,
@@ -71,9 +71,9 @@ struct Bed {
     number: AtomicU64,
 }
 
-impl Bed {
-    fn new() -> Bed {
-        Bed {
+impl HelperState {
+    fn new() -> HelperState {
+        HelperState {
             helper: Parker::new(),
             is_idle: AtomicBool::new(false),
             number: AtomicU64::new(NONE),
@@ -108,9 +108,9 @@ impl<L: Ledger> Pool<L> {
         for seat in seats {
             lent.push(Mutex::new(seat))?;
         }
-        let mut beds = Vec::with_capacity(alloc, helpers)?;
+        let mut states = Vec::with_capacity(alloc, helpers)?;
         for _ in 0..helpers {
-            beds.push(Bed::new())?;
+            states.push(HelperState::new())?;
         }
         Ok(Pool {
             seats: lent,
@@ -122,7 +122,7 @@ impl<L: Ledger> Pool<L> {
             failed: AtomicBool::new(false),
             ended: AtomicBool::new(false),
             conductor: Parker::new(),
-            beds,
+            helpers: states,
             idle: AtomicUsize::new(0),
             watched: AtomicBool::new(false),
             holding: AtomicUsize::new(0),
@@ -203,10 +203,10 @@ impl<L: Ledger> Pool<L> {
     /// watches: it looks from time to time whether the active workers make progress or are held by the gate, and before
     /// it leaves it wakes another one to watch. The others stay parked, so the hot path never issues a wake-up.
     pub(crate) fn wait_for_any<R: Wait>(&self, rt: &R, helper: usize) -> bool {
-        let Some(bed) = self.beds.get(helper) else {
+        let Some(state) = self.helpers.get(helper) else {
             return false;
         };
-        self.lies_down(bed);
+        self.mark_idle(state);
         let mut watches = false;
         let mut taken = self.taken();
         for _ in rt.forever() {
@@ -216,12 +216,12 @@ impl<L: Ledger> Pool<L> {
             watches = watches || !self.watched.swap(true, Ordering::SeqCst);
             taken = self.taken();
             if watches {
-                bed.helper.park_timeout(rt, Duration::from_micros(WATCH));
+                state.helper.park_timeout(rt, Duration::from_micros(WATCH));
             } else {
-                bed.helper.park(rt);
+                state.helper.park(rt);
             }
         }
-        self.gets_up(bed);
+        self.mark_busy(state);
         if watches {
             self.watched.store(false, Ordering::SeqCst);
             self.wake_one();
@@ -235,18 +235,18 @@ impl<L: Ledger> Pool<L> {
         if self.is_published(number) {
             return true;
         }
-        let Some(bed) = self.beds.get(helper) else {
+        let Some(state) = self.helpers.get(helper) else {
             return false;
         };
         self.holding.fetch_add(1, Ordering::SeqCst);
-        bed.number.store(number, Ordering::SeqCst);
+        state.number.store(number, Ordering::SeqCst);
         for _ in rt.forever() {
             if self.is_published(number) || self.has_ended() {
                 break;
             }
-            bed.helper.park(rt);
+            state.helper.park(rt);
         }
-        bed.number.store(NONE, Ordering::SeqCst);
+        state.number.store(NONE, Ordering::SeqCst);
         self.holding.fetch_sub(1, Ordering::SeqCst);
         self.is_published(number)
     }
@@ -254,8 +254,8 @@ impl<L: Ledger> Pool<L> {
     /// Releases all helpers: no more offers come.
     pub(crate) fn end(&self) {
         self.ended.store(true, Ordering::SeqCst);
-        for bed in &self.beds {
-            bed.helper.unpark();
+        for state in &self.helpers {
+            state.helper.unpark();
         }
     }
 
@@ -272,7 +272,7 @@ impl<L: Ledger> Pool<L> {
 
     /// How many workers of the crew do not wait for an offer.
     fn awake(&self) -> usize {
-        let crew = self.beds.len().saturating_add(1);
+        let crew = self.helpers.len().saturating_add(1);
         crew.saturating_sub(self.idle.load(Ordering::SeqCst))
             .saturating_sub(self.holding.load(Ordering::SeqCst))
     }
@@ -294,22 +294,22 @@ impl<L: Ledger> Pool<L> {
     }
 
     /// Marks a helper as waiting for any offer.
-    fn lies_down(&self, bed: &Bed) {
+    fn mark_idle(&self, state: &HelperState) {
         self.idle.fetch_add(1, Ordering::SeqCst);
-        bed.is_idle.store(true, Ordering::SeqCst);
+        state.is_idle.store(true, Ordering::SeqCst);
     }
 
     /// Marks a helper as no longer waiting for any offer.
-    fn gets_up(&self, bed: &Bed) {
-        bed.is_idle.store(false, Ordering::SeqCst);
+    fn mark_busy(&self, state: &HelperState) {
+        state.is_idle.store(false, Ordering::SeqCst);
         self.idle.fetch_sub(1, Ordering::SeqCst);
     }
 
     /// Wakes one helper that waits for any offer, if there is one.
     fn wake_one(&self) {
-        for bed in &self.beds {
-            if bed.is_idle.load(Ordering::SeqCst) {
-                bed.helper.unpark();
+        for state in &self.helpers {
+            if state.is_idle.load(Ordering::SeqCst) {
+                state.helper.unpark();
                 return;
             }
         }
@@ -320,9 +320,9 @@ impl<L: Ledger> Pool<L> {
         if self.holding.load(Ordering::SeqCst) == 0 {
             return;
         }
-        for bed in &self.beds {
-            if bed.number.load(Ordering::SeqCst) < published {
-                bed.helper.unpark();
+        for state in &self.helpers {
+            if state.number.load(Ordering::SeqCst) < published {
+                state.helper.unpark();
             }
         }
     }

@@ -5,6 +5,7 @@
 mod audit_hints;
 mod audits;
 mod bounds;
+mod captures;
 mod documents;
 mod entries;
 mod explaining;
@@ -30,7 +31,8 @@ pub use bounds::{
     is_round_long, lag_margin, masters_of, never_asks, reply_margin, shortest_rotation,
     silence_bound, take_margin,
 };
-pub use explaining::{MOST_EVENTS, explain};
+pub use captures::captured;
+pub use explaining::{MOST_EVENTS, explain, explain_bus};
 pub use faults::{new_line, refused_line};
 pub use files::{audited, described, refused_file};
 pub use json::bounds_json;

@@ -12,10 +12,11 @@ ghost use Rattle.pb_cli.specs.Playing.{IsUpTo, line_limit, worker_limit};
 ghost use Rattle.ringplay.specs.ExitStatus.{exit_status_of, words_status_of};
 
 use pb_cli::{
-    Ask, AskFault, Asked, CliFault, CountedReader, CountedWriter, Status, VERSION,
-    ask_with_options, audit_with_reasons, bounds_file, decode_lines, play, read_input,
+    Ask, AskFault, Asked, Bus, CliFault, CountedReader, CountedWriter, Options, Status, VERSION,
+    ask_with_options, audit_with_reasons, bounds_file, bus_of, capture_file, decode_lines, monitor,
+    play, read_input, write_out,
 };
-use pb_texts::{MOST_EVENTS, explain, explain_audit, warn};
+use pb_texts::{MOST_EVENTS, explain, explain_audit, explain_bus, warn};
 use std::alloc::{AllocError, Global};
 use std::fmt::Display;
 use std::fs::Files;
@@ -84,6 +85,8 @@ fn answer<T: AllocGlobal + Eprint + Files + Input + Print + Threads + Wait + Syn
         } => run(rt, file.as_str(), workers, last, is_quiet),
         Ask::Audit { file } => audit(rt, file.as_str(), is_quiet),
         Ask::Bounds { file, baud, json } => bounds(rt, file.as_str(), baud, json, is_quiet),
+        Ask::Monitor { file, options } => watch(rt, file, options, is_quiet),
+        Ask::Capture { file, tap } => capture(rt, file.as_str(), tap, is_quiet),
         Ask::Version => version(rt),
     }
 }
@@ -157,6 +160,53 @@ fn bounds<T: AllocGlobal + Eprint + Files + Input + Print>(
         && !is_quiet
     {
         hint(rt, explain(rt.alloc(), shown(path), &file, None));
+    }
+    Ok(status)
+}
+
+/// `ringplay monitor [FILE]`, from standard input to standard output; hints go to standard error.
+fn watch<T: AllocGlobal + Eprint + Files + Input + Print>(
+    rt: &T,
+    path: Option<String>,
+    options: Options,
+    is_quiet: bool,
+) -> Result<Status, CliFault> {
+    let mut writer = CountedWriter::new(io::writer(rt));
+    let mut params = None;
+    if let Some(path) = path {
+        let file = contents(rt, path.as_str(), is_quiet)?;
+        match bus_of(rt.alloc(), &file)? {
+            Bus::Params(found) => params = Some(found),
+            Bus::Refused(shown_fault) => {
+                write_out(&mut writer, &shown_fault.text)?;
+                if !is_quiet {
+                    hint(rt, explain_bus(rt.alloc(), shown(path.as_str()), &file));
+                }
+                return Ok(Status::Refused);
+            }
+        }
+    }
+    let mut reader = CountedReader::new(rt.reader());
+    monitor(rt.alloc(), params, options, &mut reader, &mut writer)
+}
+
+/// `ringplay capture FILE`, to standard output; hints go to standard error.
+fn capture<T: AllocGlobal + Eprint + Files + Input + Print>(
+    rt: &T,
+    path: &str,
+    tap: Option<String>,
+    is_quiet: bool,
+) -> Result<Status, CliFault> {
+    let file = contents(rt, path, is_quiet)?;
+    let mut writer = CountedWriter::new(io::writer(rt));
+    let status = capture_file(rt.alloc(), &file, tap, &mut writer)?;
+    if let Status::Refused = status
+        && !is_quiet
+    {
+        hint(
+            rt,
+            explain(rt.alloc(), shown(path), &file, Some(MOST_EVENTS)),
+        );
     }
     Ok(status)
 }

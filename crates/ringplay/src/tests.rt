@@ -2,6 +2,7 @@
 
 mod decoding;
 mod memory;
+mod monitoring;
 mod scenarios;
 mod streams;
 mod words;

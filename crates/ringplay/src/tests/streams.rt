@@ -12,10 +12,10 @@ const OUTPUT: &[u8] = b"token da=3 sa=2\nack\nfault 0 NotHex\n";
 
 /// Gives one byte a call, and returns an error at one call.
 #[derive(Drop)]
-struct ByteReader {
-    rest: &'static [u8],
-    calls_before: u32,
-    kind: ErrorKind,
+pub(super) struct ByteReader {
+    pub(super) rest: &'static [u8],
+    pub(super) calls_before: u32,
+    pub(super) kind: ErrorKind,
 }
 
 impl Read for ByteReader {
@@ -38,11 +38,11 @@ impl Read for ByteReader {
 
 /// Takes one byte a call, and from one call on returns some errors.
 #[derive(Drop)]
-struct ByteWriter {
-    taken: Vec<u8>,
-    calls_before: u32,
-    kind: ErrorKind,
-    errors: u32,
+pub(super) struct ByteWriter {
+    pub(super) taken: Vec<u8>,
+    pub(super) calls_before: u32,
+    pub(super) kind: ErrorKind,
+    pub(super) errors: u32,
 }
 
 impl Write for ByteWriter {

@@ -1,0 +1,10 @@
+pub mod Legal
+pub mod Pairs
+pub mod Claims
+pub mod Follows
+pub mod Heard
+pub mod Chosen
+pub mod NoneRaised
+pub mod Meant
+pub mod Fronts
+pub mod CutStreams

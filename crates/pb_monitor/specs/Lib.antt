@@ -1,0 +1,9 @@
+pub mod AlarmWords
+pub mod Captures
+pub mod Meanings
+pub mod Judge
+pub mod Judging
+pub mod Holders
+pub mod Cutting
+pub mod Examples
+pub mod Promises

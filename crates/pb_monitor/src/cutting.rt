@@ -1,0 +1,202 @@
+//! Cuts octets without boundaries into telegrams.
+
+ghost use Rattle.std.specs.Prelude.{◌≡◌, ◌↔◌, ◌==◌, ◌<◌, ◌≤◌, ◌++◌, ◌∷◌, ℕ, List, [], IsTrue, IsFalse, drop, length, map, None, IfSome, OnSome};
+ghost use Rattle.pb_telegram.specs.Grammar.{spelling};
+ghost use Rattle.pb_telegram.specs.Receiving.{StandsFor};
+ghost use Rattle.pb_telegram.specs.declared.chars.RxChar.TheVariants.{Good};
+ghost use Rattle.pb_telegram.specs.declared.telegrams.Telegram.{Telegram};
+ghost use Rattle.pb_monitor.specs.Cutting.{IsCutOff, need_by, need_of_data, needs};
+
+use arrayvec::ArrayVec;
+use pb_telegram::{
+    FIXED_START, Receiver, RxChar, SHORT_START, TOKEN_START, Telegram, VAR_START, copy_octets,
+};
+use std::marker::Model;
+
+/// The most octets of a telegram.
+const LONGEST: usize = 255;
+
+/// What comes first in a stream of octets.
+#[derive(Debug, PartialEq, Eq, Drop)]
+pub enum Piece {
+    /// A telegram.
+    Whole(Telegram),
+    /// An octet at which no telegram begins.
+    Skipped(u8),
+}
+
+/// Cuts a stream of octets into telegrams. In contracts it is the octets that have come and are not cut yet, at most 255.
+///
+/// At each octet at which a telegram begins that telegram is cut off, whatever follows it; each other octet is skipped.
+/// So after a fault it goes on at the next octet at which a telegram begins.
+#[derive(Drop)]
+pub struct Cutter {
+    window: ArrayVec<u8, LONGEST>,
+    receiver: Receiver,
+}
+
+impl Model for Cutter {
+    ghost use Rattle.std.specs.Prelude.{List, ℕ};
+
+    ghost Value = { List ℕ };
+
+    ghost view = { λ c. c.window.items };
+}
+
+impl Cutter {
+    /// A cutter of an empty stream.
+    pub fn new() -> Cutter
+        ensures { result ≡ [] }
+    {
+        Cutter {
+            window: ArrayVec::new(),
+            receiver: Receiver::new(),
+        }
+    }
+
+    /// How many octets have come and are not cut yet.
+    pub fn len(&self) -> usize
+        ensures { result ≡ length self.now }
+    {
+        self.window.len()
+    }
+
+    /// Whether all octets that have come are cut.
+    pub fn is_empty(&self) -> bool
+        ensures { result ≡ (length self.now == 0) }
+    {
+        self.window.is_empty()
+    }
+
+    /// Whether 255 octets have come and are not cut yet.
+    pub fn is_full(&self) -> bool
+        ensures full { IsTrue result ↔ (length self.now ≡ 255) }
+        ensures room { IsFalse result → length self.now < 255 }
+    {
+        self.window.is_full()
+    }
+
+    /// Takes the next octet of the stream. The caller ensures that fewer than 255 are not cut yet.
+    pub fn push(&mut self, octet: u8)
+        requires { length self.old < 255 }
+        ensures { self.new ≡ self.old ++ octet ∷ [] }
+    {
+        self.window.push(octet);
+    }
+
+    /// Cuts off what comes first, if that is known already: a telegram, or an octet at which none begins, whatever
+    /// follows. Otherwise fewer than 255 octets have come, and nothing changes.
+    #[tactic(auto, using(crate::proofs::Fronts::none_begins, crate::proofs::Fronts::whole_front))]
+    pub fn cut(&mut self) -> Option<Piece>
+        ensures piece { IfSome result (λ piece. IsCutOff piece self.old self.new) }
+        ensures shorter { OnSome result (length self.new < length self.old) }
+        ensures waits { result ≡ None → self.new ≡ self.old }
+        ensures room { result ≡ None → length self.old < 255 }
+    {
+        let need = needed(&self.window)?;
+        if self.window.len() < need {
+            return None;
+        }
+        match spelled(&mut self.receiver, &self.window[..need]) {
+            Some(telegram) => {
+                self.drop_front(need);
+                Some(Piece::Whole(telegram))
+            }
+            None => match self.skip() {
+                Some(octet) => Some(Piece::Skipped(octet)),
+                None => None,
+            },
+        }
+    }
+
+    /// Cuts off the first octet, at the end of the stream: the telegram that may begin at it is not whole.
+    pub fn skip(&mut self) -> Option<u8>
+        ensures octet { IfSome result (λ octet. self.old ≡ octet ∷ self.new) }
+        ensures none { result ≡ None → self.old ≡ [] }
+        ensures same { result ≡ None → self.new ≡ [] }
+    {
+        let octet = self.window.first().copied()?;
+        self.drop_front(1);
+        Some(octet)
+    }
+
+    /// Removes so many octets from the front.
+    fn drop_front(&mut self, count: usize)
+        requires { count ≤ length self.old }
+        ensures { self.new ≡ drop count self.old }
+    {
+        if self.window.len() == count {
+            self.window.clear();
+            return;
+        }
+        let rest = copy_octets(&self.window[count..]);
+        self.window = rest;
+    }
+}
+
+/// How many octets the telegram has that begins with these; 1 if none begins with the first. Of a telegram with data of
+/// variable length the second octet tells. `None` if too few have come.
+fn needed(octets: &[u8]) -> Option<usize>
+    ensures value { result ≡ needs octets.now }
+    ensures some { IfSome result (λ need. 0 < need) }
+    ensures few { IfSome result (λ need. need ≤ 255) }
+    ensures none { result ≡ None → length octets.now < 2 }
+{
+    match octets {
+        [] => None,
+        [VAR_START] => None,
+        [VAR_START, count, ..] => Some(needed_of_data(*count)),
+        [first, ..] => Some(needed_by(*first)),
+    }
+}
+
+/// How many octets a telegram with data of variable length has, by its length octet; 1 if there is none.
+fn needed_of_data(count: u8) -> usize
+    ensures value { result ≡ need_of_data count }
+    ensures some { 0 < result }
+    ensures few { result ≤ 255 }
+{
+    if count < 4 || count > 249 {
+        return 1;
+    }
+    usize::from(count) + 6
+}
+
+/// How many octets a telegram of fixed length has, by its first octet; 1 if there is none.
+fn needed_by(first: u8) -> usize
+    ensures value { result ≡ need_by first }
+    ensures some { 0 < result }
+    ensures few { result ≤ 255 }
+{
+    match first {
+        SHORT_START => 6,
+        FIXED_START => 14,
+        TOKEN_START => 3,
+        _ => 1,
+    }
+}
+
+/// The telegram that octets spell.
+fn spelled(receiver: &mut Receiver, octets: &[u8]) -> Option<Telegram>
+    ensures whole { IfSome result (λ t. octets.now ≡ spelling t) }
+    ensures none { result ≡ None → (t : Telegram) → octets.now ≡ spelling t → ⊥ }
+{
+    receiver.restart();
+    for octet in octets {
+        receiver.feed(RxChar::Good(*octet));
+    }
+    told(receiver)
+}
+
+/// The telegram of the octets that a receiver was fed.
+fn told(receiver: &Receiver) -> Option<Telegram>
+    ensures whole { (octets : List ℕ) → StandsFor receiver.now (map Good octets)
+        → IfSome result (λ t. octets ≡ spelling t) }
+    ensures none { (octets : List ℕ) → StandsFor receiver.now (map Good octets) → result ≡ None
+        → (t : Telegram) → octets ≡ spelling t → ⊥ }
+{
+    match receiver.answer() {
+        Ok(telegram) => Some(telegram),
+        Err(_) => None,
+    }
+}

@@ -1,0 +1,351 @@
+//! A monitor: from the bytes of a capture to lines of text, as they come.
+
+ghost use Rattle.std.specs.Prelude.{◌≡◌};
+
+use crate::buffers::LineBuffer;
+use crate::bursts::Burst;
+use crate::cutting::Cutter;
+use crate::formats::{Form, Options};
+use crate::judges::Judge;
+use crate::lines::{Line, LineFault, Told, When, read_line, tell};
+use crate::meanings::{Meaning, meaning_in};
+use crate::orders::{Order, Wrong};
+use crate::pcap::Packets;
+use crate::reports::{
+    Raised, is_hint, push_alarm, push_content, push_holder, push_refused, push_untimed_alarm,
+};
+use crate::statistics::Statistics;
+use crate::summaries::{push_summary, push_text};
+use crate::texts::push_number;
+use bstr::ByteSlice;
+use pb_telegram::Receiver;
+use pb_timers::{BusParams, CHARACTER_BITS};
+use std::alloc::{AllocError, Global};
+
+/// Reads a capture as it comes, in constant memory: answers each burst with a line, judges it, and keeps statistics.
+///
+/// After input that is refused, a moment that falls, or a gap, the judge begins anew, as one that has just begun to listen.
+#[derive(Drop)]
+pub struct Monitor {
+    pub(crate) params: Option<BusParams>,
+    pub(crate) options: Options,
+    pub(crate) judge: Option<Judge>,
+    pub(crate) order: Order,
+    pub(crate) statistics: Statistics,
+    pub(crate) receiver: Receiver,
+    pub(crate) lines: LineBuffer,
+    pub(crate) cutter: Cutter,
+    pub(crate) packets: Packets,
+    /// How many lines, octets or packets came before.
+    pub(crate) place: u64,
+    /// How many octets were skipped in a row.
+    pub(crate) skipped: u64,
+    /// When the first packet came, in bit times since the file's epoch.
+    pub(crate) origin: Option<u128>,
+    /// The end of the last burst with moments, if nothing was missed since.
+    pub(crate) quiet: Option<u64>,
+    /// When the next summary is due.
+    pub(crate) due: Option<u64>,
+}
+
+impl Monitor {
+    /// A monitor of a bus with these parameters. Without parameters it decodes and counts, and judges nothing.
+    ///
+    /// Fault: memory was refused.
+    pub fn new(
+        alloc: Global,
+        params: Option<BusParams>,
+        options: Options,
+    ) -> Result<Monitor, AllocError> {
+        let statistics = Statistics::new(alloc, params.as_ref(), options.slack)?;
+        Ok(Monitor {
+            params,
+            options,
+            judge: None,
+            order: Order::new(),
+            statistics,
+            receiver: Receiver::new(),
+            lines: LineBuffer::new(alloc),
+            cutter: Cutter::new(),
+            packets: Packets::new(),
+            place: 0,
+            skipped: 0,
+            origin: None,
+            quiet: None,
+            due: None,
+        })
+    }
+
+    /// Reads the next bytes of the capture, and appends the lines for what they complete.
+    ///
+    /// Fault: memory was refused.
+    pub fn feed(&mut self, bytes: &[u8], text: &mut Vec<u8>) -> Result<(), AllocError> {
+        match self.options.form {
+            Form::Lines => self.feed_lines(bytes, text),
+            Form::Raw => self.feed_octets(bytes, text),
+            Form::Pcap => self.feed_packets(bytes, text),
+        }
+    }
+
+    /// The capture ends: appends the lines for what is left of it, and the summary.
+    ///
+    /// Fault: memory was refused.
+    pub fn finish(&mut self, text: &mut Vec<u8>) -> Result<(), AllocError> {
+        match self.options.form {
+            Form::Lines => if !self.lines.is_empty() {
+                self.end_line(text)?;
+            },
+            Form::Raw => self.end_octets(text)?,
+            Form::Pcap => if let Some(item) = self.packets.end() {
+                self.hear_item(item, text)?;
+            },
+        }
+        self.statistics.close();
+        push_summary(text, &self.statistics, self.options.summary)
+    }
+
+    /// What is known of the bus.
+    pub fn statistics(&self) -> &Statistics {
+        &self.statistics
+    }
+
+    /// Whether input was refused or an alarm raised. A hint is no alarm.
+    pub fn is_refused(&self) -> bool {
+        let traffic = self.statistics.traffic();
+        traffic.refused > 0 || traffic.alarms > 0
+    }
+
+    // ---- lines
+
+    fn feed_lines(&mut self, bytes: &[u8], text: &mut Vec<u8>) -> Result<(), AllocError> {
+        for piece in bytes.lines_with_terminator() {
+            match piece.strip_suffix(b"\n") {
+                Some(line) if self.lines.is_empty() => self.hear_line(line, text)?,
+                Some(line) => {
+                    self.lines.keep(line)?;
+                    self.end_line(text)?;
+                }
+                None => self.lines.keep(piece)?,
+            }
+        }
+        Ok(())
+    }
+
+    /// The line that came in pieces ends.
+    fn end_line(&mut self, text: &mut Vec<u8>) -> Result<(), AllocError> {
+        self.place = self.place.saturating_add(1);
+        let read = match self.lines.line() {
+            Some(line) => read_line(line, &mut self.receiver),
+            None => Line::Refused(LineFault::TooLong),
+        };
+        let told = tell(read, self.place, text)?;
+        self.lines.restart();
+        self.hear_told(told, text)
+    }
+
+    fn hear_line(&mut self, line: &[u8], text: &mut Vec<u8>) -> Result<(), AllocError> {
+        self.place = self.place.saturating_add(1);
+        let told = tell(read_line(line, &mut self.receiver), self.place, text)?;
+        self.hear_told(told, text)
+    }
+
+    fn hear_told(&mut self, told: Told, text: &mut Vec<u8>) -> Result<(), AllocError> {
+        match told {
+            Told::Nothing => Ok(()),
+            Told::Gap => {
+                self.begin_anew();
+                Ok(())
+            }
+            Told::Refused => {
+                self.refuse();
+                Ok(())
+            }
+            Told::Burst(when) => self.hear_when(when, text),
+        }
+    }
+
+    /// The receiver has the characters of a burst.
+    fn hear_when(&mut self, when: When, text: &mut Vec<u8>) -> Result<(), AllocError> {
+        match when {
+            When::Within { begin, end } => self.hear_timed(begin, end, text),
+            When::From(begin) => {
+                let end = begin.saturating_add(self.receiver_bits());
+                self.hear_timed(begin, end, text)
+            }
+            When::Unknown => self.hear_untimed(text),
+        }
+    }
+
+    /// How long the characters of the receiver take, in bit times.
+    pub(crate) fn receiver_bits(&self) -> u64 {
+        CHARACTER_BITS.saturating_mul(self.receiver.fed())
+    }
+
+    // ---- bursts
+
+    /// Something was missed.
+    pub(crate) fn begin_anew(&mut self)
+        ensures { self.new.cutter ≡ self.old.cutter }
+    {
+        self.judge = None;
+        self.order = Order::new();
+        self.quiet = None;
+        self.statistics.forget();
+    }
+
+    /// Some input was refused.
+    pub(crate) fn refuse(&mut self)
+        ensures { self.new.cutter ≡ self.old.cutter }
+    {
+        self.begin_anew();
+        self.statistics.refuse();
+    }
+
+    /// A burst with moments. One that begins before the end of the last one is told, and heard as the first of all.
+    pub(crate) fn hear_timed(
+        &mut self,
+        begin: u64,
+        end: u64,
+        text: &mut Vec<u8>,
+    ) -> Result<(), AllocError> {
+        if let Some(quiet) = self.quiet
+            && begin.saturating_add(u64::from(self.options.slack)) < quiet
+        {
+            self.push_place(text)?;
+            text.extend_from_slice(b"the burst begins at ")?;
+            push_number(text, begin)?;
+            text.extend_from_slice(b", before the last one ends at ")?;
+            push_number(text, quiet)?;
+            text.extend_from_slice(b"; wanted: bursts in order\n")?;
+            self.refuse();
+        }
+        self.quiet = Some(end);
+        let burst = Burst {
+            begin,
+            end,
+            telegram: self.receiver.answer(),
+        };
+        self.statistics.hear(&burst);
+        let raised = self.judge(&burst);
+        self.push_burst(burst, text)?;
+        if let Some(raised) = raised {
+            self.tell_alarm(&raised, begin, text)?;
+        }
+        self.summarize(end, text)
+    }
+
+    /// The alarm that a burst raises. The judge listens since the first burst that it hears.
+    fn judge(&mut self, burst: &Burst) -> Option<Raised> {
+        if self.judge.is_none()
+            && let Some(params) = &self.params
+        {
+            let Options { classes, slack, .. } = self.options;
+            self.judge = Some(Judge::new(params, slack, classes, burst.begin));
+        }
+        let judge = self.judge.as_mut()?;
+        let before = judge.state();
+        let alarm = judge.hear(burst)?;
+        match meaning_in(&burst.telegram) {
+            Meaning::Initiator(telegram) => Some(Raised {
+                alarm,
+                telegram,
+                before,
+            }),
+            Meaning::Reply | Meaning::NoTelegram => None,
+        }
+    }
+
+    /// Appends the line of a burst, unless a summary alone is wanted.
+    fn push_burst(&self, burst: Burst, text: &mut Vec<u8>) -> Result<(), AllocError> {
+        if self.options.summary.is_some() {
+            return Ok(());
+        }
+        let Burst {
+            begin,
+            end,
+            telegram,
+        } = burst;
+        push_number(text, begin)?;
+        text.extend_from_slice(b" ")?;
+        push_number(text, end)?;
+        text.extend_from_slice(b" ")?;
+        push_content(text, telegram)?;
+        if let Some(judge) = &self.judge {
+            push_holder(text, judge.holder(end))?;
+        }
+        text.extend_from_slice(b"\n")
+    }
+
+    /// Counts an alarm and appends its line.
+    fn tell_alarm(
+        &mut self,
+        raised: &Raised,
+        begin: u64,
+        text: &mut Vec<u8>,
+    ) -> Result<(), AllocError> {
+        self.statistics.raise(is_hint(raised.alarm));
+        match &self.params {
+            Some(params) => push_alarm(text, params, self.options.slack, raised, begin),
+            None => Ok(()),
+        }
+    }
+
+    /// Appends a summary if one is due.
+    fn summarize(&mut self, moment: u64, text: &mut Vec<u8>) -> Result<(), AllocError> {
+        let Some(every) = self.options.every else {
+            return Ok(());
+        };
+        let due = self.due.unwrap_or(moment.saturating_add(every));
+        self.due = Some(due);
+        if moment < due {
+            return Ok(());
+        }
+        self.due = Some(moment.saturating_add(every));
+        push_text(text, &self.statistics)
+    }
+
+    /// A burst without moments: it is judged by the order of telegrams alone.
+    pub(crate) fn hear_untimed(&mut self, text: &mut Vec<u8>) -> Result<(), AllocError> {
+        self.quiet = None;
+        self.judge = None;
+        let burst = Burst {
+            begin: 0,
+            end: 0,
+            telegram: self.receiver.answer(),
+        };
+        let meaning = meaning_in(&burst.telegram);
+        self.statistics.hear_untimed(&burst);
+        self.push_untimed(burst, text)?;
+        let last = self.order.last();
+        let raised = self.order.hear(meaning);
+        if self.params.is_none() || !self.options.classes.legality {
+            return Ok(());
+        }
+        match raised {
+            Some(Wrong { alarm, source }) => {
+                self.statistics.raise(false);
+                push_untimed_alarm(text, alarm, last, source)
+            }
+            None => Ok(()),
+        }
+    }
+
+    /// Appends the line of a burst without moments, unless a summary alone is wanted.
+    fn push_untimed(&self, burst: Burst, text: &mut Vec<u8>) -> Result<(), AllocError> {
+        if self.options.summary.is_some() {
+            return Ok(());
+        }
+        let Burst { telegram, .. } = burst;
+        push_content(text, telegram)?;
+        text.extend_from_slice(b"\n")
+    }
+
+    /// Appends the begin of a line for input that is refused.
+    pub(crate) fn push_place(&self, text: &mut Vec<u8>) -> Result<(), AllocError> {
+        match self.options.form {
+            Form::Lines => push_refused(text, b"line", self.place),
+            Form::Raw => push_refused(text, b"offset", self.place),
+            Form::Pcap => push_refused(text, b"packet", self.place),
+        }
+    }
+}

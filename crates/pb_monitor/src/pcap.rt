@@ -1,0 +1,391 @@
+//! Reads files of packets, pcap and pcapng, as they come: the octets of a packet are fed to a receiver one at a time.
+
+use arrayvec::ArrayVec;
+use pb_telegram::{Receiver, RxChar};
+
+/// The link type of PROFIBUS telegrams.
+const PROFIBUS: u32 = 257;
+
+/// The first link type for private use.
+const PRIVATE: u32 = 147;
+
+/// How many interfaces a section of pcapng may have here. Packets of others are refused.
+const MOST_INTERFACES: usize = 16;
+
+/// The longest head that is looked at whole, in octets.
+const LONGEST_HEAD: usize = 24;
+
+/// How many parts of a second a timestamp counts: microseconds, unless the file says otherwise.
+pub(crate) const MICROS: u64 = 1_000_000;
+
+const NANOS: u64 = 1_000_000_000;
+
+/// What has been read of a file of packets.
+#[derive(Debug, PartialEq, Eq, Drop)]
+pub(crate) enum Item {
+    /// A packet ended, whose octets the receiver was fed, with its time, if the file gives one.
+    Packet(Option<Stamp>),
+    /// Something is refused, from an offset on.
+    Refused(u64, PcapFault),
+}
+
+/// The time of a packet.
+#[derive(Clone, Copy, Debug, PartialEq, Eq)]
+pub(crate) struct Stamp {
+    /// How many parts of a second since the file's epoch.
+    pub(crate) ticks: u64,
+    /// How many parts a second has; not 0.
+    pub(crate) per_second: u64,
+}
+
+/// Why a file of packets, or a part of it, is refused.
+#[derive(Clone, Copy, Debug, PartialEq, Eq)]
+pub(crate) enum PcapFault {
+    /// It begins as neither pcap nor pcapng.
+    NoMagic,
+    /// Its packets are of another link type.
+    LinkType(u32),
+    /// A packet of an interface of another link type, or of one that the section doesn't describe.
+    OtherInterface,
+    /// A block is shorter than its head, or has a length that is no multiple of four. Nothing more can be read.
+    BadBlock,
+    /// The file ends within a packet or a head.
+    Cut,
+}
+
+impl PcapFault {
+    /// What is wrong, and what is wanted.
+    pub(crate) fn words(&self) -> &'static str {
+        match self {
+            PcapFault::NoMagic => "this is no file of packets; wanted: pcap or pcapng",
+            PcapFault::LinkType(_) => {
+                "the packets are of another link type; wanted: 257 (PROFIBUS) or 147"
+            }
+            PcapFault::OtherInterface => {
+                "the packet is of an interface of another link type; wanted: 257 (PROFIBUS) or 147"
+            }
+            PcapFault::BadBlock => "a block has a bad length; nothing behind it can be read",
+            PcapFault::Cut => "the file ends within a packet or a head",
+        }
+    }
+}
+
+/// An interface of a section of pcapng.
+#[derive(Clone, Copy, Debug, Default)]
+pub(crate) struct Interface {
+    pub(crate) is_profibus: bool,
+    pub(crate) per_second: u64,
+}
+
+/// What the next octets are.
+#[derive(Clone, Copy, Debug, PartialEq, Eq)]
+pub(crate) enum Part {
+    /// The first four octets of the file.
+    Magic,
+    /// The rest of the head of a pcap file.
+    FileHead,
+    /// The head of a packet of a pcap file.
+    PacketHead,
+    /// The octets of a packet.
+    Packet,
+    /// The octets of a packet that is refused.
+    OtherPacket,
+    /// The type of a block of pcapng.
+    BlockType,
+    /// The length of a block of pcapng.
+    BlockLength,
+    /// The length of a section's head, and the mark of its byte order.
+    SectionMark,
+    /// The head of a description of an interface.
+    InterfaceHead,
+    /// The head of an option of an interface.
+    OptionHead,
+    /// The value of an option that is skipped.
+    OptionValue,
+    /// The value of the option that says what a timestamp counts.
+    Resolution,
+    /// The head of an enhanced packet.
+    EnhancedHead,
+    /// The head of a simple packet.
+    SimpleHead,
+    /// The rest of a block.
+    Rest,
+    /// What can't be read.
+    Nothing,
+}
+
+/// Reads a file of packets, a piece at a time, in constant memory.
+#[derive(Drop)]
+pub(crate) struct Packets {
+    pub(crate) part: Part,
+    /// The octets of the head that is being read.
+    pub(crate) head: ArrayVec<u8, LONGEST_HEAD>,
+    /// How many octets of a packet, or of octets that are skipped, are to come.
+    pub(crate) left: u64,
+    /// How many octets of the block are to come behind this part.
+    pub(crate) rest: u64,
+    /// The type of the block of pcapng.
+    pub(crate) block: u32,
+    pub(crate) is_big: bool,
+    /// Whether it is pcap, and no pcapng.
+    pub(crate) is_plain: bool,
+    pub(crate) per_second: u64,
+    pub(crate) stamp: Option<Stamp>,
+    pub(crate) interfaces: ArrayVec<Interface, MOST_INTERFACES>,
+    pub(crate) offset: u64,
+    /// The offset of the packet or head that is being read.
+    pub(crate) start: u64,
+}
+
+impl Packets {
+    /// Nothing is read yet.
+    pub(crate) fn new() -> Packets {
+        Packets {
+            part: Part::Magic,
+            head: ArrayVec::new(),
+            left: 0,
+            rest: 0,
+            block: 0,
+            is_big: false,
+            is_plain: false,
+            per_second: MICROS,
+            stamp: None,
+            interfaces: ArrayVec::new(),
+            offset: 0,
+            start: 0,
+        }
+    }
+
+    /// Reads the next octet. If it ends a packet, the receiver has been fed that packet's octets alone.
+    pub(crate) fn read(&mut self, octet: u8, receiver: &mut Receiver) -> Option<Item> {
+        self.offset = self.offset.saturating_add(1);
+        match self.part {
+            Part::Packet => {
+                if receiver.fed() < u64::from(u32::MAX) {
+                    receiver.feed(RxChar::Good(octet));
+                }
+                self.pass_one()
+            }
+            Part::OtherPacket | Part::OptionValue | Part::Rest => self.pass_one(),
+            Part::Nothing => None,
+            _ => {
+                if self.head.try_push(octet).is_err() || self.head.len() < self.wanted() {
+                    return None;
+                }
+                let item = self.end_head(receiver);
+                self.head.clear();
+                item
+            }
+        }
+    }
+
+    /// The file ends.
+    pub(crate) fn end(&self) -> Option<Item> {
+        let is_between = match self.part {
+            Part::PacketHead | Part::BlockType => self.head.is_empty(),
+            Part::Nothing => true,
+            _ => false,
+        };
+        if is_between {
+            return None;
+        }
+        Some(Item::Refused(self.start, PcapFault::Cut))
+    }
+
+    /// How many octets the head has that is being read.
+    fn wanted(&self) -> usize {
+        match self.part {
+            Part::FileHead | Part::EnhancedHead => 20,
+            Part::PacketHead => 16,
+            Part::SectionMark | Part::InterfaceHead => 8,
+            Part::Resolution => 1,
+            _ => 4,
+        }
+    }
+
+    /// One octet of a packet, or of what is skipped, has come.
+    fn pass_one(&mut self) -> Option<Item> {
+        self.left = self.left.saturating_sub(1);
+        if self.left > 0 {
+            return None;
+        }
+        match self.part {
+            Part::Packet => {
+                self.skip_rest();
+                Some(Item::Packet(self.stamp))
+            }
+            Part::OtherPacket => {
+                self.skip_rest();
+                Some(Item::Refused(self.start, PcapFault::OtherInterface))
+            }
+            Part::OptionValue => {
+                self.next_option();
+                None
+            }
+            _ => {
+                self.next_block();
+                None
+            }
+        }
+    }
+
+    /// The next block, or the next packet of pcap, comes.
+    pub(crate) fn next_block(&mut self) {
+        self.start = self.offset;
+        self.part = if self.is_plain {
+            Part::PacketHead
+        } else {
+            Part::BlockType
+        };
+    }
+
+    /// What is left of the block is skipped.
+    pub(crate) fn skip_rest(&mut self) {
+        self.left = self.rest;
+        self.rest = 0;
+        if self.left == 0 {
+            self.next_block();
+        } else {
+            self.part = Part::Rest;
+        }
+    }
+
+    /// A head of the block ends, of which so many octets were left: what comes next is a part of the block.
+    pub(crate) fn take(&mut self, octets: u64, part: Part) -> Option<Item> {
+        if self.rest < octets {
+            return self.give_up(PcapFault::BadBlock);
+        }
+        self.rest -= octets;
+        self.part = part;
+        None
+    }
+
+    /// Nothing more can be read.
+    pub(crate) fn give_up(&mut self, fault: PcapFault) -> Option<Item> {
+        self.part = Part::Nothing;
+        Some(Item::Refused(self.start, fault))
+    }
+
+    /// The number of four octets of the head, from an index on.
+    pub(crate) fn long(&self, place: usize) -> u32 {
+        let octets = [
+            octet_at(&self.head, place, 0),
+            octet_at(&self.head, place, 1),
+            octet_at(&self.head, place, 2),
+            octet_at(&self.head, place, 3),
+        ];
+        if self.is_big {
+            u32::from_be_bytes(octets)
+        } else {
+            u32::from_le_bytes(octets)
+        }
+    }
+
+    /// The number of two octets of the head, from an index on.
+    pub(crate) fn short(&self, place: usize) -> u16 {
+        let octets = [
+            octet_at(&self.head, place, 0),
+            octet_at(&self.head, place, 1),
+        ];
+        if self.is_big {
+            u16::from_be_bytes(octets)
+        } else {
+            u16::from_le_bytes(octets)
+        }
+    }
+
+    /// A head is whole.
+    fn end_head(&mut self, receiver: &mut Receiver) -> Option<Item> {
+        match self.part {
+            Part::Magic => self.end_magic(),
+            Part::FileHead => self.end_file_head(),
+            Part::PacketHead => self.end_packet_head(receiver),
+            Part::BlockType => self.end_block_type(),
+            Part::BlockLength => self.end_block_length(),
+            Part::SectionMark => self.end_section_mark(),
+            Part::InterfaceHead => self.end_interface_head(),
+            Part::OptionHead => self.end_option_head(),
+            Part::Resolution => self.end_resolution(),
+            Part::EnhancedHead => self.end_enhanced_head(receiver),
+            Part::SimpleHead => self.end_simple_head(receiver),
+            Part::Packet | Part::OtherPacket | Part::OptionValue | Part::Rest | Part::Nothing =>
+                None,
+        }
+    }
+
+    /// The first four octets tell the format, and of pcap the byte order and what a timestamp counts.
+    fn end_magic(&mut self) -> Option<Item> {
+        self.is_plain = true;
+        self.part = Part::FileHead;
+        match self.head.as_slice() {
+            [0xd4, 0xc3, 0xb2, 0xa1] => {}
+            [0xa1, 0xb2, 0xc3, 0xd4] => self.is_big = true,
+            [0x4d, 0x3c, 0xb2, 0xa1] => self.per_second = NANOS,
+            [0xa1, 0xb2, 0x3c, 0x4d] => {
+                self.is_big = true;
+                self.per_second = NANOS;
+            }
+            [0x0a, 0x0d, 0x0d, 0x0a] => {
+                self.is_plain = false;
+                self.part = Part::SectionMark;
+                self.rest = 0;
+            }
+            _ => return self.give_up(PcapFault::NoMagic),
+        }
+        None
+    }
+
+    /// The link type of a pcap file. Its upper bits say something else.
+    fn end_file_head(&mut self) -> Option<Item> {
+        let link = self.long(16) & 0xffff;
+        if !is_profibus(link) {
+            return self.give_up(PcapFault::LinkType(link));
+        }
+        self.next_block();
+        None
+    }
+
+    /// A packet of a pcap file comes.
+    fn end_packet_head(&mut self, receiver: &mut Receiver) -> Option<Item> {
+        let (seconds, parts) = (u64::from(self.long(0)), u64::from(self.long(4)));
+        self.stamp = Some(Stamp {
+            ticks: seconds
+                .saturating_mul(self.per_second)
+                .saturating_add(parts),
+            per_second: self.per_second,
+        });
+        let octets = u64::from(self.long(8));
+        self.begin_packet(octets, true, receiver)
+    }
+
+    /// The octets of a packet come.
+    pub(crate) fn begin_packet(
+        &mut self,
+        octets: u64,
+        is_wanted: bool,
+        receiver: &mut Receiver,
+    ) -> Option<Item> {
+        receiver.restart();
+        self.left = octets;
+        self.part = if is_wanted {
+            Part::Packet
+        } else {
+            Part::OtherPacket
+        };
+        if octets > 0 {
+            return None;
+        }
+        self.left = 1;
+        self.pass_one()
+    }
+}
+
+/// The octet of a head at an index and a distance behind it.
+fn octet_at(head: &[u8], place: usize, at: usize) -> u8 {
+    head.get(place.saturating_add(at)).copied().unwrap_or(0)
+}
+
+/// Whether packets of a link type are telegrams.
+pub(crate) fn is_profibus(link: u32) -> bool {
+    link == PROFIBUS || link == PRIVATE
+}

@@ -1,0 +1,88 @@
+//! What is counted for the bus.
+
+use crate::bursts::Burst;
+use crate::stations::one_more;
+
+/// What is counted for the bus. Counts saturate at 2^64 - 1; moments and durations are in bit times.
+#[derive(Clone, Copy, Debug, Default, PartialEq, Eq)]
+pub struct Traffic {
+    /// The begin of the first burst with a moment.
+    pub first: Option<u64>,
+    /// The end of the last burst with a moment.
+    pub last: Option<u64>,
+    /// How long there was a burst, in sum.
+    pub busy: u64,
+    /// How many bursts there were.
+    pub bursts: u64,
+    /// How many of them spelled no telegram, by place.
+    pub damaged: Damaged,
+    /// The longest silence between two bursts.
+    pub longest_silence: u64,
+    /// How many alarms were raised, and how many hints were given.
+    pub alarms: u64,
+    /// How many hints were given.
+    pub hints: u64,
+    /// How many lines, packets or runs of octets were refused.
+    pub refused: u64,
+}
+
+/// How many bursts spelled no telegram, by the place in which they came.
+#[derive(Clone, Copy, Debug, Default, PartialEq, Eq)]
+pub struct Damaged {
+    /// After a silence that no token in use leaves: probably claims that collided.
+    pub after_loss: u64,
+    /// In the slot of a token.
+    pub taking: u64,
+    /// Where a reply was due.
+    pub replying: u64,
+    /// Anywhere else.
+    pub other: u64,
+}
+
+impl Damaged {
+    /// How many there are in all places.
+    pub fn total(&self) -> u64 {
+        self.after_loss
+            .saturating_add(self.taking)
+            .saturating_add(self.replying)
+            .saturating_add(self.other)
+    }
+}
+
+impl Traffic {
+    /// Counts a burst. `before` is the end of the one before it, if nothing was missed between them.
+    pub(crate) fn note(&mut self, burst: &Burst, before: Option<u64>) {
+        self.count();
+        self.busy = self
+            .busy
+            .saturating_add(burst.end.saturating_sub(burst.begin));
+        if self.first.is_none() {
+            self.first = Some(burst.begin);
+        }
+        self.last = Some(burst.end);
+        if let Some(end) = before {
+            let silence = burst.begin.saturating_sub(end);
+            self.longest_silence = self.longest_silence.max(silence);
+        }
+    }
+
+    /// Counts a burst without moments.
+    pub(crate) fn count(&mut self) {
+        self.bursts = one_more(self.bursts);
+    }
+
+    /// The load of the bus in tenths of a percent, 0 to 1000, from the first burst to the end of the last.
+    pub fn load(&self) -> u64 {
+        let Some(first) = self.first else {
+            return 0;
+        };
+        let Some(last) = self.last else {
+            return 0;
+        };
+        let span = u128::from(last.saturating_sub(first));
+        if span == 0 {
+            return 0;
+        }
+        (u128::from(self.busy) * 1000 / span).min(1000) as u64
+    }
+}

@@ -1,0 +1,132 @@
+//! What a telegram says, in words.
+
+use crate::texts::push_number;
+use pb_cycles::{Asked, Service};
+use pb_telegram::{Fc, Telegram};
+use std::alloc::AllocError;
+
+/// What a telegram says, as far as it is put into words.
+#[derive(Clone, Copy, Debug, PartialEq, Eq)]
+pub enum Words {
+    /// It passes the token to another address.
+    TokenTo(u8),
+    /// It passes the token to its source.
+    TokenToItself,
+    /// It asks for something.
+    Request(Fc),
+    /// It answers, without data or with some.
+    Reply(Fc, bool),
+    /// It is the short acknowledgement.
+    Acknowledgement,
+}
+
+impl Words {
+    /// What a telegram says.
+    pub fn of(telegram: &Telegram) -> Words {
+        if let Some(head) = telegram.head() {
+            let fc = Fc(head.fc);
+            if fc.is_request() {
+                return Words::Request(fc);
+            }
+            return Words::Reply(fc, telegram.unit().is_empty());
+        }
+        match telegram {
+            Telegram::Token(token) if token.da == token.sa => Words::TokenToItself,
+            Telegram::Token(token) => Words::TokenTo(token.da),
+            _ => Words::Acknowledgement,
+        }
+    }
+
+    /// Appends the words: `token to 2`, `FDL status request`, `SRD high, FCB 1`, `reply: data low`.
+    ///
+    /// Fault: memory was refused.
+    pub fn push(&self, text: &mut Vec<u8>) -> Result<(), AllocError> {
+        match self {
+            Words::TokenTo(address) => {
+                text.extend_from_slice(b"token to ")?;
+                push_number(text, *address)
+            }
+            Words::TokenToItself => text.extend_from_slice(b"token to itself"),
+            Words::Request(fc) => push_request(text, *fc),
+            Words::Reply(fc, is_empty) => push_reply(text, *fc, *is_empty),
+            Words::Acknowledgement => text.extend_from_slice(b"short acknowledgement"),
+        }
+    }
+}
+
+/// Appends the service of a request, and its frame count bit.
+fn push_request(text: &mut Vec<u8>, fc: Fc) -> Result<(), AllocError> {
+    match Asked::by(fc.code()) {
+        Asked::Send(service, high) => {
+            text.extend_from_slice(service_name(service).as_bytes())?;
+            text.extend_from_slice(if high { " high" } else { " low" }.as_bytes())?;
+        }
+        Asked::Status => text.extend_from_slice(b"FDL status request")?,
+        Asked::Unknown => {
+            text.extend_from_slice(b"request with function code ")?;
+            push_number(text, fc.code())?;
+        }
+    }
+    text.extend_from_slice(count_words(fc).as_bytes())
+}
+
+/// The name of a service.
+fn service_name(service: Service) -> &'static str {
+    match service {
+        Service::Sda => "SDA",
+        Service::Sdn => "SDN",
+        Service::Srd => "SRD",
+    }
+}
+
+/// The frame count bit of a request. One that is set but not valid begins the count.
+fn count_words(fc: Fc) -> &'static str {
+    if fc.fcv() {
+        if fc.fcb() { ", FCB 1" } else { ", FCB 0" }
+    } else if fc.fcb() {
+        ", first FCB"
+    } else {
+        ""
+    }
+}
+
+/// Appends what a reply says: its function code, and the station type where it has no data.
+fn push_reply(text: &mut Vec<u8>, fc: Fc, is_empty: bool) -> Result<(), AllocError> {
+    match reply_name(fc.code()) {
+        Some(name) => text.extend_from_slice(name.as_bytes())?,
+        None => {
+            text.extend_from_slice(b"reply: function code ")?;
+            push_number(text, fc.code())?;
+        }
+    }
+    if is_empty && fc.code() == 0 {
+        text.extend_from_slice(type_words(fc.station_type()).as_bytes())?;
+    }
+    Ok(())
+}
+
+/// What the function code of a reply means.
+fn reply_name(code: u8) -> Option<&'static str> {
+    match code {
+        0 => Some("reply: OK"),
+        1 => Some("reply: user error"),
+        2 => Some("reply: no resource"),
+        3 => Some("reply: no such service"),
+        8 => Some("reply: data low"),
+        9 => Some("reply: no data"),
+        10 => Some("reply: data high"),
+        12 => Some("reply: data low, no resource"),
+        13 => Some("reply: data high, no resource"),
+        _ => None,
+    }
+}
+
+/// The station type of a reply, 0 to 3.
+fn type_words(station_type: u8) -> &'static str {
+    match station_type {
+        0 => ", passive",
+        1 => ", master not ready",
+        2 => ", master ready",
+        _ => ", master in ring",
+    }
+}
