@@ -41,6 +41,8 @@ def request_in(characters):
     if DAMAGED in characters or characters[:1] not in ([0x10], [0x68], [0xA2]):
         return None
     head = {0x10: 1, 0x68: 4, 0xA2: 1}[characters[0]]
+    if len(characters) < head + 5:
+        return None
     da, sa, fc, *unit = characters[head:-2]
     return (sa % 128, *REQUESTS[fc % 16], bytes(unit)) if fc & 0x40 and fc % 16 in REQUESTS else None
 
