@@ -27,10 +27,12 @@ impl Trace {
             self.old self.new) }
         ensures some { OnOk result ((bits == 0) ≡ false) }
         ensures room { OnOk result
-            (has_no_room (has_noise now (recent_of self.old)) (limit_of self.old) (length (entries_of self.old)) ≡ false) }
+            (has_no_room (has_noise now (recent_of self.old))
+            (limit_of self.old) (length (entries_of self.old)) ≡ false) }
         ensures err { OnErr result (StaysAs self.old self.new) }
         ensures fault { IfErr result
-            (RefusesNoise bits (has_noise now (recent_of self.old)) (limit_of self.old) (length (entries_of self.old))) }
+            (RefusesNoise bits (has_noise now (recent_of self.old))
+            (limit_of self.old) (length (entries_of self.old))) }
     {
         if bits == 0 {
             return Err(WorldFault::ZeroTime);

@@ -44,7 +44,8 @@ pub(crate) fn make_room(
 pub(crate) fn make_room_for(trace: &mut Trace, decided: &Decided<'_>) -> Result<(), WorldFault>
     ensures same { StaysAs trace.old trace.new }
     ensures ok { OnOk result (is_some decided.entry.now.speak ≡ true → HasRoom trace.new) }
-    ensures fault { IfErr result (RefusesSaid decided.entry.now.speak (limit_of trace.old) (length (entries_of trace.old))) }
+    ensures fault { IfErr result
+        (RefusesSaid decided.entry.now.speak (limit_of trace.old) (length (entries_of trace.old))) }
 {
     if decided.speak.is_some() {
         trace.make_room()?;

@@ -5,32 +5,9 @@ use pb_texts::audited;
 /// Two masters whose starts are as far apart as their time-outs differ.
 const FILE: &[u8] = b"version = 1
 until = 1100
-[bus]
-tsl = 100
-tid1 = 37
-tid2 = 60
-tsdr = 11
-lag = 0
-ttr = 10000
-gap = 10
-hsa = 5
-retries = 1
-[[tap]]
-name = \"a\"
-kind = \"master\"
-address = 1
-[[tap]]
-name = \"b\"
-kind = \"master\"
-address = 2
-[[step]]
-at = 0
-do = \"start\"
-tap = \"b\"
-[[step]]
-at = 200
-do = \"start\"
-tap = \"a\"
+bus = { tsl = 100, tid1 = 37, tid2 = 60, tsdr = 11, lag = 0, ttr = 10000, gap = 10, hsa = 5, retries = 1 }
+tap = [{ name = 'a', kind = 'master', address = 1 }, { name = 'b', kind = 'master', address = 2 }]
+step = [{ at = 0, do = 'start', tap = 'b' }, { at = 200, do = 'start', tap = 'a' }]
 ";
 
 #[test]
