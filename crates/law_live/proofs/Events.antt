@@ -55,7 +55,7 @@ reply_began to z (trace.Noise span) le h = tt
 reply_began to z (Sent r) le h = λ none. omega (arith, h, le)
 
 -- a request that has begun by a moment leaves time behind it
-request_began : (p : Params) (to q : ℕ) (e : Entry) → to ≤ q + 1 → BeganBefore to e → RequestsBy (attempt p) (limit p (q + p.ttd) true) e
+request_began : (p : Params) (to q : ℕ) (e : Entry) → to ≤ q + 1 → BeganBefore to e → RequestsBy (attempt p) (limit p (q + p.ttd) (q + p.ttd) true) e
 request_began p to q (trace.Noise span) le h = tt
 request_began p to q (Sent r) le h = λ init none. omega (arith, h, le)
 
@@ -87,9 +87,9 @@ changed_flow IsCut w xs taps s began each f = record {
       (⊎_elim (λ (a : Each (EndsBy z) w.trace). f.replies z a)
       (λ (a : w.now < z). each_map (BeganBefore (w.now + 1)) (RepliesBy (replied z)) w.trace (λ e b. reply_began (w.now + 1) (replied z) e (omega (arith, a)) b) began)
       (ends_before IsCut w.now z w.trace xs s ends));
-  requests = λ q calm. requests_after IsCut w.now (attempt p) (limit p (q + p.ttd) true) w.trace xs s
+  requests = λ q calm. requests_after IsCut w.now (attempt p) (limit p (q + p.ttd) (q + p.ttd) true) w.trace xs s
       (⊎_elim (λ (a : Each (IsCalmBy q) w.trace). f.requests q a)
-      (λ (a : w.now < q). each_map (BeganBefore (w.now + 1)) (RequestsBy (attempt p) (limit p (q + p.ttd) true)) w.trace (λ e b. request_began p (w.now + 1) q e (omega (arith, a)) b) began)
+      (λ (a : w.now < q). each_map (BeganBefore (w.now + 1)) (RequestsBy (attempt p) (limit p (q + p.ttd) (q + p.ttd) true)) w.trace (λ e b. request_began p (w.now + 1) q e (omega (arith, a)) b) began)
       (calm_before IsCut w.now q w.trace xs s calm));
   taps = each;
 }
@@ -221,7 +221,7 @@ start_kept w tap waited all next reply ok i j f = by (slice_get w.taps tap) refl
           replies = f.replies;
           requests = f.requests;
           taps = at_set (λ k u. u.running ≡ true → FlowTap w.params w.now w.trace k u) w.taps tap y
-              (λ _. record { spends = λ q calm. started-spends w.params (q + w.params.ttd) w.now t.station t.spec.master; waits = tt; prompt = λ z ends. tt })
+              (λ _. record { spends = λ q calm. started-spends w.params (q + w.params.ttd) (q + w.params.ttd) w.now t.station t.spec.master; waits = tt; prompt = λ z ends. tt })
               (λ k u ne here run. f.taps k u here run);
         })
 
@@ -249,7 +249,7 @@ tap_queue p now tr k t r f =
     let same = marks_queue (queued t.station.cycles.queue r) p t.station t.marks in
     record {
       spends = λ q calm. let o = f.spends q calm in
-          subst (λ (z : Station). Spends p (q + p.ttd) z) (sym same) (record { target = o.target; received = o.received; retries = o.retries; short = o.short; spends = o.spends });
+          subst (λ (z : Station). Spends p (q + p.ttd) (q + p.ttd) z) (sym same) (record { target = o.target; received = o.received; retries = o.retries; short = o.short; spends = o.spends });
       waits = subst (λ (z : Station). DueBy (now + p.tsdr) z) (sym same) f.waits;
       prompt = λ y ends. subst (λ (z : Station). DueBy (y + p.ttd + p.tsdr) z) (sym same) (f.prompt y ends);
     }
@@ -287,7 +287,7 @@ noise_flow w waited end false i f =
       reply_in_time = f.reply_in_time;
       short = each_with IsShort x w.trace tt f.short;
       replies = λ z ends. each_with (RepliesBy (z + p.ttd + p.tsdr + p.lag)) x w.trace tt (f.replies z (each_without (EndsBy z) x w.trace ends).1);
-      requests = λ q calm. each_with (RequestsBy (attempt p) (limit p (q + p.ttd) true)) x w.trace tt (f.requests q (each_without (IsCalmBy q) x w.trace calm).1);
+      requests = λ q calm. each_with (RequestsBy (attempt p) (limit p (q + p.ttd) (q + p.ttd) true)) x w.trace tt (f.requests q (each_without (IsCalmBy q) x w.trace calm).1);
       taps = λ k t here run. tap_kept p w.now w.trace x k t (f.taps k t here run);
     }
 

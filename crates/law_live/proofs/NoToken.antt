@@ -52,7 +52,7 @@ calm_one from to (Sent r) b n t =
 -- ---- all is over by the end of the last holder's time
 
 -- initiator telegrams are over by the end of the holder's last request
-init_one : (p : Params) (m : ℕ) (e : Entry) → IsCalmBy m e → IsShort e → RequestsBy (attempt p) (limit p (m + p.ttd) true) e → EndsBy (m + p.ttd + (p.ttr - 1) + cycle p + tries p.retries (attempt p) + longest) e
+init_one : (p : Params) (m : ℕ) (e : Entry) → IsCalmBy m e → IsShort e → RequestsBy (attempt p) (limit p (m + p.ttd) (m + p.ttd) true) e → EndsBy (m + p.ttd + (p.ttr - 1) + cycle p + tries p.retries (attempt p) + longest) e
 init_one p m (Noise span) c s r = tt
 init_one p m (Sent x) c s r = λ init. by (is_token_record x) refl init
   where
@@ -99,7 +99,7 @@ silent_then w m tap f began noise token =
     z = m + p.ttd + (p.ttr - 1) + cycle p + tries p.retries (attempt p) + longest
 
     inits : Each (EndsBy z) w.trace
-    inits = each_three (IsCalmBy m) IsShort (RequestsBy (attempt p) (limit p (m + p.ttd) true)) (EndsBy z) w.trace (λ e c s r. init_one p m e c s r) calm f.short (f.requests m calm)
+    inits = each_three (IsCalmBy m) IsShort (RequestsBy (attempt p) (limit p (m + p.ttd) (m + p.ttd) true)) (EndsBy z) w.trace (λ e c s r. init_one p m e c s r) calm f.short (f.requests m calm)
 
     over : Each (λ e. (active_at 0 tap e).end ≤ end) w.trace
     over = each_both (λ e. IsCalmBy m e × IsShort e) (λ e. EndsBy z e × RepliesBy (z + p.ttd + p.tsdr + p.lag) e) (λ e. (active_at 0 tap e).end ≤ end) w.trace (λ e a b. over_one p m tap e f.reply_in_time a.0 a.1 b.0 b.1)

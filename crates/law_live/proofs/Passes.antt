@@ -39,24 +39,31 @@ use Rattle.law_live.proofs.DueReplies.{DueBy, IfRequest, due-after_timer, due-be
 -- ---- marks
 
 -- a station that reads a Begin, an End, or both
-spends-begin : (p : Params) (d : ℕ) (s : Station) (at seen : ℕ) → Spends p d s → Spends p d (after_mark p (after_timer p at s) (Begin at seen))
-spends-begin p d s at seen o = spends-after_mark p d (after_timer p at s) (Begin at seen) tt (spends-after_timer p d at s o)
+spends-begin : (p : Params) (d : ℕ) (s : Station) (at seen : ℕ) → Spends p d d s → Spends p d d (after_mark p (after_timer p at s) (Begin at seen))
+spends-begin p d s at seen o = spends-after_mark p d d (after_timer p at s) (Begin at seen) tt (spends-after_timer p d d at s o)
 
 -- an End that comes in time keeps a station within its time, its timer before it
-spends-end : (p : Params) (d : ℕ) (s y : Station) (at seen : ℕ) (chars : List RxChar) → AwaitedBefore s y → IfToken (arrival_of chars) (at ≤ d) → (IsAwaiting s.phase → EndsInTime p d s.own.begin at) → Spends p d y
-    → Spends p d (after_mark p (after_timer p at y) (End at seen chars))
+spends-end : (p : Params) (d : ℕ) (s y : Station) (at seen : ℕ) (chars : List RxChar) → AwaitedBefore s y → IfToken (arrival_of chars) ((at ≤ d) × (d ≤ d)) → (IsAwaiting s.phase → EndsInTime p d s.own.begin at) → Spends p d d y
+    → Spends p d d (after_mark p (after_timer p at y) (End at seen chars))
 spends-end p d s y at seen chars was token time o =
     let x = after_timer p at y in
     let w = was-after_timer p at y in
-    spends-after_mark p d x (End at seen chars)
+    spends-after_mark p d d x (End at seen chars)
     (token, if_awaited x.phase (EndsInTime p d x.own.begin at) (λ a. subst (λ (b : Span). EndsInTime p d b.begin at) (sym (w.1 ∙ was.1)) (time (was.0 (w.0 a)))))
-    (spends-after_timer p d at y o)
+    (spends-after_timer p d d at y o)
+
+-- a token that ends by a moment, which is both of the moments
+by_both : (a : Arrival) (at d : ℕ) → IfToken a (at ≤ d) → IfToken a ((at ≤ d) × (d ≤ d))
+by_both (Token da sa) at d h = (h, omega arith)
+by_both (Framed f) at d h = tt
+by_both Acknowledgement at d h = tt
+by_both NoTelegram at d h = tt
 
 -- the marks of a pass
 spends-window : (c : Place) (to d : ℕ) (trace : List Entry) (s : Station) (busy : Bool) (t : Tap) (b e : Option Span) → s.busy ≡ busy → WindowOf c.now to (sensed c.p.ttd c.tap c.since trace) busy b e
     → IfToken (arrival_of (burst_characters c.p.ttd c.tap t trace to)) (to ≤ d)
-    → (((q : ℕ) → Over (later c to) trace q → to ≤ q) → IsAwaiting s.phase → EndsInTime c.p d s.own.begin to) → Spends c.p d s
-    → Spends c.p d (after_marks c.p s (begin_mark to b ++ end_mark c.p.ttd c.tap t trace to e))
+    → (((q : ℕ) → Over (later c to) trace q → to ≤ q) → IsAwaiting s.phase → EndsInTime c.p d s.own.begin to) → Spends c.p d d s
+    → Spends c.p d d (after_marks c.p s (begin_mark to b ++ end_mark c.p.ttd c.tap t trace to e))
 spends-window c to d trace s false t None None eb w token time o = o
 spends-window c to d trace s false t (Some x) None eb w token time o = spends-begin c.p d s x.begin to o
 spends-window c to d trace s false t None (Some y) eb w token time o = absurd w
@@ -64,13 +71,13 @@ spends-window c to d trace s false t (Some x) (Some y) eb w token time o =
     let u = after_mark c.p (after_timer c.p x.begin s) (Begin x.begin to) in
     let a = was-after_timer c.p x.begin s in
     let b = was-begin c.p (after_timer c.p x.begin s) x.begin to in
-    subst (λ m. Spends c.p d (after_mark c.p (after_timer c.p m u) (End m to (burst_characters c.p.ttd c.tap t trace m)))) (sym w.2)
-    (spends-end c.p d s u to to (burst_characters c.p.ttd c.tap t trace to) (λ h. a.0 (b.0 h), b.1 ∙ a.1) token (time (λ q over. w.3.1 q (over_of (later c to) trace q over))) (spends-begin c.p d s x.begin to o))
+    subst (λ m. Spends c.p d d (after_mark c.p (after_timer c.p m u) (End m to (burst_characters c.p.ttd c.tap t trace m)))) (sym w.2)
+    (spends-end c.p d s u to to (burst_characters c.p.ttd c.tap t trace to) (λ h. a.0 (b.0 h), b.1 ∙ a.1) (by_both (arrival_of (burst_characters c.p.ttd c.tap t trace to)) to d token) (time (λ q over. w.3.1 q (over_of (later c to) trace q over))) (spends-begin c.p d s x.begin to o))
 spends-window c to d trace s true t None None eb w token time o = o
 spends-window c to d trace s true t (Some x) e eb w token time o = absurd w
 spends-window c to d trace s true t None (Some y) eb w token time o =
-    subst (λ m. Spends c.p d (after_mark c.p (after_timer c.p m s) (End m to (burst_characters c.p.ttd c.tap t trace m)))) (sym w.0)
-    (spends-end c.p d s s to to (burst_characters c.p.ttd c.tap t trace to) (λ h. h, refl) token (time (λ q over. w.1.1 q (over_of (later c to) trace q over))) o)
+    subst (λ m. Spends c.p d d (after_mark c.p (after_timer c.p m s) (End m to (burst_characters c.p.ttd c.tap t trace m)))) (sym w.0)
+    (spends-end c.p d s s to to (burst_characters c.p.ttd c.tap t trace to) (λ h. h, refl) (by_both (arrival_of (burst_characters c.p.ttd c.tap t trace to)) to d token) (time (λ q over. w.1.1 q (over_of (later c to) trace q over))) o)
 
 -- and the reply that is kept
 due-window : (c : Place) (to b' : ℕ) (trace : List Entry) (s : Station) (busy : Bool) (t : Tap) (b e : Option Span) → WindowOf c.now to (sensed c.p.ttd c.tap c.since trace) busy b e
@@ -173,7 +180,7 @@ pub pass_flow : (p : Params) (now to : ℕ) (trace : List Entry) (last : Option 
     → TapHolds p now trace last k t → FlowTap p now trace k t → FlowTap p to trace k (record t { marks = t.marks ++ new_marks p.ttd k t trace now to })
 pass_flow p now to trace last k t fits lt running solid sound ordered short replies o f =
     subst (λ ms. FlowTap p to trace k (record t { marks = t.marks ++ ms })) (sym (ap (λ b. if b then ns else []) running)) (record {
-      spends = λ q calm. subst (λ z. Spends p (q + p.ttd) z) (sym (append_marks p t.station t.marks ns)) (spends q calm (f.spends q (calm_earlier now to k q trace (omega (arith, lt)) calm)));
+      spends = λ q calm. subst (λ z. Spends p (q + p.ttd) (q + p.ttd) z) (sym (append_marks p t.station t.marks ns)) (spends q calm (f.spends q (calm_earlier now to k q trace (omega (arith, lt)) calm)));
       waits = subst (λ z. DueBy (to + p.tsdr) z) (sym (append_marks p t.station t.marks ns))
           (due (to + p.tsdr) (if_request (arrival_of (burst_characters p.ttd k t trace to)) (to + p.tsdr ≤ to + p.tsdr) (omega arith)) (due_weaker (view p t).reply (now + p.tsdr) (to + p.tsdr) (omega (arith, lt)) f.waits));
       prompt = λ z ends. subst (λ y. DueBy (z + p.ttd + p.tsdr) y) (sym (append_marks p t.station t.marks ns))
@@ -201,7 +208,7 @@ pass_flow p now to trace last k t fits lt running solid sound ordered short repl
     opens : IsOn v.phase → WindowOf now to xs v.busy b e
     opens on = window now to xs v.busy b e lt solid (senses_of c trace v.busy v.quiet (knows_on c trace v.phase v.busy v.quiet v.own on o.knows).senses) refl refl
 
-    time_if_calm : (q : ℕ) → Each (IsCalmBy q) trace → Spends p (q + p.ttd) v → IsOn v.phase → ((r : ℕ) → Over (later c to) trace r → to ≤ r) → IsAwaiting v.phase → EndsInTime p (q + p.ttd) v.own.begin to
+    time_if_calm : (q : ℕ) → Each (IsCalmBy q) trace → Spends p (q + p.ttd) (q + p.ttd) v → IsOn v.phase → ((r : ℕ) → Over (later c to) trace r → to ≤ r) → IsAwaiting v.phase → EndsInTime p (q + p.ttd) v.own.begin to
     time_if_calm q calm s on closes a =
         let kn = knows_on c trace v.phase v.busy v.quiet v.own on o.knows in
         let held = held_of c trace last v.phase v.busy v.quiet v.own v.reply a o.view_ok in
@@ -211,7 +218,7 @@ pass_flow p now to trace last k t fits lt running solid sound ordered short repl
         (each_both (λ x. IsCalmBy q x × IsShort x) (λ x. EndsBy v.own.end x × RepliesBy (v.own.end + p.ttd + p.tsdr + p.lag) x) (λ x. IsOver to (max q (v.own.begin + 2 * longest + (p.tsl - 1))) (heard_span p.ttd k t.since x)) trace
         (λ x g w. over_entry (later c to) q v.own x fits s.short g w) (each_pair (IsCalmBy q) IsShort trace calm short) (each_pair (EndsBy v.own.end) (RepliesBy (v.own.end + p.ttd + p.tsdr + p.lag)) trace ends (replies v.own.end ends))))
 
-    time : (q : ℕ) → IsCalmFor to k q trace → Spends p (q + p.ttd) v → IsOn v.phase → ((r : ℕ) → Over (later c to) trace r → to ≤ r) → IsAwaiting v.phase → EndsInTime p (q + p.ttd) v.own.begin to
+    time : (q : ℕ) → IsCalmFor to k q trace → Spends p (q + p.ttd) (q + p.ttd) v → IsOn v.phase → ((r : ℕ) → Over (later c to) trace r → to ≤ r) → IsAwaiting v.phase → EndsInTime p (q + p.ttd) v.own.begin to
     time q calm s on closes a =
         ⊎_elim (λ (all : Each (IsCalmBy q) trace). time_if_calm q all s on closes a) (λ (own : (to ≤ q) × Each (OwnTokensBy k q) trace). let le = own.0 in inl (omega (arith, le))) calm
 
@@ -220,9 +227,9 @@ pass_flow p now to trace last k t fits lt running solid sound ordered short repl
         ⊎_elim (λ (all : Each (IsCalmBy q) trace). token_by p.ttd k t trace to q sound all)
         (λ (own : (to ≤ q) × Each (OwnTokensBy k q) trace). let le = own.0 in if_token (arrival_of (burst_characters p.ttd k t trace to)) (to ≤ q + p.ttd) (omega (arith, le))) calm
 
-    spends : (q : ℕ) → IsCalmFor to k q trace → Spends p (q + p.ttd) v → Spends p (q + p.ttd) (after_marks p v ns)
+    spends : (q : ℕ) → IsCalmFor to k q trace → Spends p (q + p.ttd) (q + p.ttd) v → Spends p (q + p.ttd) (q + p.ttd) (after_marks p v ns)
     spends q calm s =
-        ⊎_elim (λ (off : v.phase ≡ Offline). subst (λ z. Spends p (q + p.ttd) z) (sym (offline_after p v ns off)) s)
+        ⊎_elim (λ (off : v.phase ≡ Offline). subst (λ z. Spends p (q + p.ttd) (q + p.ttd) z) (sym (offline_after p v ns off)) s)
         (λ (on : IsOn v.phase). spends-window c to (q + p.ttd) trace v v.busy t b e refl (opens on) (token q calm) (time q calm s on) s)
         (on_or_off v.phase)
 

@@ -30,10 +30,10 @@ use Rattle.law_token.proofs.quiet.Bound.{silence_at_speakers}
 use Rattle.law_live.specs.NeverDead.{cycle, cycle_to_reply, longest_without, has_token_since, has_noise_since, NeverDead}
 use Rattle.law_live.specs.Flow.{Flow}
 use Rattle.law_live.proofs.NoToken.{silent_then}
-use Rattle.law_live.proofs.Events.{began_now, event_flow, new_stopped, new_flow}
+use Rattle.law_live.proofs.Events.{began_now, event_flow, new_flow}
 
 -- what the token theorem keeps, each event keeps
-event_invariant : (w : World) (e : Event) → KeepsInvariant w e
+pub event_invariant : (w : World) (e : Event) → KeepsInvariant w e
 event_invariant w (Turn tap) = turn_invariant w tap
 event_invariant w (Pass bits) = pass_invariant w bits
 event_invariant w (Damage tap speaker place) = damage_invariant w tap speaker place
@@ -95,7 +95,7 @@ new_params p specs w new =
     let same = unless-Ok (world.new_faults p specs) made w new in ap (λ (z : World). z.params) (sym same.1)
 
 -- and so has each that a run leads to
-params_of : (p : Params) (specs : List TapSpec) (events : List Event) (new w : World) → HasRun p specs events new w → w.params ≡ p
+pub params_of : (p : Params) (specs : List TapSpec) (events : List Event) (new w : World) → HasRun p specs events new w → w.params ≡ p
 params_of p specs events new w run = (runs_same events new w run.runs).params ∙ new_params p specs new run.made
 
 -- A token is there in a run that keeps the premises: else the bus has been silent since the end of the last holder's time, for longer than the silence bound.

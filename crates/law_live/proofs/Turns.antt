@@ -69,7 +69,7 @@ pub record IsTimely (w : World) (k : ℕ) (octets : List ℕ) : Type 0 where
   pub short : bits (length octets) ≤ longest
   pub reply : (z : ℕ) → Each (EndsBy z) w.trace → is_initiator (sending k octets w.now w.taps) ≡ false → w.now ≤ z + w.params.ttd + w.params.tsdr + w.params.lag
   pub request : (q : ℕ) → Each (IsCalmBy q) w.trace → is_initiator (sending k octets w.now w.taps) ≡ true → is_token_record (sending k octets w.now w.taps) ≡ false
-      → w.now + attempt w.params ≤ limit w.params (q + w.params.ttd) true
+      → w.now + attempt w.params ≤ limit w.params (q + w.params.ttd) (q + w.params.ttd) true
 
 -- with an entry more, that and the others are over by a moment
 calm_with : (now k q : ℕ) (x : Entry) (trace : List Entry) → IsCalmFor now k q (with_entry x trace) → OwnTokensBy k q x × IsCalmFor now k q trace
@@ -89,7 +89,7 @@ tap_kept p now trace x k t f = record {
 
 -- a world after a turn that says something timely, or nothing
 pub flow_said : (w : World) (k : ℕ) (t : Tap) (s' : Station) (said : Option (List ℕ)) → slice_get w.taps k ≡ Some t → Flow w → IfSome said (IsTimely w k)
-    → ((q : ℕ) → IsCalmFor w.now k q (with_said k said w.now w.taps w.trace) → Spends w.params (q + w.params.ttd) s') → DueBy (w.now + w.params.tsdr) s'
+    → ((q : ℕ) → IsCalmFor w.now k q (with_said k said w.now w.taps w.trace) → Spends w.params (q + w.params.ttd) (q + w.params.ttd) s') → DueBy (w.now + w.params.tsdr) s'
     → ((z : ℕ) → Each (EndsBy z) w.trace → DueBy (z + w.params.ttd + w.params.tsdr) s')
     → Flow (record w { trace = with_said k said w.now w.taps w.trace; taps = slice_set w.taps k (record t { station = s'; marks = [] }) })
 flow_said w k t s' None here f told spends waits prompt = record {
@@ -109,7 +109,7 @@ flow_said w k t s' (Some octets) here f told spends waits prompt =
       replies = λ z ends. let old = (each_without (EndsBy z) (Sent x) w.trace ends).1 in
           each_with (RepliesBy (z + p.ttd + p.tsdr + p.lag)) (Sent x) w.trace (λ none. told.reply z old none) (f.replies z old);
       requests = λ q calm. let old = (each_without (IsCalmBy q) (Sent x) w.trace calm).1 in
-          each_with (RequestsBy (attempt p) (limit p (q + p.ttd) true)) (Sent x) w.trace (λ init none. told.request q old init none) (f.requests q old);
+          each_with (RequestsBy (attempt p) (limit p (q + p.ttd) (q + p.ttd) true)) (Sent x) w.trace (λ init none. told.request q old init none) (f.requests q old);
       taps = at_set (λ j u. u.running ≡ true → FlowTap p w.now (with_entry (Sent x) w.trace) j u) w.taps k (record t { station = s'; marks = [] })
           (λ run. record { spends = spends; waits = waits; prompt = λ z ends. prompt z (each_without (EndsBy z) (Sent x) w.trace ends).1 })
           (λ j u ne at run. tap_kept p w.now w.trace (Sent x) j u (f.taps j u at run));
@@ -134,7 +134,7 @@ waiting-speaks (Checking tries) o w = absurd w
 pub record LeavesTimely (w : World) (k : ℕ) (t : Tap) (octets : List ℕ) : Type 0 where
   pub short : bits (length octets) ≤ longest
   pub request : (q : ℕ) → Each (IsCalmBy q) w.trace → is_initiator (sending k octets w.now w.taps) ≡ true → is_token_record (sending k octets w.now w.taps) ≡ false
-      → w.now + attempt w.params ≤ limit w.params (q + w.params.ttd) true
+      → w.now + attempt w.params ≤ limit w.params (q + w.params.ttd) (q + w.params.ttd) true
 
 -- what is some is one thing
 same_some : {X : Type 0} (a b : X) → Some a ≡ Some b → a ≡ b
@@ -176,16 +176,16 @@ turn_timely w k t last (Some octets) e fits o f has open_ a good left = record {
 
 -- what a turn leaves of its station's time
 turn_spends : (w : World) (k : ℕ) (t : Tap) (last : Option Record) (q : ℕ) → LeavesTime w.params → TapHolds w.params w.now w.trace last k t → FlowTap w.params w.now w.trace k t → HasOpenRequest t.station → IsCalmFor w.now k q w.trace
-    → PhaseSays w.params (q + w.params.ttd) w.now (settled w.params t.station t.marks w.now).phase (turn_of w.params t.station t.marks w.now)
+    → PhaseSays w.params (q + w.params.ttd) (q + w.params.ttd) w.now (settled w.params t.station t.marks w.now).phase (turn_of w.params t.station t.marks w.now)
 turn_spends w k t last q fits o f open_ calm =
     let p = w.params in
     let v = view p t in
     let x = settled p t.station t.marks w.now in
-    speech-spends p (q + p.ttd) x w.now (let h = fits.take in omega (arith, h)) (in_time-after_timer p w.now (w.now + 1) v (in_time-view p w.now w.trace last k t t.marks o))
-    (left-settled p t.station t.marks w.now open_) (spends-after_timer p (q + p.ttd) (w.now + 1) v (f.spends q calm))
+    speech-spends p (q + p.ttd) (q + p.ttd) x w.now (let h = fits.take in omega (arith, h)) (in_time-after_timer p w.now (w.now + 1) v (in_time-view p w.now w.trace last k t t.marks o))
+    (left-settled p t.station t.marks w.now open_) (spends-after_timer p (q + p.ttd) (q + p.ttd) (w.now + 1) v (f.spends q calm))
 
 -- what is said, by the moments of tokens
-said_by : (k : ℕ) (w : World) (q : ℕ) (octets : List ℕ) → bits (length octets) ≤ longest → fault_of (map Good octets) ≡ None → OwnTokensBy k q (Sent (sending k octets w.now w.taps)) → IsSaidBy (q + w.params.ttd) w.now (Some octets)
+said_by : (k : ℕ) (w : World) (q : ℕ) (octets : List ℕ) → bits (length octets) ≤ longest → fault_of (map Good octets) ≡ None → OwnTokensBy k q (Sent (sending k octets w.now w.taps)) → IsSaidBy (q + w.params.ttd) (q + w.params.ttd) w.now (Some octets)
 said_by k w q octets short good calm =
     let x = sending k octets w.now w.taps in
     (short, λ token. let h = calm refl (pass_is x good ∙ token) in omega (arith, h))
@@ -220,12 +220,12 @@ turn_flow w k t last here run fits o has open_ asks opened good f =
     fit = fits-turn_of p t.station t.marks w.now has
 
     spends : (q : ℕ) (said : Option (List ℕ)) → turn.1 ≡ said → IfSome said (λ octets. fault_of (map Good octets) ≡ None) → IfSome said (λ octets. (0 < length octets) × (length octets ≤ 255)) → IsCalmFor w.now k q (with_said k said w.now w.taps w.trace)
-        → Spends p (q + p.ttd) turn.0
-    spends q None e good fit calm = (turn_spends w k t last q fits o g open_ calm (subst (IsSaidBy (q + p.ttd) w.now) (sym e) tt)).0
+        → Spends p (q + p.ttd) (q + p.ttd) turn.0
+    spends q None e good fit calm = (turn_spends w k t last q fits o g open_ calm (subst (IsSaidBy (q + p.ttd) (q + p.ttd) w.now) (sym e) tt)).0
     spends q (Some octets) e good fit calm =
         let both = calm_with w.now k q (Sent (sending k octets w.now w.taps)) w.trace calm in
         let n = fit.1 in
-        (turn_spends w k t last q fits o g open_ both.1 (subst (IsSaidBy (q + p.ttd) w.now) (sym e) (said_by k w q octets (omega (arith, n)) good both.0))).0
+        (turn_spends w k t last q fits o g open_ both.1 (subst (IsSaidBy (q + p.ttd) (q + p.ttd) w.now) (sym e) (said_by k w q octets (omega (arith, n)) good both.0))).0
 
     left : (said : Option (List ℕ)) → turn.1 ≡ said → IfSome said (λ octets. fault_of (map Good octets) ≡ None) → IfSome said (λ octets. (0 < length octets) × (length octets ≤ 255)) → IfSome said (λ octets. LeavesTimely w k t octets)
     left None e good fit = tt
@@ -237,6 +237,6 @@ turn_flow w k t last here run fits o has open_ asks opened good f =
           request = λ q calm init none.
               let holds : may_initiate x.phase ≡ true = subst (λ s. IfSome s (λ octets. are_initiator octets ≡ true → may_initiate x.phase ≡ true)) e (holder-turn_of p t.station t.marks w.now has) (sym (init_is y good) ∙ init) in
               let token : is_token octets ≡ false = sym (pass_is y good) ∙ none in
-              let says = turn_spends w k t last q fits o g open_ (inl calm) (subst (IsSaidBy (q + p.ttd) w.now) (sym e) (omega (arith, n), λ is. absurd (let c : true ≡ false = sym is ∙ token in cc))) in
-              subst (LeavesTail p (q + p.ttd) w.now) e (says.1 holds) token;
+              let says = turn_spends w k t last q fits o g open_ (inl calm) (subst (IsSaidBy (q + p.ttd) (q + p.ttd) w.now) (sym e) (omega (arith, n), λ is. absurd (let c : true ≡ false = sym is ∙ token in cc))) in
+              subst (LeavesTail p (q + p.ttd) (q + p.ttd) w.now) e (says.1 holds) token;
         }

@@ -58,7 +58,7 @@ RequestsBy time b (Sent r) = is_initiator r ≡ true → is_token_record r ≡ f
 -- Its station keeps within its time as holder. A reply that it keeps is due at most a reply delay after the clock, and
 -- after the initiator telegrams.
 pub record FlowTap (p : Params) (now : ℕ) (trace : List Entry) (k : ℕ) (t : Tap) : Type 0 where
-  pub spends : (q : ℕ) → IsCalmFor now k q trace → Spends p (q + p.ttd) (view p t)
+  pub spends : (q : ℕ) → IsCalmFor now k q trace → Spends p (q + p.ttd) (q + p.ttd) (view p t)
   pub waits : IfSome (view p t).reply (λ a. a.ready ≤ now + p.tsdr)
   pub prompt : (z : ℕ) → Each (EndsBy z) trace → IfSome (view p t).reply (λ a. a.ready ≤ z + p.ttd + p.tsdr)
 
@@ -70,5 +70,5 @@ pub record Flow (w : World) : Type 0 where
   pub reply_in_time : w.params.tsdr + w.params.lag + 2 * w.params.ttd < w.params.tsl
   pub short : Each IsShort w.trace
   pub replies : (z : ℕ) → Each (EndsBy z) w.trace → Each (RepliesBy (z + w.params.ttd + w.params.tsdr + w.params.lag)) w.trace
-  pub requests : (q : ℕ) → Each (IsCalmBy q) w.trace → Each (RequestsBy (attempt w.params) (limit w.params (q + w.params.ttd) true)) w.trace
+  pub requests : (q : ℕ) → Each (IsCalmBy q) w.trace → Each (RequestsBy (attempt w.params) (limit w.params (q + w.params.ttd) (q + w.params.ttd) true)) w.trace
   pub taps : (k : ℕ) (t : Tap) → slice_get w.taps k ≡ Some t → t.running ≡ true → FlowTap w.params w.now w.trace k t

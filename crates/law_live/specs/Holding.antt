@@ -1,5 +1,5 @@
 -- How long a station holds the token after its last receipt: each moment at which it speaks is bounded by its receipts.
-use Rattle.std.specs.Prelude.{◌≡◌, ℕ, ◌+◌, ◌-◌, ◌*◌, ◌≤◌, ◌⊎◌, Bool, true, false, List, length, Option, Some, None, IfSome}
+use Rattle.std.specs.Prelude.{◌≡◌, ℕ, max, ◌+◌, ◌-◌, ◌*◌, ◌≤◌, ◌⊎◌, Bool, true, false, List, length, Option, Some, None, IfSome}
 use Rattle.pb_telegram.specs.Faults.{is_token}
 use Rattle.pb_timers.specs.Timers.{Params, bits}
 use Rattle.pb_rotation.specs.Rotation.{Receipt}
@@ -10,11 +10,12 @@ use Rattle.law_turn.specs.Phases.{Phase, Offline, PassiveIdle, Listening, Idle, 
 use Rattle.law_turn.specs.Stations.{Station}
 use Rattle.law_live.specs.NeverDead.{longest, attempt, tries, cycle}
 
--- The latest moment at which a holder speaks next, given a moment before which it had its last two receipts and noise
--- was over: a cycle starts within the target rotation time, and one of high priority after it.
-abbrev pub limit : Params → ℕ → Bool → ℕ
-limit p d false = d + (p.ttr - 1) + cycle p
-limit p d true = d + (p.ttr - 1) + cycle p + cycle p
+-- The latest moment at which a holder speaks next, given a moment by which it had its last receipt, and one by which it
+-- had the receipt before that and noise was over: it speaks first an idle time after its receipt; a cycle starts within
+-- the target rotation time of the receipt before; and one of high priority after that.
+abbrev pub limit : Params → (recent d : ℕ) → Bool → ℕ
+limit p recent d false = max (recent + p.tid1 + p.lag) (d + (p.ttr - 1) + cycle p)
+limit p recent d true = max (recent + p.tid1 + p.lag) (d + (p.ttr - 1) + cycle p) + cycle p
 
 -- whether no cycle of high priority may start after the target rotation time
 abbrev pub has_used : Option Receipt → Bool
@@ -40,25 +41,25 @@ SpendsBy p end left begin (AwaitStatus of slot) = begin + attempt p ≤ end
 SpendsBy p end left begin (Pass tries ready) = Unit {0}
 SpendsBy p end left begin (Checking tries) = Unit {0}
 
--- both receipts that count were before a moment
-abbrev pub ReceivedBy : ℕ → Option Receipt → Type 0
-ReceivedBy d last = IfSome last (λ r. (r.at ≤ d) × (r.previous ≤ d))
+-- each of the two receipts that count was by a moment
+abbrev pub ReceivedBy : (recent d : ℕ) → Option Receipt → Type 0
+ReceivedBy recent d last = IfSome last (λ r. (r.at ≤ recent) × (r.previous ≤ d))
 
 -- a station that has time left while it holds the token
-pub record Spends (p : Params) (d : ℕ) (s : Station) : Type 0 where
+pub record Spends (p : Params) (recent d : ℕ) (s : Station) : Type 0 where
   pub target : s.rotation.ttr ≡ p.ttr
-  pub received : ReceivedBy d s.rotation.last
+  pub received : ReceivedBy recent d s.rotation.last
   pub retries : s.cycles.initiator.retries ≡ p.retries
   pub short : s.own.end ≤ s.own.begin + longest
-  pub spends : SpendsBy p (limit p d (has_used s.rotation.last)) (left_of s.cycles.initiator.pending) s.own.begin s.phase
+  pub spends : SpendsBy p (limit p recent d (has_used s.rotation.last)) (left_of s.cycles.initiator.pending) s.own.begin s.phase
 
--- What a turn sends: no more than the longest telegram; and a token, and thus its receipt, ends by the moment.
-abbrev pub IsSaidBy : ℕ → ℕ → Option (List ℕ) → Type 0
-IsSaidBy d now said = IfSome said (λ octets. (bits (length octets) ≤ longest) × (is_token octets ≡ true → now + bits (length octets) ≤ d))
+-- What a turn sends: no more than the longest telegram; and a token, and thus its receipt, ends by the moments.
+abbrev pub IsSaidBy : (recent d now : ℕ) → Option (List ℕ) → Type 0
+IsSaidBy recent d now said = IfSome said (λ octets. (bits (length octets) ≤ longest) × (is_token octets ≡ true → (now + bits (length octets) ≤ recent) × (recent ≤ d)))
 
 -- what it sends, if it is no token, leaves time for all that follows it
-abbrev pub LeavesTail : Params → ℕ → ℕ → Option (List ℕ) → Type 0
-LeavesTail p d now said = IfSome said (λ octets. is_token octets ≡ false → now + attempt p ≤ limit p d true)
+abbrev pub LeavesTail : Params → (recent d now : ℕ) → Option (List ℕ) → Type 0
+LeavesTail p recent d now said = IfSome said (λ octets. is_token octets ≡ false → now + attempt p ≤ limit p recent d true)
 
 -- if a token is heard
 abbrev pub IfToken : Arrival → Type 0 → Type 0
@@ -84,15 +85,15 @@ IfAwaited (AwaitStatus of slot) X = X
 IfAwaited (Pass tries ready) X = Unit {0}
 IfAwaited (Checking tries) X = Unit {0}
 
--- the requirement on a mark: a token ended by the moment, and what ends while a reply is awaited ends in time
-abbrev pub Comes : Params → ℕ → Station → Mark → Type 0
-Comes p d s (Begin at seen) = Unit {0}
-Comes p d s (End at seen chars) = IfToken (arrival_of chars) (at ≤ d) × IfAwaited s.phase (EndsInTime p d s.own.begin at)
+-- the requirement on a mark: a token ended by the moments, and what ends while a reply is awaited ends in time
+abbrev pub Comes : Params → (recent d : ℕ) → Station → Mark → Type 0
+Comes p recent d s (Begin at seen) = Unit {0}
+Comes p recent d s (End at seen chars) = IfToken (arrival_of chars) ((at ≤ recent) × (recent ≤ d)) × IfAwaited s.phase (EndsInTime p d s.own.begin at)
 
 -- what a phase sends keeps within the time; and what a holder sends, if it is no token, leaves time for all that
 -- follows it
-abbrev pub PhaseSays : Params → (d now : ℕ) → Phase → Station × Option (List ℕ) → Type 0
-PhaseSays p d now ph turn = IsSaidBy d now turn.1 → Spends p d turn.0 × (may_initiate ph ≡ true → LeavesTail p d now turn.1)
+abbrev pub PhaseSays : Params → (recent d now : ℕ) → Phase → Station × Option (List ℕ) → Type 0
+PhaseSays p recent d now ph turn = IsSaidBy recent d now turn.1 → Spends p recent d turn.0 × (may_initiate ph ≡ true → LeavesTail p recent d now turn.1)
 
 -- a phase that uses the token
 abbrev pub IsCycling : Phase → Type 0

@@ -2,7 +2,7 @@
 use Rattle.pb_cli.specs.Bounding.{IsBaud}
 use Rattle.pb_cli.specs.Playing.{IsUpTo, line_limit, worker_limit}
 use Rattle.pb_cli.specs.declared.words.Ask.{Ask}
-use Rattle.pb_cli.specs.declared.words.Ask.TheVariants.{Decode, Run, Audit, Bounds, Monitor, Capture, Version}
+use Rattle.pb_cli.specs.declared.words.Ask.TheVariants.{Decode, Run, Audit, Bounds, Monitor, Capture, Export, Version}
 
 abbrev pub IsWithinLimits : Ask → Type 0
 IsWithinLimits Decode = Unit {0}
@@ -12,3 +12,4 @@ IsWithinLimits Version = Unit {0}
 IsWithinLimits (Bounds file baud json) = IsBaud baud
 IsWithinLimits (Monitor file options) = Unit {0}
 IsWithinLimits (Capture file tap) = Unit {0}
+IsWithinLimits (Export file export) = IsBaud export.baud

@@ -1,6 +1,6 @@
 //! The words of the command line.
 
-ghost use Rattle.std.specs.Prelude.{◌<◌, ◌^◌, IfOk};
+ghost use Rattle.std.specs.Prelude.{◌<◌, ◌≤◌, ◌^◌, IfOk};
 ghost use Rattle.pb_cli.specs.Asking.{IsWithinLimits};
 ghost use Rattle.pb_cli.specs.Bounding.{IsBaud};
 ghost use Rattle.pb_cli.specs.Playing.{IsUpTo};
@@ -11,6 +11,7 @@ use crate::words::{Ask, AskFault, Asked};
 use clap::builder::ValueParser;
 use clap::error::ErrorKind;
 use clap::{Arg, ArgAction, ArgMatches, Command, Error, value_parser};
+use pb_export::{Export, Form as Output, LATEST, Link, Strings, Window};
 use pb_monitor::{Classes, Form, Options, SummaryForm};
 use std::alloc::{AllocError, Global};
 
@@ -59,12 +60,33 @@ const LAST: &str = "last";
 
 const QUIET: &str = "quiet";
 
+/// What a usage ends with.
+const MORE: &str = "\n\nFor more information, try '--help'.\n";
+
 /// The version of the program.
 pub const VERSION: &str = "0.1.0";
 
 const BAUD: &str = "baud";
 
 const JSON: &str = "json";
+
+const EXPORT: &str = "export";
+
+const TO: &str = "to";
+
+const FROM: &str = "from";
+
+const UNTIL: &str = "until";
+
+const LINK: &str = "link";
+
+const NO_TEXT: &str = "no-text";
+
+/// The forms of an export.
+static OUTPUTS: [&str; 5] = ["svg", "pcapng", "pcap", "vcd", "json"];
+
+/// The link types of a capture file.
+static LINKS: [&str; 2] = ["147", "257"];
 
 /// Reads the program's words, its name first.
 ///
@@ -97,7 +119,9 @@ pub fn ask_with_options(alloc: Global, words: &[String]) -> Result<Asked, AskFau
 }
 
 /// The request that valid words make.
-fn asked(alloc: Global, matches: &ArgMatches<'_>) -> Result<Ask, AllocError>
+///
+/// Faults: `Usage` for a window that begins after its end; `NoMemory`.
+fn asked(alloc: Global, matches: &ArgMatches<'_>) -> Result<Ask, AskFault>
     ensures { IfOk result IsWithinLimits }
 {
     match matches.subcommand() {
@@ -122,14 +146,81 @@ fn asked(alloc: Global, matches: &ArgMatches<'_>) -> Result<Ask, AllocError>
             file: file_in(alloc, capture)?,
             tap: text_in(alloc, capture, TAP)?,
         }),
+        Some((EXPORT, export)) => asked_export(alloc, export),
         _ => Ok(Ask::Decode),
+    }
+}
+
+/// The export that valid words ask for.
+///
+/// Faults: those of `asked`.
+fn asked_export(alloc: Global, matches: &ArgMatches<'_>) -> Result<Ask, AskFault>
+    ensures { IfOk result IsWithinLimits }
+{
+    let window = Window {
+        from: moment_in(matches, FROM, 0),
+        until: moment_in(matches, UNTIL, LATEST),
+    };
+    if window.until < window.from {
+        let Window { from, until, .. } = window;
+        let text = format!(in alloc; "error: --from {from} is past --until {until}{MORE}")?;
+        return Err(AskFault::Usage(text));
+    }
+    Ok(Ask::Export {
+        file: file_in(alloc, matches)?,
+        export: Export {
+            form: form_of(matches.get_str(TO).unwrap_or("")),
+            window,
+            baud: baud_in(matches),
+            link: link_of(matches.get_str(LINK).unwrap_or("")),
+            strings: strings_in(matches),
+        },
+    })
+}
+
+/// The form of a word. The option's parser has checked that it is one.
+fn form_of(word: &str) -> Output {
+    match word {
+        "pcapng" => Output::Pcapng,
+        "pcap" => Output::Pcap,
+        "vcd" => Output::Vcd,
+        "json" => Output::Json,
+        _ => Output::Svg,
+    }
+}
+
+/// The link type of a word, or the usual one.
+fn link_of(word: &str) -> Link {
+    match word {
+        "257" => Link::Profibus,
+        _ => Link::User,
+    }
+}
+
+/// Whether a value change dump has strings.
+fn strings_in(matches: &ArgMatches<'_>) -> Strings {
+    if matches.get_flag(NO_TEXT) {
+        Strings::LeftOut
+    } else {
+        Strings::Shown
+    }
+}
+
+/// The moment of an option in bit times, or the usual one. The option's parser has checked its range.
+fn moment_in(matches: &ArgMatches<'_>, option: &str, usual: u64) -> u64
+    requires { usual ≤ 1000000000000 }
+    ensures { result ≤ 1000000000000 }
+{
+    match matches.get_one::<u64>(option) {
+        Some(moment) if moment <= LATEST => moment,
+        _ => usual,
     }
 }
 
 /// Whether the words suppress hints.
 fn is_quiet(matches: &ArgMatches<'_>) -> bool {
     match matches.subcommand() {
-        Some((RUN | AUDIT | BOUNDS | MONITOR | CAPTURE, words)) => words.get_flag(QUIET),
+        Some((RUN | AUDIT | BOUNDS | MONITOR | CAPTURE | EXPORT, words)) => words.get_flag(QUIET),
         _ => false,
     }
 }
@@ -231,7 +322,8 @@ fn command<'a>(alloc: Global) -> Result<Command<'a>, AllocError> {
         .subcommand(audit_command(alloc)?)?
         .subcommand(bounds_command(alloc)?)?
         .subcommand(monitor_command(alloc)?)?
-        .subcommand(capture_command(alloc)?)
+        .subcommand(capture_command(alloc)?)?
+        .subcommand(export_command(alloc)?)
 }
 
 fn decode_command<'a>(alloc: Global) -> Command<'a> {
@@ -300,24 +392,8 @@ fn monitor_command<'a>(alloc: Global) -> Result<Command<'a>, AllocError> {
         .arg(choice(alloc, SUMMARY, "FORMAT", &SUMMARIES).help(
             "Prints the summary alone, as text, one JSON object or a table of the stations",
         ))?
-        .arg(
-            Arg::new(alloc, BAUD)
-                .long(BAUD)
-                .value_name("N")
-                .help("Bits a second, 9600 to 12000000, for the moments of packets")
-                .value_parser(value_parser!(u32).range(
-                    i64::from(LEAST_BAUD)..=i64::from(MOST_BAUD),
-                )),
-        )?
-        .arg(
-            Arg::new(alloc, SLACK)
-                .long(SLACK)
-                .value_name("BITS")
-                .help(
-                    "By how many bit times the difference of two moments may be wrong [default: 0]",
-                )
-                .value_parser(value_parser!(u32).range(0..=i64::from(MOST_SLACK))),
-        )?
+        .arg(baud(alloc).help("Bits a second, 9600 to 12000000, for the moments of packets"))?
+        .arg(slack(alloc))?
         .arg(quiet(alloc))
 }
 
@@ -330,6 +406,35 @@ fn capture_command<'a>(alloc: Global) -> Result<Command<'a>, AllocError> {
             Arg::new(alloc, TAP).long(TAP).value_name("NAME").help(
                 "The tap that listens, while it runs [default: all telegrams, as they are sent]",
             ),
+        )?
+        .arg(quiet(alloc))
+}
+
+fn export_command<'a>(alloc: Global) -> Result<Command<'a>, AllocError> {
+    Command::new(alloc, EXPORT)
+        .about(
+            "Plays a scenario and writes its trace for Wireshark, GTKWave, PulseView, people or programs",
+        )
+        .after_help("Example: ringplay export examples/two-masters.toml --to svg >two-masters.svg")
+        .arg(file(alloc))?
+        .arg(
+            choice(alloc, TO, "FORM", OUTPUTS.as_slice())
+                .required(true)
+                .help("The form of the output"),
+        )?
+        .arg(moment(alloc, FROM).help("Leaves out what begins before this bit time"))?
+        .arg(moment(alloc, UNTIL).help("Leaves out what begins after this bit time"))?
+        .arg(baud(alloc).help(
+            "Bits a second, 9600 to 12000000, for the times of pcap, pcapng and vcd [default: 1500000]",
+        ))?
+        .arg(choice(alloc, LINK, "N", LINKS.as_slice()).help(
+            "The link type of pcap and pcapng: 147 for a dissector of one's own, 257 for PROFIBUS [default: 147]",
+        ))?
+        .arg(
+            Arg::new(alloc, NO_TEXT)
+                .long(NO_TEXT)
+                .action(ArgAction::SetTrue)
+                .help("Leaves out the string of vcd, which not every tool reads"),
         )?
         .arg(quiet(alloc))
 }
@@ -350,6 +455,14 @@ fn limited<'a>(alloc: Global, name: &'a str, value: &'a str, least: u64, most: u
         .value_parser(ValueParser::unsigned(least, most))
 }
 
+/// An option whose value is a moment, in bit times.
+fn moment<'a>(alloc: Global, name: &'a str) -> Arg<'a> {
+    Arg::new(alloc, name)
+        .long(name)
+        .value_name("T")
+        .value_parser(value_parser!(u64).range(0..=LATEST as i64))
+}
+
 /// An option whose value is a number from 1 to `most`.
 fn number<'a>(alloc: Global, name: &'a str, most: usize) -> Arg<'a>
     requires { most < 2 ^ 63 }
@@ -367,6 +480,15 @@ fn baud<'a>(alloc: Global) -> Arg<'a> {
         .value_name("N")
         .help("Bits a second, 9600 to 12000000, for the milliseconds [default: 1500000]")
         .value_parser(value_parser!(u32).range(i64::from(LEAST_BAUD)..=i64::from(MOST_BAUD)))
+}
+
+/// The option of a slack.
+fn slack<'a>(alloc: Global) -> Arg<'a> {
+    Arg::new(alloc, SLACK)
+        .long(SLACK)
+        .value_name("BITS")
+        .help("By how many bit times the difference of two moments may be wrong [default: 0]")
+        .value_parser(value_parser!(u32).range(0..=i64::from(MOST_SLACK)))
 }
 
 /// The argument that names a scenario file.

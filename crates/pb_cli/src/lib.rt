@@ -1,8 +1,8 @@
 //! What the program `ringplay` does, over any reader and writer.
 //!
 //! [`ask`] reads the program's words, [`decode_lines`] decodes lines of hex, [`play`] plays a scenario file with some
-//! workers, [`audit_file`] judges its run, [`bounds_file`] computes the bounds of its bus, and [`monitor`]
-//! reads captures. The contracts name the bytes:
+//! workers, [`audit_file`] judges its run, [`bounds_file`] computes the bounds of its bus, [`export_file`] writes its trace
+//! for other tools, and [`monitor`] reads captures. The contracts name the bytes:
 //! what is written is a stated function of what is read, and `Read`, `TooLong` and `Write` are returned only if their
 //! cause is there. A [`Source`] is read from and a [`Sink`] is written to; [`CountedReader`] and [`CountedWriter`] make
 //! them from any reader and writer of std.
@@ -16,6 +16,7 @@ mod capturing;
 mod counted_reader;
 mod counted_writer;
 mod decoding;
+mod exporting;
 mod faults;
 mod fleets;
 mod monitoring;
@@ -32,6 +33,7 @@ pub use capturing::capture_file;
 pub use counted_reader::CountedReader;
 pub use counted_writer::CountedWriter;
 pub use decoding::decode_lines;
+pub use exporting::export_file;
 pub use faults::{CliFault, Status};
 pub use monitoring::{Bus, bus_of, monitor};
 pub use playing::play;

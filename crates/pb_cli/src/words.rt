@@ -3,6 +3,7 @@
 ghost use Rattle.std.specs.Prelude.{◌≡◌};
 ghost use Rattle.pb_cli.specs.declared.words.AskFault.TheVariants.{NoMemory};
 
+use pb_export::Export;
 pub use pb_monitor::Options;
 use std::alloc::AllocError;
 use thiserror::Error;
@@ -48,6 +49,13 @@ pub enum Ask {
         file: String,
         /// The tap that listens; without it each telegram is heard as it was sent.
         tap: Option<String>,
+    },
+    /// Write the trace of a scenario file's run in a form that other tools read.
+    Export {
+        /// The file's path.
+        file: String,
+        /// The form, and which entries it shows; 9,600 to 12,000,000 bits a second.
+        export: Export,
     },
     /// Print the version.
     Version,

@@ -1,5 +1,5 @@
 -- Where no telegram is judged illegal, no alarm is of legality, whatever classes are chosen.
-use Rattle.std.proofs.Common.{◌≡◌, ℕ, ◌+◌, Bool, true, false, if◌then◌else◌, not, ◌==◌, ◌*◌, ◌&&◌, List, Option, Some, None}
+use Rattle.std.proofs.Common.{◌≡◌, ℕ, ◌+◌, Bool, true, false, if◌then◌else◌, not, ◌==◌, ◌*◌, ◌&&◌, List, [], ◌∷◌, Option, Some, None}
 use Rattle.std.specs.Prelude.{nat_lt}
 use Rattle.pb_timers.specs.Timers.{Params}
 use Rattle.law_turn.specs.Arrivals.{arrival_of}
@@ -12,7 +12,7 @@ use Rattle.pb_monitor.specs.declared.states.LastHeard.{LastHeard}
 use Rattle.pb_monitor.specs.declared.states.State.{State}
 use Rattle.pb_monitor.specs.Captures.{Burst, All}
 use Rattle.pb_monitor.specs.Meanings.{initiator_of}
-use Rattle.pb_monitor.specs.Judge.{live, may_claim, judged, judged_last, judged_legal, judged_taking, taking_offer, taking_last, chosen, lost_alarm, or_alarm, silence_before, alarm_of, legal_alarm_of, with_alarm}
+use Rattle.pb_monitor.specs.Judge.{live, may_claim, judged, judged_last, judged_legal, judged_taking, taking_offer, taking_last, chosen, lost_alarm, or_alarm, silence_before, behind, alarm_of, legal_alarm_of, with_alarm}
 use Rattle.pb_monitor.specs.Promises.{IsNotOfLegality}
 
 -- no alarm of legality, if any
@@ -71,3 +71,8 @@ not_of_legality p slack c since j b h = by (initiates (arrival_of b.chars)) h
         → IsGood (if d then judged p slack c since (silence_before p j b.begin) b.begin (initiator_of (arrival_of b.chars)) else None)
     by true e = good_judged p slack c since (silence_before p j b.begin) b.begin (initiator_of (arrival_of b.chars)) e
     by false e = tt
+
+-- no telegram of some bursts is illegal
+abbrev pub AllLegal : Params → (slack since : ℕ) → State → List Burst → Type 0
+AllLegal p slack since j [] = Unit {0}
+AllLegal p slack since j (b ∷ bs) = (legal_alarm_of p slack since j b ≡ None) × AllLegal p slack since (behind p slack j b) bs

@@ -5,6 +5,7 @@ pub mod Follows
 pub mod Heard
 pub mod Chosen
 pub mod NoneRaised
+pub mod InOrder
 pub mod Meant
 pub mod Fronts
 pub mod CutStreams

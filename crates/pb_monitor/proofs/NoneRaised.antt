@@ -20,7 +20,7 @@ use Rattle.pb_monitor.specs.declared.states.State.{State}
 use Rattle.pb_monitor.specs.Meanings.{source_of, is_claim_like, is_none, initiator_of}
 use Rattle.pb_monitor.specs.Judge.{touch, silence_before, last_behind, behind, may_claim, judged_legal, judged_last, alarm_of, alarms, listening}
 use Rattle.pb_monitor.specs.Promises.{IsBySource, IsNotOfLegality}
-use Rattle.pb_monitor.proofs.Chosen.{not_of_legality, with_good}
+use Rattle.pb_monitor.proofs.Chosen.{AllLegal, not_of_legality, with_good}
 use Rattle.pb_monitor.proofs.Follows.{Follows, Knowing, follows_it}
 use Rattle.pb_monitor.proofs.Heard.{Facts, follows_on, judge_at}
 use Rattle.pb_monitor.proofs.Legal.{Knows, legal_is_silent}
@@ -33,7 +33,7 @@ abbrev value : Option ℕ → ℕ
 value None = 0
 value (Some n) = n
 
-another_by : (a : Arrival) (to : ℕ) → offered_by a ≡ Some to → to ≡ source_of a → ⊥
+pub another_by : (a : Arrival) (to : ℕ) → offered_by a ≡ Some to → to ≡ source_of a → ⊥
 another_by (Token da sa) to o same = by (da == sa) refl o
   where
     by : (b : Bool) → (da == sa) ≡ b → (if b then None else Some da) ≡ Some to → ⊥
@@ -43,7 +43,7 @@ another_by (Framed f) to o same = cc
 another_by Acknowledgement to o same = cc
 another_by NoTelegram to o same = cc
 
-claim_like : (address : ℕ) (a : Arrival) → claims_for address a ≡ true → is_claim_like a ≡ true
+pub claim_like : (address : ℕ) (a : Arrival) → claims_for address a ≡ true → is_claim_like a ≡ true
 claim_like address (Token da sa) h = by (da == address) refl (sa == address) refl h
   where
     by : (b : Bool) → (da == address) ≡ b → (c : Bool) → (sa == address) ≡ c → (b && c) ≡ true → (da == sa) ≡ true
@@ -123,7 +123,7 @@ same_last p j begin = by (nat_lt (j.quiet + p.tsl) begin)
     by true = refl
     by false = refl
 
-claim_for : (a : Arrival) (n : ℕ) (b : Bool) → (claims_for n a && b) ≡ true → (claims_for n a ≡ true) × (b ≡ true)
+pub claim_for : (a : Arrival) (n : ℕ) (b : Bool) → (claims_for n a && b) ≡ true → (claims_for n a ≡ true) × (b ≡ true)
 claim_for a n b h = by (claims_for n a) b h
   where
     by : (c d : Bool) → (c && d) ≡ true → (c ≡ true) × (d ≡ true)
@@ -162,7 +162,7 @@ none_at p slack specs since trace j b short least linked around init legal = by 
 
 -- ---- what a burst leaves
 
-facts_of : (specs : List TapSpec) (delay q : ℕ) (b : Burst) (es : List Entry) → AllClear delay q b.begin es → All (IsTold delay b) es → All (IsBySource specs) es → All (Facts specs delay q b) es
+pub facts_of : (specs : List TapSpec) (delay q : ℕ) (b : Burst) (es : List Entry) → AllClear delay q b.begin es → All (IsTold delay b) es → All (IsBySource specs) es → All (Facts specs delay q b) es
 facts_of specs delay q b [] c t s = tt
 facts_of specs delay q b (e ∷ es) c t s = ((c.0, t.0, s.0), facts_of specs delay q b es c.1 t.1 s.1)
 
@@ -175,13 +175,13 @@ knowing_of p specs trace b [] init s = tt
 knowing_of p specs trace b (Noise span ∷ es) init s = (tt, knowing_of p specs trace b es init s.1)
 knowing_of p specs trace b (Sent x ∷ es) init s = (λ f. filler_known p specs trace b x init s.0 f, knowing_of p specs trace b es init s.1)
 
-spelled_by : (a : Arrival) → initiates a ≡ true → a ≡ NoTelegram → ⊥
+pub spelled_by : (a : Arrival) → initiates a ≡ true → a ≡ NoTelegram → ⊥
 spelled_by a init e = let z : true ≡ false = sym init ∙ ap initiates e in cc
 
-spelled_some : (a : Arrival) → is_none a ≡ false → a ≡ NoTelegram → ⊥
+pub spelled_some : (a : Arrival) → is_none a ≡ false → a ≡ NoTelegram → ⊥
 spelled_some a none e = let z : false ≡ true = sym none ∙ ap is_none e in cc
 
-last_left : (p : Params) (slack : ℕ) (specs : List TapSpec) (since : ℕ) (trace : List Entry) (j : State) (b : Burst) → IsOrderedFrom 0 trace → All (IsBySource specs) trace → Linked p specs since trace j → j.quiet ≤ b.begin → b.begin < b.end
+pub last_left : (p : Params) (slack : ℕ) (specs : List TapSpec) (since : ℕ) (trace : List Entry) (j : State) (b : Burst) → IsOrderedFrom 0 trace → All (IsBySource specs) trace → Linked p specs since trace j → j.quiet ≤ b.begin → b.begin < b.end
     → AllClear p.ttd j.quiet b.begin trace → IsOf p.ttd since trace b → LinkedLast p specs since trace b.end (last_behind p slack j b (arrival_of b.chars))
 last_left p slack specs since trace j b order sources linked late some clear is_of = by (initiates (arrival_of b.chars)) refl (is_none (arrival_of b.chars)) refl
   where
@@ -213,18 +213,19 @@ last_left p slack specs since trace j b order sources linked late some clear is_
 
 -- ---- all bursts
 
-all_of : (p : Params) (slack : ℕ) (c : Classes) (specs : List TapSpec) (since : ℕ) (trace : List Entry) (j : State) (bs : List Burst) → 2 * p.ttd < p.tsl → ((n : ℕ) → 6 * p.tsl ≤ tto p n) → IsOrderedFrom 0 trace → All (IsBySource specs) trace
-    → first_illegal p specs trace ≡ None → Linked p specs since trace j → HearsFrom p.ttd since trace j.quiet bs → All (λ x. IsNotOfLegality x.1) (alarms p slack c since j bs)
-all_of p slack c specs since trace j [] short least order sources legal linked heard = tt
-all_of p slack c specs since trace j (b ∷ bs) short least order sources legal linked heard =
-    let is_of = heard.3 in
-    with_good b.begin (alarm_of p slack c since j b) (alarms p slack c since (behind p slack j b) bs) (not_of_legality p slack c since j b (by (initiates (arrival_of b.chars)) refl))
-    (all_of p slack c specs since trace (behind p slack j b) bs short least order sources legal (record {
-      from = let f = linked.from in let l = heard.0 in let s = heard.1 in omega (arith, f, l, s);
-      solid = burst_ends_solid p.ttd since trace b heard.1 is_of.solid;
-      silences = silences_behind p slack since trace j b linked.from heard.0 heard.1 linked.solid is_of.solid linked.silences;
-      last = last_left p slack specs since trace j b order sources linked heard.0 heard.1 heard.2 is_of;
-    }) heard.4)
+legal_of : (p : Params) (slack : ℕ) (specs : List TapSpec) (since : ℕ) (trace : List Entry) (j : State) (bs : List Burst) → 2 * p.ttd < p.tsl → ((n : ℕ) → 6 * p.tsl ≤ tto p n) → IsOrderedFrom 0 trace → All (IsBySource specs) trace
+    → first_illegal p specs trace ≡ None → Linked p specs since trace j → HearsFrom p.ttd since trace j.quiet bs → AllLegal p slack since j bs
+legal_of p slack specs since trace j [] short least order sources legal linked heard = tt
+legal_of p slack specs since trace j (b ∷ bs) short least order sources legal linked heard =
+    let is_of = heard.3 in (
+      by (initiates (arrival_of b.chars)) refl,
+      legal_of p slack specs since trace (behind p slack j b) bs short least order sources legal (record {
+        from = let f = linked.from in let l = heard.0 in let s = heard.1 in omega (arith, f, l, s);
+        solid = burst_ends_solid p.ttd since trace b heard.1 is_of.solid;
+        silences = silences_behind p slack since trace j b linked.from heard.0 heard.1 linked.solid is_of.solid linked.silences;
+        last = last_left p slack specs since trace j b order sources linked heard.0 heard.1 heard.2 is_of;
+      }) heard.4,
+    )
   where
     by : (d : Bool) → initiates (arrival_of b.chars) ≡ d → (if d then judged_legal p slack since (silence_before p j b.begin) b.begin (initiator_of (arrival_of b.chars)) else None) ≡ None
     by true init =
@@ -232,15 +233,32 @@ all_of p slack c specs since trace j (b ∷ bs) short least order sources legal 
         none_at p slack specs since trace j b short least linked (record { order = order; late = heard.0; some = heard.1; here = told.0; facts = facts_of specs p.ttd j.quiet b trace heard.2 told.1 sources }) init legal
     by false init = refl
 
-least_timeout : (p : Params) (n : ℕ) → 6 * p.tsl ≤ tto p n
+pub least_timeout : (p : Params) (n : ℕ) → 6 * p.tsl ≤ tto p n
 least_timeout p n = omega arith
 
-pub legal_raises_none : (p : Params) (slack : ℕ) (c : Classes) (specs : List TapSpec) (since : ℕ) (trace : List Entry) (bs : List Burst) → 2 * p.ttd < p.tsl → IsOrderedFrom 0 trace → All (IsBySource specs) trace
-    → first_illegal p specs trace ≡ None → HearsFrom p.ttd since trace since bs → All (λ x. IsNotOfLegality x.1) (alarms p slack c since (listening since) bs)
-legal_raises_none p slack c specs since trace bs short order sources legal heard =
-    all_of p slack c specs since trace (listening since) bs short (least_timeout p) order sources legal (record {
+pub all_legal : (p : Params) (slack : ℕ) (specs : List TapSpec) (since : ℕ) (trace : List Entry) (bs : List Burst) → 2 * p.ttd < p.tsl → IsOrderedFrom 0 trace → All (IsBySource specs) trace
+    → first_illegal p specs trace ≡ None → HearsFrom p.ttd since trace since bs → AllLegal p slack since (listening since) bs
+all_legal p slack specs since trace bs short order sources legal heard =
+    legal_of p slack specs since trace (listening since) bs short (least_timeout p) order sources legal (record {
       from = omega arith;
       solid = start_is_solid p.ttd since trace;
       silences = nothing_yet p since trace;
       last = tt;
     }) heard
+
+-- whatever classes are chosen
+none_of_legality : (p : Params) (slack : ℕ) (c : Classes) (since : ℕ) (j : State) (bs : List Burst) → AllLegal p slack since j bs → All (λ x. IsNotOfLegality x.1) (alarms p slack c since j bs)
+none_of_legality p slack c since j [] legal = tt
+none_of_legality p slack c since j (b ∷ bs) (here, rest) =
+    with_good b.begin (alarm_of p slack c since j b) (alarms p slack c since (behind p slack j b) bs) (not_of_legality p slack c since j b here)
+    (none_of_legality p slack c since (behind p slack j b) bs rest)
+
+pub all_of : (p : Params) (slack : ℕ) (c : Classes) (specs : List TapSpec) (since : ℕ) (trace : List Entry) (j : State) (bs : List Burst) → 2 * p.ttd < p.tsl → ((n : ℕ) → 6 * p.tsl ≤ tto p n) → IsOrderedFrom 0 trace → All (IsBySource specs) trace
+    → first_illegal p specs trace ≡ None → Linked p specs since trace j → HearsFrom p.ttd since trace j.quiet bs → All (λ x. IsNotOfLegality x.1) (alarms p slack c since j bs)
+all_of p slack c specs since trace j bs short least order sources legal linked heard =
+    none_of_legality p slack c since j bs (legal_of p slack specs since trace j bs short least order sources legal linked heard)
+
+pub legal_raises_none : (p : Params) (slack : ℕ) (c : Classes) (specs : List TapSpec) (since : ℕ) (trace : List Entry) (bs : List Burst) → 2 * p.ttd < p.tsl → IsOrderedFrom 0 trace → All (IsBySource specs) trace
+    → first_illegal p specs trace ≡ None → HearsFrom p.ttd since trace since bs → All (λ x. IsNotOfLegality x.1) (alarms p slack c since (listening since) bs)
+legal_raises_none p slack c specs since trace bs short order sources legal heard =
+    none_of_legality p slack c since (listening since) bs (all_legal p slack specs since trace bs short order sources legal heard)

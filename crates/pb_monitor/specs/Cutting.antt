@@ -1,5 +1,5 @@
 -- How a stream of octets is cut into telegrams.
-use Rattle.std.specs.Prelude.{◌≡◌, ℕ, ◌+◌, ◌==◌, nat_le, ◌&&◌, if◌then◌else◌, List, [], ◌∷◌, ◌++◌, Option, Some, None}
+use Rattle.std.specs.Prelude.{◌≡◌, ℕ, ◌+◌, ◌==◌, Bool, false, nat_le, ◌&&◌, if◌then◌else◌, List, [], ◌∷◌, ◌++◌, length, Option, Some, None}
 use Rattle.pb_telegram.specs.Grammar.{sd1, sd2, sd3, sd4, spelling}
 use Rattle.pb_telegram.specs.declared.telegrams.Telegram.{Telegram}
 use Rattle.pb_monitor.specs.declared.cutting.Piece.{Piece}
@@ -30,6 +30,14 @@ needs_by first (count ∷ rest) = Some (if first == sd2 then need_of_data count 
 abbrev pub needs : List ℕ → Option ℕ
 needs [] = None
 needs (first ∷ rest) = needs_by first rest
+
+-- whether the octets that have come tell what comes first
+abbrev pub has_all : Option ℕ → (count : ℕ) → Bool
+has_all None count = false
+has_all (Some need) count = nat_le need count
+
+abbrev pub is_decided : List ℕ → Bool
+is_decided octets = has_all (needs octets) (length octets)
 
 -- ---- a whole stream
 

@@ -5,5 +5,6 @@ pub mod Judge
 pub mod Judging
 pub mod Holders
 pub mod Cutting
+pub mod Orders
 pub mod Examples
 pub mod Promises

@@ -1,6 +1,7 @@
 -- What a listener's alarms mean.
-use Rattle.std.specs.Prelude.{◌≡◌, ℕ, ◌*◌, ◌<◌, true, List, None}
+use Rattle.std.specs.Prelude.{◌≡◌, ℕ, ◌*◌, ◌<◌, true, List, [], map, None}
 use Rattle.pb_timers.specs.Timers.{Params}
+use Rattle.law_turn.specs.Arrivals.{arrival_of}
 use Rattle.law_model.specs.Trace.{Entry, Sent, Noise}
 use Rattle.law_model.specs.Medium.{TapSpec}
 use Rattle.law_runs.specs.Initiators.{telegram_of, is_initiator}
@@ -10,8 +11,9 @@ use Rattle.pb_monitor.specs.declared.alarms.Alarm.{Alarm}
 use Rattle.pb_monitor.specs.declared.alarms.AlarmClass.TheVariants.{Legality}
 use Rattle.pb_monitor.specs.declared.alarms.Classes.{Classes}
 use Rattle.pb_monitor.specs.Captures.{Burst, All, Hears}
-use Rattle.pb_monitor.specs.Meanings.{source_of}
+use Rattle.pb_monitor.specs.Meanings.{source_of, meaning_of}
 use Rattle.pb_monitor.specs.Judge.{listening, alarms, class_of}
+use Rattle.pb_monitor.specs.Orders.{wrongs}
 
 -- what an initiator telegram names as its source is its speaker's address
 abbrev pub IsBySource : List TapSpec → Entry → Type 0
@@ -28,3 +30,9 @@ abbrev pub LegalTracesRaiseNone : Type 0
 LegalTracesRaiseNone = (p : Params) (slack : ℕ) (c : Classes) (specs : List TapSpec) (trace : List Entry) (since : ℕ) (bs : List Burst) → 2 * p.ttd < p.tsl
     → All (IsBySource specs) trace → IsOrdered trace → first_illegal p specs trace ≡ None → Hears p.ttd since trace bs
     → All (λ x. IsNotOfLegality x.1) (alarms p slack c since (listening since) bs)
+
+-- nor is any of its telegrams wrong by their order alone
+abbrev pub LegalOrdersAreRight : Type 0
+LegalOrdersAreRight = (p : Params) (specs : List TapSpec) (trace : List Entry) (since : ℕ) (bs : List Burst) → 2 * p.ttd < p.tsl
+    → All (IsBySource specs) trace → IsOrdered trace → first_illegal p specs trace ≡ None → Hears p.ttd since trace bs
+    → wrongs None (map (λ b. meaning_of (arrival_of b.chars)) bs) ≡ []

@@ -5,7 +5,7 @@ ghost use Rattle.pb_telegram.specs.Grammar.{spelling};
 ghost use Rattle.pb_telegram.specs.Receiving.{StandsFor};
 ghost use Rattle.pb_telegram.specs.declared.chars.RxChar.TheVariants.{Good};
 ghost use Rattle.pb_telegram.specs.declared.telegrams.Telegram.{Telegram};
-ghost use Rattle.pb_monitor.specs.Cutting.{IsCutOff, need_by, need_of_data, needs};
+ghost use Rattle.pb_monitor.specs.Cutting.{IsCutOff, is_decided, need_by, need_of_data, needs};
 
 use arrayvec::ArrayVec;
 use pb_telegram::{
@@ -82,6 +82,17 @@ impl Cutter {
         ensures { self.new ≡ self.old ++ octet ∷ [] }
     {
         self.window.push(octet);
+    }
+
+    /// Whether it is known already what comes first.
+    pub fn is_decided(&self) -> bool
+        ensures decided { result ≡ is_decided self.now }
+        ensures room { IsFalse result → length self.now < 255 }
+    {
+        match needed(&self.window) {
+            Some(need) => need <= self.window.len(),
+            None => false,
+        }
     }
 
     /// Cuts off what comes first, if that is known already: a telegram, or an octet at which none begins, whatever

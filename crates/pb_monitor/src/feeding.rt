@@ -8,7 +8,7 @@ use crate::monitors::Monitor;
 use crate::pcap::{Item, PcapFault, Stamp};
 use crate::reports::{push_content, push_refused};
 use crate::texts::push_number;
-use pb_telegram::{Telegram, write};
+use pb_telegram::Telegram;
 use std::alloc::AllocError;
 
 impl Monitor {
@@ -40,10 +40,15 @@ impl Monitor {
 
     /// Cuts off all that is known of the octets that have come.
     fn cut_all(&mut self, text: &mut Vec<u8>) -> Result<(), AllocError> {
-        while let Some(piece) = self.cutter.cut() {
-            match piece {
-                Piece::Whole(telegram) => self.hear_cut(telegram, text)?,
-                Piece::Skipped(_) => self.pass_octet(),
+        while self.cutter.is_decided() {
+            let before = self.cutter.len();
+            match self.cutter.cut() {
+                Some(Piece::Whole(telegram)) => {
+                    let count = before.saturating_sub(self.cutter.len());
+                    self.hear_cut(telegram, count, text)?;
+                }
+                Some(Piece::Skipped(_)) => self.pass_octet(),
+                None => break,
             }
         }
         Ok(())
@@ -72,13 +77,18 @@ impl Monitor {
         Ok(())
     }
 
-    /// A telegram is cut off.
-    fn hear_cut(&mut self, telegram: Telegram, text: &mut Vec<u8>) -> Result<(), AllocError>
+    /// A telegram of so many octets is cut off.
+    fn hear_cut(
+        &mut self,
+        telegram: Telegram,
+        count: usize,
+        text: &mut Vec<u8>,
+    ) -> Result<(), AllocError>
         ensures { self.new.cutter ≡ self.old.cutter }
     {
         self.tell_skipped(text)?;
         let offset = self.place;
-        self.place = self.place.saturating_add(write(&telegram).len() as u64);
+        self.place = self.place.saturating_add(count as u64);
         let burst = Burst {
             begin: 0,
             end: 0,

@@ -22,7 +22,8 @@ use std::marker::Model;
 /// [`State`].
 ///
 /// An alarm of [`AlarmClass::Legality`](crate::AlarmClass) says that the telegram is illegal after those before it. It is
-/// proved that no trace of legal telegrams raises one, whatever the listener hears of it.
+/// proved that no trace of legal telegrams raises one, whatever the listener hears of it, and (law_monitor) that a run that
+/// keeps the premises raises no alarm of any class.
 #[derive(Drop)]
 pub struct Judge {
     params: BusParams,

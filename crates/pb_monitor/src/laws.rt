@@ -4,12 +4,17 @@ ghost use Rattle.std.specs.Prelude.{◌≡◌, ◌∷◌, []};
 ghost use Rattle.law_runs.specs.Traces.{token, question, answer};
 ghost use Rattle.pb_monitor.specs.declared.alarms.Alarm.TheVariants.{SpokeWithoutToken, SpokeOutOfTurn, PassedAgainTooEarly, PassedAgainThoughHeard, TookAfterSlot, ClaimedTooEarly, SpokeAfterLoss, ClaimedTooEarlyAfterLoss, TookLate, TookTooSoon};
 ghost use Rattle.pb_monitor.specs.Cutting.{TelegramsAreCut};
-ghost use Rattle.pb_monitor.specs.Promises.{LegalTracesRaiseNone};
+ghost use Rattle.pb_monitor.specs.Promises.{LegalOrdersAreRight, LegalTracesRaiseNone};
 ghost use Rattle.pb_monitor.specs.Examples.{at, disturbed, alarms_in, ring};
 
 /// Whatever a listener hears of a legal trace raises no alarm of legality, whatever the premises.
 pub fn legal_traces_raise_no_alarm()
     ensures { LegalTracesRaiseNone }
+{}
+
+/// Nor is any of its telegrams wrong by their order alone.
+pub fn legal_orders_are_right()
+    ensures { LegalOrdersAreRight }
 {}
 
 /// Which captures raise an alarm, at both ends of each stretch of time.

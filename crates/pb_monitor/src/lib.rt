@@ -38,7 +38,8 @@ pub use formats::{Form, Options, SummaryForm};
 pub use holders::Holder;
 pub use judges::Judge;
 pub use laws::{
-    captures_are_judged, legal_traces_raise_no_alarm, telegrams_are_cut_into_themselves,
+    captures_are_judged, legal_orders_are_right, legal_traces_raise_no_alarm,
+    telegrams_are_cut_into_themselves,
 };
 pub use meanings::{InitiatorTelegram, Meaning, meaning_in};
 pub use monitors::Monitor;
@@ -48,6 +49,3 @@ pub use stations::{Role, Station};
 pub use statistics::Statistics;
 pub use traffic::{Damaged, Traffic};
 pub use words::Words;
-
-#[cfg(test)]
-mod tests;

@@ -12,7 +12,7 @@ use crate::meanings::{Meaning, meaning_in};
 use crate::orders::{Order, Wrong};
 use crate::pcap::Packets;
 use crate::reports::{
-    Raised, is_hint, push_alarm, push_content, push_holder, push_refused, push_untimed_alarm,
+    Raised, push_alarm, push_content, push_holder, push_refused, push_untimed_alarm,
 };
 use crate::statistics::Statistics;
 use crate::summaries::{push_summary, push_text};
@@ -109,7 +109,7 @@ impl Monitor {
         &self.statistics
     }
 
-    /// Whether input was refused or an alarm raised. A hint is no alarm.
+    /// Whether input was refused or an alarm raised.
     pub fn is_refused(&self) -> bool {
         let traffic = self.statistics.traffic();
         traffic.refused > 0 || traffic.alarms > 0
@@ -283,7 +283,7 @@ impl Monitor {
         begin: u64,
         text: &mut Vec<u8>,
     ) -> Result<(), AllocError> {
-        self.statistics.raise(is_hint(raised.alarm));
+        self.statistics.raise();
         match &self.params {
             Some(params) => push_alarm(text, params, self.options.slack, raised, begin),
             None => Ok(()),
@@ -323,7 +323,7 @@ impl Monitor {
         }
         match raised {
             Some(Wrong { alarm, source }) => {
-                self.statistics.raise(false);
+                self.statistics.raise();
                 push_untimed_alarm(text, alarm, last, source)
             }
             None => Ok(()),

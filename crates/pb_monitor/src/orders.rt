@@ -1,5 +1,8 @@
 //! Judges telegrams without moments, by their order alone.
 
+ghost use Rattle.std.specs.Prelude.{◌≡◌, None};
+ghost use Rattle.pb_monitor.specs.Orders as orders;
+
 use crate::alarms::Alarm;
 use crate::meanings::{InitiatorTelegram, Meaning};
 
@@ -20,17 +23,24 @@ pub(crate) struct Order {
 
 impl Order {
     /// Nothing has been heard.
-    pub(crate) fn new() -> Order {
+    pub(crate) fn new() -> Order
+        ensures { result.last ≡ None }
+    {
         Order { last: None }
     }
 
     /// The last token or request, if it is known.
-    pub(crate) fn last(&self) -> Option<InitiatorTelegram> {
+    pub(crate) fn last(&self) -> Option<InitiatorTelegram>
+        ensures { result ≡ self.now.last }
+    {
         self.last
     }
 
     /// The next telegram. Without moments a claim can't be judged.
-    pub(crate) fn hear(&mut self, meaning: Meaning) -> Option<Wrong> {
+    pub(crate) fn hear(&mut self, meaning: Meaning) -> Option<Wrong>
+        ensures wrong { result ≡ orders.wrong_in self.old.last meaning }
+        ensures last { self.new.last ≡ orders.last_in self.old.last meaning }
+    {
         match meaning {
             Meaning::Initiator(telegram) => {
                 let raised = alarm_after(self.last, telegram);
@@ -50,7 +60,9 @@ impl Order {
 }
 
 /// What is illegal about a telegram after the last token or request.
-fn alarm_after(last: Option<InitiatorTelegram>, telegram: InitiatorTelegram) -> Option<Alarm> {
+fn alarm_after(last: Option<InitiatorTelegram>, telegram: InitiatorTelegram) -> Option<Alarm>
+    ensures { result ≡ orders.alarm_after last telegram }
+{
     let last = last?;
     if telegram.is_claim || telegram.source == last.source {
         return None;

@@ -1,6 +1,6 @@
 //! The lines that a monitor prints for bursts and alarms.
 
-use crate::alarms::{Alarm, AlarmClass};
+use crate::alarms::Alarm;
 use crate::holders::Holder;
 use crate::meanings::InitiatorTelegram;
 use crate::states::{LastHeard, State, live};
@@ -48,7 +48,7 @@ pub(crate) fn push_holder(text: &mut Vec<u8>, holder: Holder) -> Result<(), Allo
     }
 }
 
-/// Appends the line of an alarm: it begins with `alarm` or, where no theorem says what it means, with `hint`.
+/// Appends the line of an alarm.
 pub(crate) fn push_alarm(
     text: &mut Vec<u8>,
     params: &BusParams,
@@ -88,8 +88,7 @@ pub(crate) fn push_alarm_head(
     begin: Option<u64>,
     source: u8,
 ) -> Result<(), AllocError> {
-    let kind = if is_hint(alarm) { "hint" } else { "alarm" };
-    text.extend_from_slice(kind.as_bytes())?;
+    text.extend_from_slice(b"alarm")?;
     if let Some(begin) = begin {
         push_counted(text, b" at ", begin)?;
     }
@@ -97,14 +96,6 @@ pub(crate) fn push_alarm_head(
     text.extend_from_slice(b": ")?;
     text.extend_from_slice(alarm.name().as_bytes())?;
     text.extend_from_slice(b": ")
-}
-
-/// Whether no theorem says yet what the alarm means.
-pub(crate) fn is_hint(alarm: Alarm) -> bool {
-    match alarm.class() {
-        AlarmClass::Legality => false,
-        AlarmClass::Loss | AlarmClass::Timing => true,
-    }
 }
 
 /// Appends the time-out of a station.

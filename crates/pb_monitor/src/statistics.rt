@@ -122,12 +122,8 @@ impl Statistics {
     }
 
     /// Counts an alarm.
-    pub(crate) fn raise(&mut self, is_hint: bool) {
-        if is_hint {
-            self.traffic.hints = one_more(self.traffic.hints);
-        } else {
-            self.traffic.alarms = one_more(self.traffic.alarms);
-        }
+    pub(crate) fn raise(&mut self) {
+        self.traffic.alarms = one_more(self.traffic.alarms);
     }
 
     /// Counts a refusal of input, after which nothing is known of what came before.

@@ -52,7 +52,6 @@ fn push_traffic(text: &mut Vec<u8>, traffic: &Traffic) -> Result<(), AllocError>
     push_counted(text, b", in the slot of a token ", damaged.taking)?;
     push_counted(text, b", other ", damaged.other)?;
     push_counted(text, b"), alarms ", traffic.alarms)?;
-    push_counted(text, b", hints ", traffic.hints)?;
     push_counted(text, b", refused ", traffic.refused)?;
     text.extend_from_slice(b"\n")
 }
@@ -164,7 +163,6 @@ fn push_json_traffic(text: &mut Vec<u8>, traffic: &Traffic) -> Result<(), AllocE
     push_counted(text, b",\"token\":", traffic.damaged.taking)?;
     push_counted(text, b",\"other\":", traffic.damaged.other)?;
     push_counted(text, b"},\"alarms\":", traffic.alarms)?;
-    push_counted(text, b",\"hints\":", traffic.hints)?;
     push_counted(text, b",\"refused\":", traffic.refused)
 }
 

@@ -18,10 +18,8 @@ pub struct Traffic {
     pub damaged: Damaged,
     /// The longest silence between two bursts.
     pub longest_silence: u64,
-    /// How many alarms were raised, and how many hints were given.
+    /// How many alarms were raised.
     pub alarms: u64,
-    /// How many hints were given.
-    pub hints: u64,
     /// How many lines, packets or runs of octets were refused.
     pub refused: u64,
 }

@@ -1,5 +1,5 @@
-//! `ringplay`: plays and audits scenarios of the PROFIBUS data link layer (FDL), and turns its telegrams from hex to
-//! text.
+//! `ringplay`: plays, audits and exports scenarios of the PROFIBUS data link layer (FDL), and turns its telegrams from hex
+//! to text.
 //!
 //! Opens the streams, calls `pb_cli`, and turns its result into an exit status: 0 done, 1 input refused, 2 usage, 3 a
 //! read or write fault or an input that is too long, 4 no memory.
@@ -13,9 +13,10 @@ ghost use Rattle.ringplay.specs.ExitStatus.{exit_status_of, words_status_of};
 
 use pb_cli::{
     Ask, AskFault, Asked, Bus, CliFault, CountedReader, CountedWriter, Options, Status, VERSION,
-    ask_with_options, audit_with_reasons, bounds_file, bus_of, capture_file, decode_lines, monitor,
-    play, read_input, write_out,
+    ask_with_options, audit_with_reasons, bounds_file, bus_of, capture_file, decode_lines,
+    export_file, monitor, play, read_input, write_out,
 };
+use pb_export::Export;
 use pb_texts::{MOST_EVENTS, explain, explain_audit, explain_bus, warn};
 use std::alloc::{AllocError, Global};
 use std::fmt::Display;
@@ -87,6 +88,7 @@ fn answer<T: AllocGlobal + Eprint + Files + Input + Print + Threads + Wait + Syn
         Ask::Bounds { file, baud, json } => bounds(rt, file.as_str(), baud, json, is_quiet),
         Ask::Monitor { file, options } => watch(rt, file, options, is_quiet),
         Ask::Capture { file, tap } => capture(rt, file.as_str(), tap, is_quiet),
+        Ask::Export { file, export } => export_to(rt, file.as_str(), &export, is_quiet),
         Ask::Version => version(rt),
     }
 }
@@ -200,6 +202,27 @@ fn capture<T: AllocGlobal + Eprint + Files + Input + Print>(
     let file = contents(rt, path, is_quiet)?;
     let mut writer = CountedWriter::new(io::writer(rt));
     let status = capture_file(rt.alloc(), &file, tap, &mut writer)?;
+    if let Status::Refused = status
+        && !is_quiet
+    {
+        hint(rt, explain(rt.alloc(), shown(path), &file, None));
+    }
+    Ok(status)
+}
+
+/// `ringplay export FILE`, to standard output; hints go to standard error.
+fn export_to<T: AllocGlobal + Eprint + Files + Input + Print>(
+    rt: &T,
+    path: &str,
+    export: &Export,
+    is_quiet: bool,
+) -> Result<Status, CliFault>
+    requires { IsBaud export.now.baud }
+{
+    let file = contents(rt, path, is_quiet)?;
+    let mut reader = CountedReader::new(file.as_slice());
+    let mut writer = CountedWriter::new(io::writer(rt));
+    let status = export_file(rt.alloc(), &mut reader, &mut writer, export)?;
     if let Status::Refused = status
         && !is_quiet
     {

@@ -1,6 +1,7 @@
-//! Tests of pb_cli's calls, over readers and writers in memory.
+//! Tests of pb_cli's calls, over readers and writers in memory, and of exports.
 
 mod decoding;
+mod exports;
 mod memory;
 mod monitoring;
 mod scenarios;

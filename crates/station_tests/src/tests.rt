@@ -1,5 +1,6 @@
-//! Tests of telegrams and their texts, times, tables, states and message cycles: what they share.
+//! Tests of telegrams and their texts, captures, times, tables, states and message cycles: what they share.
 
+mod captures;
 mod changed_octets;
 mod cycles;
 mod edges;

@@ -2,6 +2,7 @@
 
 use super::equal;
 use pb_cli::{Ask, AskFault, ask};
+use pb_export::{Export, Form, Link, Strings, Window};
 use std::alloc::{AllocError, Global};
 use std::test::Fail;
 
@@ -55,6 +56,27 @@ fn run_takes_a_file_and_numbers(rt: HostRuntime) -> Result<(), Fail> {
 }
 
 #[test]
+fn export_takes_a_form_and_a_window(rt: HostRuntime) -> Result<(), Fail> {
+    let line =
+        "ringplay export --to pcapng two.toml --from 5 --until=9 --baud 9600 --link 257 --no-text";
+    let words = words(rt.alloc(), line)?;
+    let file = String::from_str(rt.alloc(), "two.toml")?;
+    let export = Export {
+        form: Form::Pcapng,
+        window: Window { from: 5, until: 9 },
+        baud: 9600,
+        link: Link::Profibus,
+        strings: Strings::LeftOut,
+    };
+    equal(
+        &rt,
+        &ask(rt.alloc(), &words)?,
+        &Ask::Export { file, export },
+    );
+    Ok(())
+}
+
+#[test]
 fn other_words_get_a_usage_text(rt: HostRuntime) -> Result<(), Fail> {
     for (line, shown) in [
         ("ringplay", "Usage: ringplay <COMMAND>"),
@@ -75,6 +97,12 @@ fn other_words_get_a_usage_text(rt: HostRuntime) -> Result<(), Fail> {
         ("ringplay audit ring.toml 3", "unexpected argument '3'"),
         ("ringplay decode dc0302", "unexpected argument 'dc0302'"),
         ("ringplay decode decode", "unexpected argument 'decode'"),
+        ("ringplay export ring.toml", "--to <FORM>"),
+        ("ringplay export ring.toml --to png", "invalid value 'png'"),
+        (
+            "ringplay export ring.toml --to svg --from 5 --until 4",
+            "--from 5 is past --until 4",
+        ),
         (
             "ringplay --verbose decode",
             "unexpected argument '--verbose'",

@@ -1,0 +1,7 @@
+pub mod sources
+pub mod NoneRaised
+pub mod timely
+pub mod hearing
+pub mod Captured
+pub mod words
+pub mod anywhere

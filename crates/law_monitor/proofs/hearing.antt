@@ -1,0 +1,10 @@
+pub mod Whole
+pub mod Spelled
+pub mod Ears
+pub mod Kept
+pub mod Tapes
+pub mod Filled
+pub mod Passes
+pub mod Events
+pub mod Heard
+pub mod NoneRaised

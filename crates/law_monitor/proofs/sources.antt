@@ -1,0 +1,4 @@
+pub mod Opened
+pub mod Said
+pub mod Entries
+pub mod Worlds

@@ -1,0 +1,8 @@
+-- the clause computes; a false one is refused at once
+use Rattle.std.proofs.Common.{refl}
+use Rattle.law_live.specs.NeverDead.{tries}
+use Rattle.law_rings.proofs.examples.calm_events_are_needed.Goals as goal
+
+pub returns : goal.returns
+unfolding tries
+returns c = refl

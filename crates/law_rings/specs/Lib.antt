@@ -1,0 +1,5 @@
+pub mod Settled
+pub mod Rotation
+pub mod Ring
+pub mod Receipts
+pub mod Examples

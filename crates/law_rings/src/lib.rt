@@ -1,0 +1,13 @@
+//! Bounded rotation: how long a station of a ring waits for the token.
+//!
+//! `specs/Rotation.antt` states it, `specs/Settled.antt` says when a ring is settled. This crate has no code that runs:
+//! its functions have empty bodies, and their contracts are laws.
+#![tactic(auto)]
+
+mod examples;
+mod lists;
+mod theorem;
+
+pub use examples::{calm_events_are_needed, the_bound_is_almost_reached};
+pub use lists::a_token_to_the_next_station_keeps_the_list;
+pub use theorem::{a_rotation_is_bounded, a_settled_ring_stays};

@@ -1,0 +1,5 @@
+pub mod Outcomes
+pub mod Appending
+pub mod Loops
+pub mod Waving
+pub mod Around

@@ -1,0 +1,18 @@
+use Rattle.std.proofs.Common.{◌≡◌, ◌++◌, ℕ, List}
+use Rattle.std.specs.Prelude.{codes}
+use Rattle.pb_export.specs.Lanes.{lines_from}
+use Rattle.pb_texts.proofs.Pieces.{front, more, octets}
+use Rattle.pb_export.proofs.lanes.push_lines.Goals as goal
+
+pub returns : goal.returns
+returns c =
+    let text = c.args.text.now.items in
+    let p0 : List ℕ = codes "<g class=\"line\">\n" in
+    let p1 : List ℕ = lines_from c.args.sheet 0 c.args.sheet.lanes in
+    let p2 : List ℕ = codes "</g>\n" in
+    let q0 : List ℕ = p0 in
+    let q1 : List ℕ = q0 ++ p1 in
+    let q2 : List ℕ = q1 ++ p2 in
+    let s0 : c.extend_from_slice.new.self.items ≡ text ++ q0 = c.in_ok-extend_from_slice.ensures.items in
+    let s1 : c.push_each_line.new.text.items ≡ text ++ q1 = more text c.extend_from_slice.new.self.items c.push_each_line.new.text.items q0 p1 s0 (c.in_ok-push_each_line.ensures) in
+    front c.extend_from_slice-2.result text c.push_each_line.new.text.items c.extend_from_slice-2.new.self.items q1 p2 s1 (octets c.extend_from_slice-2.result c.push_each_line.new.text.items c.extend_from_slice-2.new.self.items p2 c.extend_from_slice-2.ensures.items)

@@ -1,0 +1,57 @@
+-- A trace as a picture.
+use Rattle.std.specs.Prelude.{ℕ, ◌-◌, ◌/◌, ◌*◌, ◌==◌, if◌then◌else◌, List, ◌++◌, [], ◌∷◌, length, codes, decimal}
+use Rattle.std.specs.List.{flat_map}
+use Rattle.law_model.specs.Trace.{Entry}
+use Rattle.pb_scenario.specs.Scenarios.{ScenarioView}
+use Rattle.pb_export.specs.declared.options.Window.{Window}
+use Rattle.pb_export.specs.Sheets.{Sheet}
+use Rattle.pb_export.specs.Pieces.{all_of}
+use Rattle.pb_export.specs.Windows.{shown_in}
+use Rattle.pb_export.specs.Times.{last_moment}
+use Rattle.pb_export.specs.Holders.{tenures_of}
+use Rattle.pb_export.specs.Places.{rows, top}
+use Rattle.pb_export.specs.Lanes.{lanes_text}
+use Rattle.pb_export.specs.Boxes.{entry_box, tenure_box}
+use Rattle.pb_export.specs.Marks.{marks_text}
+use Rattle.pb_export.specs.Rosters.{lanes_of}
+use Rattle.pb_export.specs.Styles.{light, dark, patterns, legend}
+
+-- from a multiple of 100 bit times on, with some lanes
+abbrev pub sheet_of : Window → ScenarioView → List Entry → (lanes : List ℕ) → Sheet
+sheet_of w s es lanes = record { from = w.from / 100 * 100; last = last_moment w s.scenario.until es; lanes = length lanes }
+
+abbrev pub head : Sheet → List ℕ
+head sheet =
+    let height = decimal (top sheet (rows sheet)) in
+    all_of (codes "<svg xmlns=\"http://www.w3.org/2000/svg\" width=\"" ∷ decimal 1170 ∷ codes "\" height=\"" ∷ height
+    ∷ codes "\" viewBox=\"0 0 " ∷ decimal 1170 ∷ codes " " ∷ height ∷ codes "\">\n" ∷ light ∷ dark ∷ patterns
+    ∷ codes "<rect class=\"paper\" width=\"100%\" height=\"100%\"/>\n" ∷ legend ∷ [])
+
+-- how many stations have no lane, if there are any
+abbrev pub left_out : ℕ → List ℕ
+left_out n =
+    if n == 0 then []
+    else all_of (codes "<text x=\"890\" y=\"21\">without " ∷ decimal n ∷ codes " passive stations that send nothing</text>\n" ∷ [])
+
+-- who holds the token
+abbrev pub band : ScenarioView → Sheet → List Entry → List ℕ
+band s sheet es = flat_map (tenure_box s sheet) (tenures_of s es sheet.from sheet.last)
+
+abbrev pub boxes : Window → ScenarioView → Sheet → (lanes : List ℕ) → List Entry → List ℕ
+boxes w s sheet lanes es = shown_in w (entry_box s sheet lanes) es
+
+-- the lanes, who holds the token, the entries that are shown, and the steps
+abbrev pub picture : Window → ScenarioView → List Entry → Sheet → (lanes : List ℕ) → List ℕ
+picture w s es sheet lanes =
+    head sheet
+    ++ left_out (length s.scenario.taps - length lanes)
+    ++ lanes_text s sheet lanes
+    ++ band s sheet es
+    ++ boxes w s sheet lanes es
+    ++ marks_text s sheet lanes
+    ++ codes "</svg>\n"
+
+abbrev pub svg_text : Window → ScenarioView → List Entry → List ℕ
+svg_text w s es =
+    let lanes = lanes_of s.scenario.taps es in
+    picture w s es (sheet_of w s es lanes) lanes

@@ -1,0 +1,38 @@
+//! A trace in the forms that other tools read, and that people look at: JSON lines, pcap and pcapng for Wireshark, VCD for
+//! GTKWave and PulseView, and SVG. Contracts name the bytes of each form.
+#![tactic(auto)]
+
+mod boxes;
+mod exports;
+mod files;
+mod holders;
+mod json;
+mod lanes;
+mod levels;
+mod marks;
+mod names;
+mod options;
+mod pcap;
+mod pcapng;
+mod pieces;
+mod places;
+mod rosters;
+mod runs;
+mod saying;
+mod styles;
+mod svg;
+mod times;
+mod vcd;
+mod waves;
+mod words;
+
+pub use exports::exported;
+pub use files::exported_file;
+pub use holders::{Tenure, tenures_of};
+pub use json::push_json;
+pub use options::{Export, Form, LATEST, Link, Strings, Window};
+pub use pcap::push_pcap;
+pub use pcapng::push_pcapng;
+pub use runs::entries_of;
+pub use svg::push_svg;
+pub use vcd::push_vcd;
