@@ -1,24 +1,25 @@
-/* PROFIBUS data link layer (FDL, IEC 61158-4-3): telegrams, bus parameters, and a station at a line.
+/* PROFIBUS data link layer (FDL, IEC 61158-4-3): telegrams, bus parameters, a station at a line, a bus of stations, and a monitor.
  *
- * Link libpbfdl.a and the toolchain's heap functions (docs/DRIVER.md, "Build"). The functions come from proved code;
- * docs/DRIVER.md says what a driver owes them, and what they promise in return.
+ * Link libpbfdl.a. The archive of a release has all that it needs; that of the repository also needs heap functions
+ * (docs/DRIVER.md, "Build"). The functions come from proved code; docs/DRIVER.md says what a driver owes them, and what they
+ * promise in return.
  *
  * Times are whole bit times. A moment is the number of bit times since the driver's clock began, 0 to 2^61
  * (FDL_LAST_MOMENT). Addresses are 0 to 126; 127 is all stations.
  *
- * Every function but fdl_port_free answers a code: FDL_OK, or the first fault that applies, in the order in which its
- * comment names them. A call that answers another code than FDL_OK changes nothing, except where its comment says so.
+ * Every function but fdl_port_free, fdl_bus_free and fdl_monitor_free answers a code: FDL_OK, or the first fault that applies, in the
+ * order in which its comment names them. A call that answers another code than FDL_OK changes nothing, except where its comment says so.
  *
  * Ownership. An fdl_port is memory of the caller; fdl_port_new makes the station that it points to, and fdl_port_free
- * frees it. Arrays are read or written during the call alone; no pointer to them is kept.
+ * frees it. The same holds of an fdl_bus with fdl_bus_new and fdl_bus_free, and of an fdl_monitor. Arrays are read or written during the call alone; no pointer to them is kept.
  *
- * Threads. One call at a time for a port. Different ports share nothing, but a port stays on the thread that made it. No
- * call from a signal handler. No function blocks, calls back, or writes to a file; only fdl_port_new takes memory and
- * only fdl_port_free gives it back.
+ * Threads. One call at a time for a port, a bus or a monitor. Different ones share nothing, but each stays on the thread that made it.
+ * No call from a signal handler. No function blocks, calls back, or writes to a file. Of the functions for ports only
+ * fdl_port_new takes memory and only fdl_port_free gives it back; those that may take memory for a bus or a monitor name FDL_NO_MEMORY.
  *
  * The caller owes, and nothing checks: no pointer is NULL, also with a length of 0; an array has as many elements as
- * is said; a bool is 0 or 1; an fdl_port begins as FDL_PORT_EMPTY and no code but these functions changes or copies it;
- * what one argument points to is no part of what another one points to. */
+ * is said; a bool is 0 or 1; an fdl_port begins as FDL_PORT_EMPTY, an fdl_bus as FDL_BUS_EMPTY, an fdl_monitor as FDL_MONITOR_EMPTY,
+ * and no code but these functions changes or copies it; what one argument points to is no part of what another one points to. */
 #ifndef PBFDL_H
 #define PBFDL_H
 
@@ -78,7 +79,29 @@ enum fdl_code {
     FDL_LONG_DATA = 66,         /* there are more than 246 octets of data */
     FDL_BAD_KIND = 67,          /* there is no such kind of telegram */
     FDL_NO_ROOM = 68,           /* the array is too short */
-    FDL_NO_INDICATION = 69      /* the last turn executed no such request */
+    FDL_NO_INDICATION = 69,     /* the last turn executed no such request */
+
+    /* Why a bus refuses a call. The functions for a bus use some of the codes above too. FDL_INBOX_FULL: a tap would have
+     * more than 64 unread marks. FDL_BACKWARDS: a moment is before the clock. */
+    FDL_NO_TAPS = 71,           /* there is no tap */
+    FDL_TOO_MANY_TAPS = 72,     /* there are more than 127 taps */
+    FDL_NO_BUS = 73,            /* the bus is empty */
+    FDL_BUS_IN_USE = 74,        /* the bus is not empty */
+    FDL_NO_ENTRY = 75,          /* the trace has no such entry */
+    FDL_NO_SUCH_TAP = 81,       /* there is no tap with this index */
+    FDL_RUNNING = 82,           /* the tap runs, or a telegram of its own is still on the bus */
+    FDL_NOT_RUNNING = 83,       /* the tap does not run, or the station for a request is passive */
+    FDL_NOTHING_IN_AIR = 84,    /* no telegram on the bus can be damaged so, or none has just begun that can be lost */
+    FDL_ZERO_TIME = 85,         /* 0 bit times */
+    FDL_TOO_FAR = 86,           /* the clock would be past the next end on the bus; or noise of 2^32 bit times or more */
+    FDL_CLOCK_FULL = 87,        /* the clock would be over 1,000,000,000,000 */
+    FDL_TRACE_FULL = 90,        /* the trace has 100,000 entries */
+
+    /* Why a monitor refuses a call. */
+    FDL_NO_MONITOR = 91,        /* the monitor is empty */
+    FDL_MONITOR_IN_USE = 92,    /* the monitor is not empty */
+    FDL_BAD_FORM = 93,          /* there is no such form of a capture or of a summary */
+    FDL_FINISHED = 94           /* the capture has ended, or memory was refused in the middle of it */
 };
 
 /* The name of a code, as text that is never freed; "unknown" for a number that is no code. */
@@ -123,6 +146,23 @@ static inline const char *fdl_code_text(uint32_t code)
     case FDL_BAD_KIND: return "bad kind";
     case FDL_NO_ROOM: return "no room";
     case FDL_NO_INDICATION: return "no indication";
+    case FDL_NO_TAPS: return "no taps";
+    case FDL_TOO_MANY_TAPS: return "too many taps";
+    case FDL_NO_BUS: return "no bus";
+    case FDL_BUS_IN_USE: return "bus in use";
+    case FDL_NO_ENTRY: return "no entry";
+    case FDL_NO_SUCH_TAP: return "no such tap";
+    case FDL_RUNNING: return "running";
+    case FDL_NOT_RUNNING: return "not running";
+    case FDL_NOTHING_IN_AIR: return "nothing in air";
+    case FDL_ZERO_TIME: return "zero time";
+    case FDL_TOO_FAR: return "too far";
+    case FDL_CLOCK_FULL: return "clock full";
+    case FDL_TRACE_FULL: return "trace full";
+    case FDL_NO_MONITOR: return "no monitor";
+    case FDL_MONITOR_IN_USE: return "monitor in use";
+    case FDL_BAD_FORM: return "bad form";
+    case FDL_FINISHED: return "finished";
     default: return "unknown";
     }
 }
@@ -130,7 +170,7 @@ static inline const char *fdl_code_text(uint32_t code)
 /* The last moment: 2^61. */
 #define FDL_LAST_MOMENT ((uint64_t)1 << 61)
 
-/* The moment that fdl_port_due answers where nothing is to come. */
+/* The moment that fdl_port_due, fdl_bus_due and fdl_bus_next_change answer where nothing is to come. */
 #define FDL_NEVER UINT64_MAX
 
 /* The longest telegram, and what fdl_port_turn needs room for. */
@@ -345,6 +385,273 @@ uint32_t fdl_port_executed(struct fdl_port *port, uint64_t *count);
 /* What came of the station's last request that had an outcome goes to *outcome.
  * Code: FDL_NO_PORT, with *outcome unchanged. */
 uint32_t fdl_port_outcome(struct fdl_port *port, struct fdl_outcome *outcome);
+
+/* ---- A bus ---- */
+
+/* A bus with stations at its taps: a simulation whose events and moments the caller chooses. A tap is an index, from 0. The
+ * clock counts bit times from 0 to 1,000,000,000,000. The bus is empty where `at` is NULL. */
+struct fdl_bus {
+    void *at;
+};
+
+#define FDL_BUS_EMPTY { NULL }
+
+/* A station of a new bus. */
+struct fdl_tap {
+    uint8_t address;    /* 0 to params->hsa for a master, else 0 to 126 */
+    bool master;        /* whether it is a master; else it is passive */
+    uint8_t count;      /* how many octets it replies to a request for data, at most 246 */
+    uint8_t reply[246]; /* the octets; those from count on have no meaning */
+};
+
+/* How a telegram reached a tap. */
+enum fdl_heard {
+    FDL_OWN = 0,           /* the tap sent it */
+    FDL_WHOLE = 1,         /* it was received whole */
+    FDL_HEARD_DAMAGED = 2, /* it was received damaged, or the tap did not run all the time */
+    FDL_UNHEARD = 3,       /* it was lost */
+    FDL_PENDING = 4        /* it has not reached the tap yet, or there is no such tap */
+};
+
+/* An entry of the trace: a telegram or noise. */
+struct fdl_entry {
+    uint64_t begin;      /* when it begins, in bit times */
+    uint64_t end;        /* when it ends: the first moment after it */
+    bool noise;          /* whether it is noise; then the fields below have no meaning */
+    uint8_t tap;         /* the tap that sent it */
+    uint8_t count;       /* how many octets it has */
+    uint8_t octets[255]; /* the octets; those from count on have no meaning */
+    uint8_t heard[127];  /* an fdl_heard for each tap */
+};
+
+/* What an audit says of the events so far. */
+struct fdl_audit {
+    uint8_t premise; /* the first premise of the token theorem that broke, 1 to 4; 0: none */
+    uint64_t moment; /* the clock after the event that broke it; 0 where none broke */
+    bool illegal;    /* whether a telegram is illegal that only the holder of the token sends */
+    uint64_t entry;  /* the index of the first such entry; 0 where there is none */
+};
+
+/* Makes a bus at clock 0 with count taps, 1 to 127, none of which runs, at an empty bus. Equal addresses are accepted.
+ * Codes: FDL_BUS_IN_USE; a fault of the parameters; FDL_LONG_DATA where a tap's count is over 246; FDL_NO_TAPS;
+ * FDL_TOO_MANY_TAPS; FDL_BAD_STATION for a master's address over params->hsa, or another's over 126; FDL_NO_MEMORY. */
+uint32_t fdl_bus_new(struct fdl_bus *bus, const struct fdl_params *params, const struct fdl_tap *taps, size_t count);
+
+/* Frees a bus, which is empty then. An empty bus stays so. */
+void fdl_bus_free(struct fdl_bus *bus);
+
+/* The station at a tap starts: a master listens for the ring, a passive station waits for requests.
+ * Codes: FDL_NO_BUS, FDL_NO_SUCH_TAP, FDL_RUNNING. */
+uint32_t fdl_bus_start(struct fdl_bus *bus, size_t tap);
+
+/* The station at a tap stops. A telegram that it is sending ends with the character being sent.
+ * Codes: FDL_NO_BUS, FDL_NO_SUCH_TAP, FDL_NOT_RUNNING. */
+uint32_t fdl_bus_stop(struct fdl_bus *bus, size_t tap);
+
+/* The station at a tap takes its turn. Whoever plays single events takes each turn when it is due (fdl_bus_due).
+ * Codes: FDL_NO_BUS; FDL_NO_SUCH_TAP; FDL_NOT_RUNNING; FDL_TRACE_FULL or FDL_NO_MEMORY where it would send. */
+uint32_t fdl_bus_turn(struct fdl_bus *bus, size_t tap);
+
+/* Time passes, in bit times, at most to the next end on the bus (fdl_bus_next_change).
+ * Codes: FDL_NO_BUS, FDL_ZERO_TIME, FDL_TOO_FAR, FDL_CLOCK_FULL, FDL_INBOX_FULL. */
+uint32_t fdl_bus_pass(struct fdl_bus *bus, uint64_t bits);
+
+/* A disturbance that is no telegram reaches every tap from now on, for some bit times, at most 4,294,967,295. Noise that is
+ * on the bus is extended to that end.
+ * Codes: FDL_TOO_FAR for more bit times; FDL_NO_BUS; FDL_ZERO_TIME; FDL_TRACE_FULL; FDL_NO_MEMORY. */
+uint32_t fdl_bus_noise(struct fdl_bus *bus, uint64_t bits);
+
+/* A tap hears a speaker's telegram that is on the bus damaged: the character with index `place`, from 0, or each one where
+ * place is over 255.
+ * Codes: FDL_NO_BUS, FDL_NO_SUCH_TAP, FDL_NOTHING_IN_AIR, FDL_NO_MEMORY. */
+uint32_t fdl_bus_damage(struct fdl_bus *bus, size_t tap, size_t speaker, uint32_t place);
+
+/* The telegram that a speaker has begun at this moment is lost at a tap. This breaks premise 2.
+ * Codes: FDL_NO_BUS, FDL_NO_SUCH_TAP, FDL_NOTHING_IN_AIR. */
+uint32_t fdl_bus_unheard(struct fdl_bus *bus, size_t tap, size_t speaker);
+
+/* A request with count octets of data, at most 246, waits at the master of a tap, behind the others of its priority, for a
+ * station with the address da, or for all stations (127, FDL_SDN alone).
+ * Codes: FDL_BAD_SERVICE, FDL_LONG_DATA, FDL_BAD_STATION, FDL_NO_BUS, FDL_NO_SUCH_TAP, FDL_NOT_RUNNING, FDL_QUEUE_FULL. */
+uint32_t fdl_bus_queue(struct fdl_bus *bus, size_t tap, uint8_t da, uint8_t service, bool high, const uint8_t *data,
+                       size_t count);
+
+/* The bus runs to the moment `until`: instant by instant, the turns that are due, in the order of the taps, then time to the
+ * next instant, as `ringplay run` plays between steps. The turns that are due now are taken first, and those that are due at
+ * `until` too: a caller that acts at that moment before its turns, as a step of a scenario does, runs to until - 1 and lets
+ * one bit time pass.
+ * Codes: FDL_NO_BUS; FDL_BACKWARDS where until is before the clock; FDL_CLOCK_FULL where it is over 1,000,000,000,000; and
+ * those of fdl_bus_turn and fdl_bus_pass: then the bus stands before the refused event, and what happened remains. */
+uint32_t fdl_bus_run(struct fdl_bus *bus, uint64_t until);
+
+/* The clock, in bit times, goes to *now.
+ * Code: FDL_NO_BUS, with *now unchanged. */
+uint32_t fdl_bus_now(struct fdl_bus *bus, uint64_t *now);
+
+/* When the station at a tap has to take its turn: the moment goes to *at, FDL_NEVER where nothing is to come or it does not
+ * run. Each event may change it.
+ * Codes, with *at unchanged: FDL_NO_BUS, FDL_NO_SUCH_TAP. */
+uint32_t fdl_bus_due(struct fdl_bus *bus, size_t tap, uint64_t *at);
+
+/* The next moment at which something changes on the bus apart from turns goes to *at, FDL_NEVER where nothing is to come.
+ * Code: FDL_NO_BUS, with *at unchanged. */
+uint32_t fdl_bus_next_change(struct fdl_bus *bus, uint64_t *at);
+
+/* The phase of the station at a tap, an fdl_phase, goes to *phase.
+ * Codes, with *phase unchanged: FDL_NO_BUS, FDL_NO_SUCH_TAP. */
+uint32_t fdl_bus_phase(struct fdl_bus *bus, size_t tap, uint32_t *phase);
+
+/* Whether an address is in the list of active stations of the station at a tap goes to *active.
+ * Codes, with *active unchanged: FDL_BAD_STATION for an address over 126; FDL_NO_BUS; FDL_NO_SUCH_TAP. */
+uint32_t fdl_bus_is_active(struct fdl_bus *bus, size_t tap, uint8_t address, bool *active);
+
+/* How many requests of others the station at a tap has executed since its start, without repeats, goes to *count.
+ * Codes, with *count unchanged: FDL_NO_BUS, FDL_NO_SUCH_TAP. */
+uint32_t fdl_bus_executed(struct fdl_bus *bus, size_t tap, uint64_t *count);
+
+/* What came of the last request of the station at a tap that had an outcome goes to *outcome.
+ * Codes, with *outcome unchanged: FDL_NO_BUS, FDL_NO_SUCH_TAP. */
+uint32_t fdl_bus_outcome(struct fdl_bus *bus, size_t tap, struct fdl_outcome *outcome);
+
+/* How many entries the trace has goes to *count. An entry that is not over may still change.
+ * Code: FDL_NO_BUS, with *count unchanged. */
+uint32_t fdl_bus_entries(struct fdl_bus *bus, size_t *count);
+
+/* The entry of the trace with an index, from 0, goes to *entry. Entries are in the order of their begins.
+ * Codes, with *entry unchanged: FDL_NO_BUS; FDL_NO_ENTRY where there are no more than index. */
+uint32_t fdl_bus_entry(struct fdl_bus *bus, size_t index, struct fdl_entry *entry);
+
+/* What an audit says of the events so far goes to *audit: where no premise broke, no entry is illegal. It takes time in
+ * proportion to the trace.
+ * Code: FDL_NO_BUS, with *audit unchanged. */
+uint32_t fdl_bus_audit(struct fdl_bus *bus, struct fdl_audit *audit);
+
+/* ---- A monitor ---- */
+
+/* A monitor: it hears a capture as it comes, and says what `ringplay monitor` prints (docs/MONITOR.md). It is empty where `at` is
+ * NULL. */
+struct fdl_monitor {
+    void *at;
+};
+
+#define FDL_MONITOR_EMPTY { NULL }
+
+/* The form of a capture. */
+enum fdl_form {
+    FDL_LINES = 0, /* lines of text, a burst each */
+    FDL_RAW = 1,   /* octets without boundaries */
+    FDL_PCAP = 2   /* pcap or pcapng, link types 257 and 147 */
+};
+
+/* What a monitor says. */
+enum fdl_summary {
+    FDL_TELLS_BURSTS = 0, /* a line for each burst, and a summary at the end */
+    FDL_TELLS_TEXT = 1,   /* a summary alone, as lines for people */
+    FDL_TELLS_JSON = 2,   /* a summary alone, as a JSON object */
+    FDL_TELLS_CSV = 3     /* a summary alone, as a table of the stations */
+};
+
+/* What is asked of a monitor. */
+struct fdl_monitor_options {
+    uint8_t form;    /* an fdl_form */
+    uint8_t summary; /* an fdl_summary */
+    bool judges;     /* whether it judges, by the parameters of the bus; else it decodes and counts alone */
+    bool legality;   /* whether it raises alarms of legality */
+    bool loss;       /* and of a lost token */
+    bool timing;     /* and of timing */
+    uint64_t every;  /* a summary each time that so many bit times have passed; 0: at the end alone */
+    uint32_t baud;   /* bits a second; without it (0) packets have no moments */
+    uint32_t slack;  /* how wrong the difference of two moments may be, in bit times */
+};
+
+/* What is counted for the bus. Counts saturate at 2^64 - 1; moments and durations are in bit times. */
+struct fdl_traffic {
+    bool timed;               /* whether there was a burst with a moment; else first and last are 0 */
+    bool complete;            /* whether the list of active stations is complete: two equal rotations of the token were heard */
+    uint64_t first;           /* the begin of the first burst with a moment */
+    uint64_t last;            /* the end of the last one */
+    uint64_t busy;            /* how long there was a burst, in sum */
+    uint64_t bursts;          /* how many bursts there were */
+    uint64_t after_loss;      /* how many of them spelled no telegram: after a silence that no token in use leaves, */
+    uint64_t taking;          /* in the slot of a token, */
+    uint64_t replying;        /* where a reply was due, */
+    uint64_t other;           /* and anywhere else */
+    uint64_t longest_silence; /* the longest silence between two bursts */
+    uint64_t alarms;          /* how many alarms were raised */
+    uint64_t refused;         /* how many lines, packets or runs of octets were refused */
+};
+
+/* Some durations, in bit times. */
+struct fdl_spread {
+    uint64_t count;    /* how many there are */
+    uint64_t total;    /* their sum */
+    uint64_t least;    /* 0 where there is none */
+    uint64_t greatest; /* 0 where there is none */
+};
+
+/* What a station has shown itself to be. */
+enum fdl_role {
+    FDL_ROLE_UNKNOWN = 0,      /* it has neither sent a token nor replied with its type */
+    FDL_ROLE_PASSIVE = 1,      /* it has replied that it only answers */
+    FDL_ROLE_NOT_READY = 2,    /* that it is a master and not ready to enter the ring */
+    FDL_ROLE_READY = 3,        /* that it is a master and ready to enter the ring */
+    FDL_ROLE_IN_RING = 4       /* it has sent a token, or replied that it is in the ring */
+};
+
+/* What is counted for a station. Counts saturate at 2^64 - 1; moments and durations are in bit times. */
+struct fdl_station_counts {
+    uint8_t role;               /* an fdl_role */
+    bool active;                /* whether it is in the list of active stations */
+    bool timed;                 /* whether a telegram of it with a moment was heard; else last_heard is 0 */
+    uint64_t last_heard;        /* the end of the last one */
+    uint64_t telegrams;         /* how many telegrams it has sent, but replies that nobody asked for */
+    uint64_t tokens;            /* how many tokens */
+    uint64_t claims;            /* how many of them were the first of its claims */
+    uint64_t requests;          /* how many requests */
+    uint64_t polls;             /* how many of them asked for a status */
+    uint64_t repeats;           /* how many tokens and requests had the octets of the one directly before */
+    uint64_t unanswered;        /* how many of its requests nothing answered */
+    uint64_t damaged_answers;   /* how many were answered with damage */
+    uint64_t polled;            /* how often others have asked it for its status */
+    uint64_t tokens_not_taken;  /* how many tokens to it were sent again */
+    struct fdl_spread rotation; /* the time between two receipts of the token */
+    struct fdl_spread taking;   /* from the end of a token to it to its first telegram */
+    struct fdl_spread replying; /* from the end of a request to it to its reply */
+};
+
+/* Makes a monitor that has heard nothing, at an empty monitor. Without options->judges the parameters are not read. It takes
+ * memory, about 30 KB, and later what is said and not taken.
+ * Codes: FDL_MONITOR_IN_USE; FDL_BAD_FORM; where it judges, a fault of the parameters; FDL_NO_MEMORY. */
+uint32_t fdl_monitor_new(struct fdl_monitor *monitor, const struct fdl_monitor_options *options, const struct fdl_params *params);
+
+/* Frees a monitor, which is empty then. An empty monitor stays so. */
+void fdl_monitor_free(struct fdl_monitor *monitor);
+
+/* The next count octets of the capture, cut anywhere. What they complete is said at once: take it by fdl_monitor_next before more
+ * is fed, or it is kept, and takes memory.
+ * Codes: FDL_NO_MONITOR; FDL_FINISHED; FDL_NO_MEMORY: what was said before can still be taken, and the capture has ended. */
+uint32_t fdl_monitor_feed(struct fdl_monitor *monitor, const uint8_t *octets, size_t count);
+
+/* The capture ends: the monitor says what is left of it, and the summary.
+ * Codes: FDL_NO_MONITOR; FDL_FINISHED; FDL_NO_MEMORY, as above. */
+uint32_t fdl_monitor_finish(struct fdl_monitor *monitor);
+
+/* The next octets of what the monitor has said, at most room, go to out, and their number to *count, 0 where none are left: nothing
+ * is left out, and nothing comes twice. A line may come in pieces. What out holds behind them is unchanged.
+ * Code: FDL_NO_MONITOR, with *count 0. */
+uint32_t fdl_monitor_next(struct fdl_monitor *monitor, uint8_t *out, size_t room, size_t *count);
+
+/* Whether input was refused or an alarm raised goes to *refused.
+ * Code: FDL_NO_MONITOR, with *refused unchanged. */
+uint32_t fdl_monitor_is_refused(struct fdl_monitor *monitor, bool *refused);
+
+/* What is counted for the bus goes to *traffic.
+ * Code: FDL_NO_MONITOR, with *traffic unchanged. */
+uint32_t fdl_monitor_traffic(struct fdl_monitor *monitor, struct fdl_traffic *traffic);
+
+/* What is counted for the station with an address goes to *counts.
+ * Codes, with *counts unchanged: FDL_BAD_STATION for an address over 126; FDL_NO_MONITOR. */
+uint32_t fdl_monitor_station(struct fdl_monitor *monitor, uint8_t address, struct fdl_station_counts *counts);
 
 #ifdef __cplusplus
 }

@@ -1,5 +1,5 @@
 #!/bin/sh
-# A campaign as an array of Slurm jobs, 500 runs each, from this clone on a file system that all nodes have. For 20,000 runs:
+# A campaign as an array of Slurm jobs, 500 runs each, from this clone or release on a file system that all nodes have. For 20,000 runs:
 #
 #     sbatch --array=0-39 --wait examples/campaigns/slurm.sh PLAN.toml ROWS.csv
 #     tools/campaign join PLAN.toml --out ROWS.csv --chunk 500

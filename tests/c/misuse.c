@@ -1,5 +1,5 @@
-/* Every function of the library with arguments out of range, an empty port, a port in use, and each allocation of a port
- * refused in turn. Prints what differs from what is expected, and at last how many answers are right. */
+/* Every function of the library with arguments out of range, an empty port, bus or monitor, one in use, and each allocation
+ * of one refused in turn. Prints what differs from what is expected, and at last how many answers are right. */
 #include "pbfdl.h"
 
 #include <stdio.h>
@@ -254,6 +254,318 @@ static void with_memory_refused(void)
     granted = -1;
 }
 
+static const struct fdl_tap stations[] = {{.address = 1, .master = true}, {.address = 2, .master = true}, {.address = 9}};
+
+static void on_an_empty_bus(void)
+{
+    struct fdl_bus bus = FDL_BUS_EMPTY;
+    uint64_t moment = 7;
+    uint32_t phase = 7;
+    size_t count = 7;
+    bool active = true;
+    static struct fdl_outcome outcome;
+    static struct fdl_entry entry;
+    static struct fdl_audit audit;
+    fdl_bus_free(&bus);
+    WANT(FDL_NO_BUS, fdl_bus_start(&bus, 0));
+    WANT(FDL_NO_BUS, fdl_bus_stop(&bus, 0));
+    WANT(FDL_NO_BUS, fdl_bus_turn(&bus, 0));
+    WANT(FDL_NO_BUS, fdl_bus_pass(&bus, 1));
+    WANT(FDL_NO_BUS, fdl_bus_noise(&bus, UINT32_MAX));
+    WANT(FDL_TOO_FAR, fdl_bus_noise(&bus, (uint64_t)UINT32_MAX + 1));
+    WANT(FDL_NO_BUS, fdl_bus_damage(&bus, 0, 1, 0));
+    WANT(FDL_NO_BUS, fdl_bus_unheard(&bus, 0, 1));
+    WANT(FDL_BAD_SERVICE, fdl_bus_queue(&bus, 0, 2, 3, false, octets, 247));
+    WANT(FDL_LONG_DATA, fdl_bus_queue(&bus, 0, 127, FDL_SDA, false, octets, 247));
+    WANT(FDL_BAD_STATION, fdl_bus_queue(&bus, 0, 127, FDL_SDA, false, octets, 1));
+    WANT(FDL_NO_BUS, fdl_bus_queue(&bus, 0, 2, FDL_SDA, false, octets, 1));
+    WANT(FDL_NO_BUS, fdl_bus_run(&bus, 0));
+    WANT(FDL_NO_BUS, fdl_bus_now(&bus, &moment));
+    WANT(FDL_NO_BUS, fdl_bus_due(&bus, 0, &moment));
+    WANT(FDL_NO_BUS, fdl_bus_next_change(&bus, &moment));
+    WANT(FDL_NO_BUS, fdl_bus_phase(&bus, 0, &phase));
+    WANT(FDL_BAD_STATION, fdl_bus_is_active(&bus, 0, 127, &active));
+    WANT(FDL_NO_BUS, fdl_bus_is_active(&bus, 0, 126, &active));
+    WANT(FDL_NO_BUS, fdl_bus_executed(&bus, 0, &moment));
+    WANT(FDL_NO_BUS, fdl_bus_outcome(&bus, 0, &outcome));
+    WANT(FDL_NO_BUS, fdl_bus_entries(&bus, &count));
+    WANT(FDL_NO_BUS, fdl_bus_entry(&bus, 0, &entry));
+    WANT(FDL_NO_BUS, fdl_bus_audit(&bus, &audit));
+    want(1, moment == 7 && phase == 7 && count == 7 && active, "nothing is written");
+    want(1, bus.at == NULL, "the bus stays empty");
+}
+
+static void on_a_new_bus(void)
+{
+    static struct fdl_tap many[128];
+    struct fdl_bus bus = FDL_BUS_EMPTY;
+    struct fdl_params late = usual;
+    late.lag = 40;
+    many[127].count = 247;
+    WANT(FDL_PARAM_TAKE_LATE, fdl_bus_new(&bus, &late, many, 128));
+    WANT(FDL_LONG_DATA, fdl_bus_new(&bus, &usual, many, 128));
+    many[127].count = 246;
+    many[0].address = 127;
+    WANT(FDL_TOO_MANY_TAPS, fdl_bus_new(&bus, &usual, many, 128));
+    WANT(FDL_NO_TAPS, fdl_bus_new(&bus, &usual, many, 0));
+    WANT(FDL_BAD_STATION, fdl_bus_new(&bus, &usual, many, 127));
+    many[0].address = 6;
+    many[0].master = true;
+    WANT(FDL_BAD_STATION, fdl_bus_new(&bus, &usual, many, 127));
+    want(1, bus.at == NULL, "a refused bus is empty");
+    many[0].address = 5;
+    WANT(FDL_OK, fdl_bus_new(&bus, &usual, many, 127));
+    WANT(FDL_BUS_IN_USE, fdl_bus_new(&bus, &late, many, 128));
+    fdl_bus_free(&bus);
+    want(1, bus.at == NULL, "a freed bus is empty");
+    fdl_bus_free(&bus);
+}
+
+static void on_events(void)
+{
+    struct fdl_bus bus = FDL_BUS_EMPTY;
+    uint64_t moment = 7;
+    WANT(FDL_OK, fdl_bus_new(&bus, &usual, stations, 3));
+    WANT(FDL_NO_SUCH_TAP, fdl_bus_start(&bus, 3));
+    WANT(FDL_NO_SUCH_TAP, fdl_bus_stop(&bus, SIZE_MAX));
+    WANT(FDL_NOT_RUNNING, fdl_bus_stop(&bus, 0));
+    WANT(FDL_NO_SUCH_TAP, fdl_bus_turn(&bus, 3));
+    WANT(FDL_NOT_RUNNING, fdl_bus_turn(&bus, 0));
+    WANT(FDL_OK, fdl_bus_start(&bus, 0));
+    WANT(FDL_RUNNING, fdl_bus_start(&bus, 0));
+    WANT(FDL_OK, fdl_bus_start(&bus, 1));
+    WANT(FDL_OK, fdl_bus_start(&bus, 2));
+    WANT(FDL_NO_SUCH_TAP, fdl_bus_queue(&bus, 3, 2, FDL_SDA, true, octets, 1));
+    WANT(FDL_NOT_RUNNING, fdl_bus_queue(&bus, 2, 2, FDL_SDA, true, octets, 1));
+    for (int i = 0; i < 16; i++)
+        WANT(FDL_OK, fdl_bus_queue(&bus, 1, 127, FDL_SDN, true, octets, 246));
+    WANT(FDL_QUEUE_FULL, fdl_bus_queue(&bus, 1, 2, FDL_SDA, true, octets, 1));
+    WANT(FDL_ZERO_TIME, fdl_bus_pass(&bus, 0));
+    WANT(FDL_CLOCK_FULL, fdl_bus_pass(&bus, UINT64_MAX));
+    WANT(FDL_CLOCK_FULL, fdl_bus_pass(&bus, 1000000000001));
+    WANT(FDL_ZERO_TIME, fdl_bus_noise(&bus, 0));
+    WANT(FDL_TOO_FAR, fdl_bus_noise(&bus, UINT64_MAX));
+    WANT(FDL_NO_SUCH_TAP, fdl_bus_damage(&bus, 0, 3, 0));
+    WANT(FDL_NOTHING_IN_AIR, fdl_bus_damage(&bus, 0, 1, 256));
+    WANT(FDL_NO_SUCH_TAP, fdl_bus_unheard(&bus, 3, 0));
+    WANT(FDL_NOTHING_IN_AIR, fdl_bus_unheard(&bus, 0, 1));
+    WANT(FDL_OK, fdl_bus_due(&bus, 0, &moment));
+    want(800, (uint32_t)moment, "a master claims the token after its time-out");
+    WANT(FDL_OK, fdl_bus_pass(&bus, 800));
+    WANT(FDL_OK, fdl_bus_turn(&bus, 0));
+    WANT(FDL_OK, fdl_bus_next_change(&bus, &moment));
+    want(801, (uint32_t)moment, "the others can know of its telegram then");
+    WANT(FDL_TOO_FAR, fdl_bus_pass(&bus, 34));
+    WANT(FDL_OK, fdl_bus_damage(&bus, 1, 0, 2));
+    WANT(FDL_NOTHING_IN_AIR, fdl_bus_damage(&bus, 1, 0, 3));
+    WANT(FDL_OK, fdl_bus_damage(&bus, 1, 0, UINT32_MAX));
+    WANT(FDL_OK, fdl_bus_pass(&bus, 33));
+    WANT(FDL_OK, fdl_bus_now(&bus, &moment));
+    want(833, (uint32_t)moment, "the clock");
+    WANT(FDL_OK, fdl_bus_noise(&bus, 5));
+    WANT(FDL_OK, fdl_bus_stop(&bus, 0));
+    WANT(FDL_OK, fdl_bus_due(&bus, 0, &moment));
+    want(1, moment == FDL_NEVER, "a stopped station is never due");
+    fdl_bus_free(&bus);
+}
+
+static void on_a_run(void)
+{
+    struct fdl_bus bus = FDL_BUS_EMPTY;
+    uint64_t moment = 7;
+    uint32_t phase = 7;
+    size_t count = 7;
+    bool active = false;
+    struct fdl_outcome outcome;
+    struct fdl_entry entry;
+    struct fdl_audit audit;
+    WANT(FDL_OK, fdl_bus_new(&bus, &usual, stations, 3));
+    for (size_t tap = 0; tap < 3; tap++)
+        WANT(FDL_OK, fdl_bus_start(&bus, tap));
+    WANT(FDL_OK, fdl_bus_run(&bus, 1000));
+    WANT(FDL_BACKWARDS, fdl_bus_run(&bus, 999));
+    WANT(FDL_CLOCK_FULL, fdl_bus_run(&bus, 1000000000001));
+    WANT(FDL_OK, fdl_bus_queue(&bus, 0, 9, FDL_SRD, true, octets, 1));
+    WANT(FDL_OK, fdl_bus_run(&bus, 5000));
+    WANT(FDL_OK, fdl_bus_run(&bus, 5000));
+    WANT(FDL_OK, fdl_bus_now(&bus, &moment));
+    want(5000, (uint32_t)moment, "the clock");
+    WANT(FDL_NO_SUCH_TAP, fdl_bus_due(&bus, 3, &moment));
+    WANT(FDL_NO_SUCH_TAP, fdl_bus_phase(&bus, 3, &phase));
+    WANT(FDL_OK, fdl_bus_phase(&bus, 2, &phase));
+    want(FDL_PASSIVE_IDLE, phase, "a passive station waits");
+    WANT(FDL_BAD_STATION, fdl_bus_is_active(&bus, 3, 127, &active));
+    WANT(FDL_NO_SUCH_TAP, fdl_bus_is_active(&bus, 3, 1, &active));
+    WANT(FDL_OK, fdl_bus_is_active(&bus, 0, 2, &active));
+    want(1, active, "the other master is in the ring");
+    WANT(FDL_NO_SUCH_TAP, fdl_bus_executed(&bus, 3, &moment));
+    WANT(FDL_OK, fdl_bus_executed(&bus, 2, &moment));
+    want(1, (uint32_t)moment, "the request was executed once");
+    WANT(FDL_NO_SUCH_TAP, fdl_bus_outcome(&bus, 3, &outcome));
+    WANT(FDL_OK, fdl_bus_outcome(&bus, 0, &outcome));
+    want(1, outcome.kind != FDL_NO_OUTCOME && outcome.station == 9, "it had an outcome");
+    WANT(FDL_OK, fdl_bus_entries(&bus, &count));
+    WANT(FDL_NO_ENTRY, fdl_bus_entry(&bus, count, &entry));
+    WANT(FDL_OK, fdl_bus_entry(&bus, 0, &entry));
+    want(1, entry.begin == 800 && entry.end == 833 && !entry.noise && entry.tap == 0 && entry.count == 3, "the claim");
+    want(1, entry.heard[0] == FDL_OWN && entry.heard[1] == FDL_WHOLE && entry.heard[3] == FDL_PENDING, "as each tap heard it");
+    WANT(FDL_OK, fdl_bus_audit(&bus, &audit));
+    want(1, audit.premise == 0 && !audit.illegal, "no premise broke");
+    WANT(FDL_OK, fdl_bus_pass(&bus, 1));
+    fdl_bus_free(&bus);
+}
+
+static void with_memory_for_a_bus_refused(void)
+{
+    struct fdl_bus bus = FDL_BUS_EMPTY;
+    uint64_t moment = 0;
+    for (granted = 0;; granted++) {
+        const long allowed = granted;
+        const uint32_t code = fdl_bus_new(&bus, &usual, stations, 2);
+        granted = allowed;
+        if (code == FDL_OK)
+            break;
+        want(FDL_NO_MEMORY, code, "a refused allocation");
+        want(1, bus.at == NULL, "a bus without memory is empty");
+    }
+    want(1, granted > 0, "an allocation is refused");
+    granted = -1;
+    WANT(FDL_OK, fdl_bus_start(&bus, 0));
+    granted = 0;
+    WANT(FDL_NO_MEMORY, fdl_bus_run(&bus, 2000));
+    WANT(FDL_OK, fdl_bus_now(&bus, &moment));
+    want(800, (uint32_t)moment, "it stands before the turn that sends");
+    WANT(FDL_NO_MEMORY, fdl_bus_turn(&bus, 0));
+    granted = -1;
+    WANT(FDL_OK, fdl_bus_run(&bus, 2000));
+    fdl_bus_free(&bus);
+}
+
+static const struct fdl_monitor_options all = {.judges = true, .legality = true, .loss = true, .timing = true};
+static const char ring[] = "800 833 dc0101\n870 903 dc0101\n940 1006 100201494c16\n";
+static const char answer[] = "800 833 token da=1 sa=1 | token to itself | holder 1\n870 903 token da=1 sa=1 | token to itself | holder 1\n"
+                             "940 1006 short da=2 sa=1 fc=49 | FDL status request | holder 1\n";
+
+static void on_an_empty_monitor(void)
+{
+    struct fdl_monitor monitor = FDL_MONITOR_EMPTY;
+    struct fdl_traffic traffic = {.bursts = 7};
+    struct fdl_station_counts counts = {.tokens = 7};
+    size_t count = 7;
+    bool refused = true;
+    octets[0] = 7;
+    fdl_monitor_free(&monitor);
+    WANT(FDL_NO_MONITOR, fdl_monitor_feed(&monitor, octets, 1));
+    WANT(FDL_NO_MONITOR, fdl_monitor_finish(&monitor));
+    WANT(FDL_NO_MONITOR, fdl_monitor_next(&monitor, octets, sizeof octets, &count));
+    want(0, (uint32_t)count, "nothing is taken");
+    WANT(FDL_NO_MONITOR, fdl_monitor_is_refused(&monitor, &refused));
+    WANT(FDL_NO_MONITOR, fdl_monitor_traffic(&monitor, &traffic));
+    WANT(FDL_BAD_STATION, fdl_monitor_station(&monitor, 127, &counts));
+    WANT(FDL_NO_MONITOR, fdl_monitor_station(&monitor, 126, &counts));
+    want(1, refused && octets[0] == 7 && traffic.bursts == 7 && counts.tokens == 7, "nothing is written");
+    want(1, monitor.at == NULL, "the monitor stays empty");
+}
+
+static void on_a_new_monitor(void)
+{
+    struct fdl_monitor monitor = FDL_MONITOR_EMPTY;
+    struct fdl_monitor_options options = all;
+    struct fdl_params late = usual;
+    late.lag = 40;
+    options.form = 3;
+    WANT(FDL_BAD_FORM, fdl_monitor_new(&monitor, &options, &late));
+    options.form = FDL_PCAP;
+    options.summary = 4;
+    WANT(FDL_BAD_FORM, fdl_monitor_new(&monitor, &options, &late));
+    options.summary = FDL_TELLS_CSV;
+    WANT(FDL_PARAM_TAKE_LATE, fdl_monitor_new(&monitor, &options, &late));
+    want(1, monitor.at == NULL, "a refused monitor is empty");
+    options.judges = false;
+    WANT(FDL_OK, fdl_monitor_new(&monitor, &options, &late));
+    options.form = 255;
+    WANT(FDL_MONITOR_IN_USE, fdl_monitor_new(&monitor, &options, &late));
+    fdl_monitor_free(&monitor);
+    want(1, monitor.at == NULL, "a freed monitor is empty");
+    fdl_monitor_free(&monitor);
+}
+
+/* The capture comes octet by octet; what is said is taken at last, three octets at a time. */
+static void on_a_capture(void)
+{
+    static char said[4096];
+    struct fdl_monitor monitor = FDL_MONITOR_EMPTY;
+    struct fdl_traffic traffic;
+    struct fdl_station_counts counts;
+    size_t count, taken = 0;
+    bool refused = true;
+    WANT(FDL_OK, fdl_monitor_new(&monitor, &all, &usual));
+    WANT(FDL_OK, fdl_monitor_feed(&monitor, octets, 0));
+    for (size_t k = 0; k < sizeof ring - 1; k++)
+        WANT(FDL_OK, fdl_monitor_feed(&monitor, (const uint8_t *)&ring[k], 1));
+    WANT(FDL_OK, fdl_monitor_next(&monitor, octets, 0, &count));
+    want(0, (uint32_t)count, "there is no room");
+    octets[3] = 7;
+    do {
+        WANT(FDL_OK, fdl_monitor_next(&monitor, octets, 3, &count));
+        memcpy(&said[taken], octets, count);
+        taken += count;
+        if (taken == 30)
+            WANT(FDL_OK, fdl_monitor_feed(&monitor, (const uint8_t *)"# a remark\n", 11));
+    } while (count > 0 && taken < sizeof said - 3);
+    want(7, octets[3], "what is behind the room is unchanged");
+    want(1, taken == sizeof answer - 1 && !memcmp(said, answer, taken), "the lines of the capture");
+    WANT(FDL_OK, fdl_monitor_is_refused(&monitor, &refused));
+    want(0, refused, "nothing is wrong with it");
+    WANT(FDL_OK, fdl_monitor_feed(&monitor, (const uint8_t *)"what\n", 5));
+    WANT(FDL_OK, fdl_monitor_is_refused(&monitor, &refused));
+    want(1, refused, "a line is refused");
+    WANT(FDL_OK, fdl_monitor_finish(&monitor));
+    WANT(FDL_FINISHED, fdl_monitor_finish(&monitor));
+    WANT(FDL_FINISHED, fdl_monitor_feed(&monitor, octets, 1));
+    WANT(FDL_OK, fdl_monitor_next(&monitor, (uint8_t *)said, sizeof said, &count));
+    want(1, count > 20 && !memcmp(said, "refused line 5: ", 16), "what is wrong, and a summary");
+    WANT(FDL_OK, fdl_monitor_traffic(&monitor, &traffic));
+    want(1, traffic.timed && traffic.first == 800 && traffic.last == 1006 && traffic.bursts == 3 && traffic.refused == 1, "its traffic");
+    WANT(FDL_BAD_STATION, fdl_monitor_station(&monitor, 127, &counts));
+    WANT(FDL_OK, fdl_monitor_station(&monitor, 126, &counts));
+    want(1, counts.role == FDL_ROLE_UNKNOWN && counts.telegrams == 0 && !counts.timed, "a station that wasn't heard");
+    WANT(FDL_OK, fdl_monitor_station(&monitor, 1, &counts));
+    want(1, counts.role == FDL_ROLE_IN_RING && counts.tokens == 2 && counts.polls == 1 && counts.last_heard == 1006, "and one that was");
+    fdl_monitor_free(&monitor);
+}
+
+/* Whether a monitor hears a capture with so many allocations; what it said before one is refused can be taken. */
+static bool is_heard(long allowed)
+{
+    struct fdl_monitor monitor = FDL_MONITOR_EMPTY;
+    size_t count;
+    granted = allowed;
+    const uint32_t made = fdl_monitor_new(&monitor, &all, &usual);
+    want(made == FDL_OK, monitor.at != NULL, "a monitor without memory is empty");
+    const uint32_t fed = made ? made : fdl_monitor_feed(&monitor, (const uint8_t *)ring, sizeof ring - 1);
+    const uint32_t again = fed ? fed : fdl_monitor_feed(&monitor, (const uint8_t *)ring, sizeof ring - 1);
+    granted = -1;
+    if (!made && again)
+        WANT(FDL_FINISHED, fdl_monitor_feed(&monitor, octets, 1));
+    if (!made) {
+        WANT(FDL_OK, fdl_monitor_next(&monitor, octets, sizeof octets, &count));
+        want(1, fed ? count == 0 : !memcmp(octets, answer, sizeof answer - 1), "what was said is kept");
+    }
+    fdl_monitor_free(&monitor);
+    if (again)
+        want(FDL_NO_MEMORY, again, "a refused allocation");
+    return again == FDL_OK;
+}
+
+static void with_memory_for_a_monitor_refused(void)
+{
+    long allowed = 0;
+    while (!is_heard(allowed))
+        allowed++;
+    want(1, allowed > 3, "allocations are refused");
+}
+
 int main(void)
 {
     on_an_empty_port();
@@ -263,6 +575,15 @@ int main(void)
     on_telegrams();
     on_receivers();
     with_memory_refused();
+    on_an_empty_bus();
+    on_a_new_bus();
+    on_events();
+    on_a_run();
+    with_memory_for_a_bus_refused();
+    on_an_empty_monitor();
+    on_a_new_monitor();
+    on_a_capture();
+    with_memory_for_a_monitor_refused();
     printf("misuse: %d right, %d wrong\n", right, wrong);
     return wrong != 0;
 }

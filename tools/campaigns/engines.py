@@ -79,12 +79,14 @@ class Campaign:
 
 
 def program(given: str | None) -> pathlib.Path:
-    """The program that is named, or the one that `./ringplay` starts, built first where it has to be."""
+    """The program that is named, that of a release, or the one that `./ringplay` starts, built first where it has to be."""
     if given:
         found = pathlib.Path(given)
         if not os.access(found, os.X_OK):
             raise Stop(f"{given} is no program that can be started; allowed: a built ringplay", 2)
         return found.resolve()
+    if (released := programs.TOP / "bin/ringplay").exists():
+        return released
     if subprocess.run([programs.TOP / "ringplay", "--version"], stdout=subprocess.DEVNULL).returncode:
         raise Stop("./ringplay cannot be built; see its message above")
     is_stale = subprocess.run([TOOLS / "is-stale", programs.RINGPLAY]).returncode == 0

@@ -37,6 +37,7 @@ LABELS = {
     "claims": "claims of the token",
     "without_token": "longest time without a token (bit times)",
     "never_dead_bound": "its proved bound (bit times)",
+    "rotation_bound": "proved bound of a settled ring (bit times)",
     "bound_percent": "longest time without a token (percent of its bound)",
 }
 

@@ -39,6 +39,7 @@ MEASURES = (
     "rotation_least",
     "rotation_mean",
     "rotation_greatest",
+    "rotation_bound",  # of a settled ring of all masters that nothing disturbs; none without a master
     "tokens",  # sent, by all
     "requests",  # sent, by all, status requests too
     "repeats",  # tokens and requests sent again
@@ -142,7 +143,8 @@ def measured(played: Played, is_whole: bool) -> Row:
     # Refused bursts have lines of their own before the summary.
     row |= heard(json.loads(played.text("monitor").splitlines()[-1])) if is_whole else {}
     bounds = traces.bounds_of(played.made.scenario)
-    row |= stretched(played.made, lines, bounds)
+    row["rotation_bound"] = "" if bounds.rotation is None else bounds.rotation
+    row |= stretched(played.made, lines, bounds.never_dead)
     addresses = {tap["name"]: tap["address"] for tap in played.made.scenario["tap"]}
     row["verdict"] = verdict(row, traces.holders_fault(lines, addresses))
     if is_whole and bounds != bounds_in(played.text("bounds")):
@@ -150,9 +152,11 @@ def measured(played: Played, is_whole: bool) -> Row:
     return row
 
 
-def bounds_in(text: str) -> dict[str, int]:
-    """The never-dead bounds that `bounds --json` prints, by master."""
-    return {master["name"]: master["never_dead_bound"]["bit_times"] for master in json.loads(text)["masters"]}
+def bounds_in(text: str) -> traces.Bounds:
+    """What `bounds --json` prints."""
+    printed = json.loads(text)
+    never_dead = {master["name"]: master["never_dead_bound"]["bit_times"] for master in printed["masters"]}
+    return traces.Bounds(never_dead, printed["rotation_bound"]["bit_times"] if never_dead else None)
 
 
 def heard(summary: dict[str, typing.Any]) -> Row:

@@ -5,6 +5,8 @@ import typing
 
 # The bits of the longest telegram.
 LONGEST = 255 * 11
+# A token.
+TOKEN = 3 * 11
 
 
 @dataclasses.dataclass(frozen=True)
@@ -82,14 +84,25 @@ def longest_gap(lines: list[Line], begin: int, end: int) -> int:
     return max(longest, end - calm)
 
 
-def bounds_of(scenario: dict[str, typing.Any]) -> dict[str, int]:
-    """The never-dead bound of each master, as it is defined (`longest_without`), to compare with what the program prints."""
+@dataclasses.dataclass(frozen=True)
+class Bounds:
+    """What is proved of a bus: the never-dead bound of each master, and the rotation bound, if there is a master."""
+
+    never_dead: dict[str, int]
+    rotation: int | None
+
+
+def bounds_of(scenario: dict[str, typing.Any]) -> Bounds:
+    """The bounds as they are defined (`longest_without`, `rotation_time`), to compare with what the program prints."""
     bus = scenario["bus"]
+    delay = bus.get("ttd", 0)
     to_reply = 2 * LONGEST + bus["tsl"] - 1
     attempt = to_reply + bus["tid1"] + bus["lag"]
-    shared = bus["ttr"] - 1 + (2 * bus["retries"] + 1) * attempt + to_reply + bus["lag"] + bus.get("ttd", 0)
+    cycle = (bus["retries"] + 1) * attempt
+    shared = bus["ttr"] - 1 + cycle + bus["retries"] * attempt + to_reply + bus["lag"] + delay
     masters = [tap for tap in scenario["tap"] if tap["kind"] == "master"]
-    return {tap["name"]: shared + (6 + 2 * tap["address"]) * bus["tsl"] for tap in masters}
+    rotation = bus["ttr"] + cycle + len(masters) * (cycle + TOKEN + delay + bus["tid1"] + bus["lag"])
+    return Bounds({tap["name"]: shared + (6 + 2 * tap["address"]) * bus["tsl"] for tap in masters}, rotation if masters else None)
 
 
 def stretch_of(lines: list[Line], stays: dict[str, list[tuple[int, int]]], bounds: dict[str, int]) -> Stretch | None:

@@ -23,7 +23,7 @@ use Rattle.law_token.specs.Lists.{Each}
 use Rattle.law_token.specs.Entries.{EntryHolds}
 use Rattle.law_token.proofs.bus.Lists.{each_in}
 use Rattle.law_token.proofs.pass.Brings.{Filling, filling}
-use Rattle.law_token.proofs.pass.Spelled.{spelled_at}
+use Rattle.law_token.proofs.pass.Spelled.{spelled_at, is_none_of}
 use Rattle.law_live.specs.NeverDead.{is_token_telegram}
 use Rattle.law_live.specs.Flow.{IsCalmBy, EndsBy}
 use Rattle.law_live.proofs.DueReplies.{IfRequest}
@@ -37,11 +37,6 @@ plain tap hits place start [] e = refl
 plain tap hits place start (o ∷ os) e =
     by_test (λ (c : RxChar). position_from is_bad start (c ∷ characters_from tap hits (place + 1) os) ≡ None → c ∷ characters_from tap hits (place + 1) os ≡ map Good (o ∷ os)) (list_any (hits_place tap place) hits) Bad (Good o)
     (λ _ f. absurd cc) (λ _ f. ap (λ (cs : List RxChar). Good o ∷ cs) (plain tap hits (place + 1) (start + 1) os f)) e
-
--- an option that is not some is none
-is_none_of : {X : Type 0} (o : Option X) → is_some o ≡ false → o ≡ None
-is_none_of {X} None e = refl
-is_none_of {X} (Some x) e = absurd cc
 
 -- characters that bring a framed telegram have no fault, and their octets bring it
 framed : (o : Option TelegramFault) (xs : List ℕ) (f : Fields) → arrival_unless o xs ≡ Framed f → (o ≡ None) × (telegram_arrival xs ≡ Framed f)

@@ -40,6 +40,8 @@ use Rattle.law_live.proofs.Passes.{IsOrdered, calm_earlier, pass_flow}
 use Rattle.law_live.proofs.DueReplies.{DueBy}
 use Rattle.law_live.proofs.ChangedEntries.{Changes, EachChanges, NoneIsCut, calm_before, ends_before, short_after, replies_after, requests_after, tap_after, due_weaker, all_change, first_changes, hit_changes, noise_changes, cut_changes, pass_changes}
 use Rattle.law_live.proofs.Turns.{turn_flow, tap_kept}
+use Rattle.law_token.proofs.turn.Last.{asks_of}
+use Rattle.law_token.proofs.whole.Stays.{runs_then}
 
 -- ---- of entries that are in order
 
@@ -106,21 +108,11 @@ changed_flow IsCut w xs taps s began each f = record {
 abbrev pub KeepsFlow : World → Event → Type 0
 KeepsFlow w e = (waited all : List Waited) (next : World) (reply : world.Reply) → step w e ≡ Ok (next, reply) → Invariant w waited → Invariant next all → Flow w → Flow next
 
--- an open request that is in order can be asked
-asks_of : (o : Option OpenRequest) → IfSome o IsOpenRequest → Asks o
-asks_of None h = tt
-asks_of (Some r) h = h.request
-
 -- a new record is without a fault, as all are
 said_sound : (p : Params) (now : ℕ) (taps : List Tap) (es tr : List Entry) (waited : List Waited) (last : Option Record) (k : ℕ) (said : Option (List ℕ)) {X : Type 0} (xs : List X) → Each (EntryHolds p now taps tr waited last) (with_said k said now xs es)
     → IfSome said (λ octets. fault_of (map Good octets) ≡ None)
 said_sound p now taps es tr waited last k None xs all = tt
 said_sound p now taps es tr waited last k (Some octets) xs all = (each_without (EntryHolds p now taps tr waited last) (Sent (sending k octets now xs)) es all).0.spelled
-
--- a tap that is not refused runs
-runs_then : (b : Bool) → not b ≡ false → b ≡ true
-runs_then true e = refl
-runs_then false e = absurd cc
 
 -- a turn: what it says leaves time
 turn_kept : (w : World) (k : ℕ) → KeepsFlow w (Turn k)

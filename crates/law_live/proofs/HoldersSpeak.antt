@@ -30,7 +30,7 @@ some-is : (a b : ℕ) → Some a ≡ Some b → a ≡ b
 some-is a b e = cc
 
 -- it is two cycles at most behind the target rotation time
-limit-most : (p : Params) (recent d : ℕ) (high : Bool) → limit p recent d high ≤ limit p recent d true
+pub limit-most : (p : Params) (recent d : ℕ) (high : Bool) → limit p recent d high ≤ limit p recent d true
 limit-most p recent d false = omega arith
 limit-most p recent d true = omega arith
 

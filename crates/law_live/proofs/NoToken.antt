@@ -16,6 +16,7 @@ use Rattle.law_token.proofs.bus.Lists.{each_map, each_both}
 use Rattle.law_live.specs.NeverDead.{longest, attempt, cycle, cycle_to_reply, tries, is_token_record, is_token_within, is_noise_within}
 use Rattle.law_live.specs.Holding.{limit}
 use Rattle.law_live.specs.Flow.{IsCalmBy, BeganBefore, EndsBy, IsShort, RepliesBy, RequestsBy, Flow}
+use Rattle.law_token.proofs.quiet.Bound.{none_of}
 
 -- what holds of each entry twice
 pub each_pair : (P Q : Entry → Type 0) (es : List Entry) → Each P es → Each Q es → Each (λ e. P e × Q e) es
@@ -29,13 +30,8 @@ each_three P Q R S (e ∷ es) f a b c = (f e a.0 b.0 c.0, each_three P Q R S es 
 
 -- ---- a stretch without tokens and noise
 
--- where no entry passes a test, each fails it
-none_of : (test : Entry → Bool) (es : List Entry) → list_any test es ≡ false → Each (λ e. test e ≡ false) es
-none_of test [] h = tt
-none_of test (e ∷ es) h = let b = or_parts (test e) (list_any test es) h in (b.0, none_of test es b.1)
-
 -- and the other way round
-any_none : (test : Entry → Bool) (es : List Entry) → Each (λ e. test e ≡ false) es → list_any test es ≡ false
+pub any_none : (test : Entry → Bool) (es : List Entry) → Each (λ e. test e ≡ false) es → list_any test es ≡ false
 any_none test [] h = refl
 any_none test (e ∷ es) h = ap (λ b. b || list_any test es) h.0 ∙ any_none test es h.1
 

@@ -31,17 +31,7 @@ use Rattle.law_live.specs.NeverDead.{cycle, cycle_to_reply, longest_without, has
 use Rattle.law_live.specs.Flow.{Flow}
 use Rattle.law_live.proofs.NoToken.{silent_then}
 use Rattle.law_live.proofs.Events.{began_now, event_flow, new_flow}
-
--- what the token theorem keeps, each event keeps
-pub event_invariant : (w : World) (e : Event) → KeepsInvariant w e
-event_invariant w (Turn tap) = turn_invariant w tap
-event_invariant w (Pass bits) = pass_invariant w bits
-event_invariant w (Damage tap speaker place) = damage_invariant w tap speaker place
-event_invariant w (Start tap) = start_invariant w tap
-event_invariant w (Stop tap) = stop_invariant w tap
-event_invariant w (Queue tap request) = queue_invariant w tap request
-event_invariant w (world.Noise bits) = noise_invariant w bits
-event_invariant w (Unheard tap speaker) = loss_invariant w tap speaker
+use Rattle.law_token.proofs.whole.Induction.{event_invariant}
 
 -- where no premise breaks, no telegram is lost and no turn comes late
 numbers : (a b c d : Bool) → first_number a b c d ≡ None → (b ≡ false) × (c ≡ false)

@@ -17,8 +17,8 @@ pub fn a_holder_keeps_within_its_time()
         → Spends p recent d (started p s master now) }
     ensures timer { (p : Params) (recent d bound : ℕ) (s : Station) → Spends p recent d s
         → Spends p recent d (after_timer p bound s) }
-    ensures mark { (p : Params) (recent d : ℕ) (s : Station) (m : Mark) → Comes p recent d s m → Spends p recent d s
-        → Spends p recent d (after_mark p s m) }
+    ensures mark { (p : Params) (recent d : ℕ) (s : Station) (m : Mark) → Comes p recent d s m
+        → Spends p recent d s → Spends p recent d (after_mark p s m) }
     ensures speech { (p : Params) (recent d : ℕ) (s : Station) (now : ℕ) → p.tid2 + p.lag ≤ p.tsl
         → IfSome (speaks_at s) (λ moment. now ≤ moment + p.lag) → HasOpenRequest s → Spends p recent d s
         → PhaseSays p recent d now s.phase (speech p s (speaks_at s) now) }

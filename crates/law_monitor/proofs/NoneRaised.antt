@@ -19,7 +19,8 @@ use Rattle.pb_monitor.proofs.NoneRaised.{LinkedLast, all_of, least_timeout, lega
 use Rattle.law_runs.specs.Judging.{IsOrdered}
 use Rattle.law_monitor.specs.Captures.{HearsAmid, HearsSince}
 use Rattle.law_monitor.specs.Runs.{RunsRaiseNoneOfLegality, AlarmsOfLegalityProveABrokenPremise}
-use Rattle.law_monitor.proofs.sources.Worlds.{specs_after, params_after, sources_after}
+use Rattle.law_monitor.proofs.sources.Worlds.{specs_after, sources_after}
+use Rattle.law_live.proofs.Runs.{params_of}
 
 -- twice the cable delay is less than a slot
 pub short_delay : (p : Params) → LeavesTime p → 2 * p.ttd < p.tsl
@@ -61,7 +62,7 @@ none_of_legality p specs events new w slack c since bs is none =
     let run = is.run in
     let legal = (theorem_of_delay p specs events new w is.time run none).legal in
     let specs_is = specs_after p specs events new w run in
-    let params_is = params_after p specs events new w run in
+    let params_is = params_of p specs events new w run in
     since_raises_none p slack c specs since w.trace bs (short_delay p is.time) (is-ordered-after p specs events new w run.fit run.are run.made run.runs)
     (sources_after p specs events new w is.time.highest run)
     (subst (λ q. first_illegal q specs w.trace ≡ None) params_is (subst (λ s. first_illegal w.params s w.trace ≡ None) specs_is legal)) is.hears

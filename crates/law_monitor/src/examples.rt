@@ -16,7 +16,8 @@ pub fn passive_taps_capture_a_ring()
         (at 815 (token 1 1) ∷ at 885 (token 1 1) ∷ at 955 (question 2 1) ∷ at 1047 (answer 1 2)
         ∷ at 1165 (token 2 1) ∷ at 1250 (question 3 2) ∷ at 1416 (token 1 2) ∷ []) }
     ensures amid { IsCaptured example_bus with_passive heard_amid 2 1130
-        (disturbed 1130 1153 ∷ damaged_at 1190 (question 3 2) ∷ at 1356 (token 1 2) ∷ disturbed 1389 1409 ∷ []) }
+        (disturbed 1130 1153 ∷ damaged_at 1190 (question 3 2) ∷ at 1356 (token 1 2)
+        ∷ disturbed 1389 1409 ∷ []) }
 {}
 
 /// A listener beside the second station hears the same ring, the second's telegrams as they are sent.
@@ -32,6 +33,7 @@ pub fn holders_are_named()
     ensures claims { IsNamed bus_with_delay with_passive (take 14 heard_with_delay) (Pass 22 ∷ []) 0 0
         (at 815 (token 1 1) ∷ []) (One 1) }
     ensures takes { IsNamed bus_with_delay with_passive (take 58 heard_with_delay) (Pass 37 ∷ []) 1 0
-        (at 815 (token 1 1) ∷ at 885 (token 1 1) ∷ at 955 (question 2 1) ∷ at 1047 (answer 1 2) ∷ at 1165 (token 2 1) ∷ [])
+        (at 815 (token 1 1) ∷ at 885 (token 1 1) ∷ at 955 (question 2 1) ∷ at 1047 (answer 1 2)
+        ∷ at 1165 (token 2 1) ∷ [])
         (OfferedTo 2) }
 {}

@@ -71,19 +71,6 @@ part_active (Listening doubled) x = absurd x
 part_active (Claim sent ready) x = absurd x
 part_active (Pass tries ready) x = absurd x
 
--- and one that initiates, in its place, takes part
-initiates_in : (ph : Phase) (master in_ring : Bool) → is_in_place ph master in_ring ≡ true → may_initiate ph ≡ true → TakesPart ph
-initiates_in (Use asked ready) master in_ring h m = tt
-initiates_in (AwaitData asked retry slot) master in_ring h m = tt
-initiates_in (AwaitStatus of slot) master in_ring h m = tt
-initiates_in (Claim sent ready) master in_ring h m = no_ h
-initiates_in (Pass tries ready) master in_ring h m = no_ h
-initiates_in Offline master in_ring h m = no_ m
-initiates_in PassiveIdle master in_ring h m = no_ m
-initiates_in (Listening doubled) master in_ring h m = no_ m
-initiates_in (Idle refused) master in_ring h m = no_ m
-initiates_in (Checking tries) master in_ring h m = no_ m
-
 -- a master that is not offline, in its place, takes part
 active_part : (members : List ℕ) (address : ℕ) (s : Station) → InPlace members address true s → not (is_offline s.phase) ≡ true → TakesPart s.phase
 active_part members address s i on = by s.phase refl i.undisturbed on

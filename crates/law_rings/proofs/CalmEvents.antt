@@ -41,6 +41,9 @@ use Rattle.law_rings.proofs.RotatesTurn.{SameTimes, rotates_set, rotates_speech}
 use Rattle.law_rings.proofs.TapsPass.{Passes, RunsAt, holds_at, ring_at}
 use Rattle.law_rings.proofs.TurnKeeps.{waits_not, rest_keeps, rest_keeps_call, RepliesAt, reply_keeps, reply_keeps_call}
 use Rattle.law_rings.proofs.NoTest.{no_}
+use Rattle.law_token.proofs.turn.Last.{asks_of}
+use Rattle.law_token.proofs.whole.Stays.{runs_then}
+use Rattle.law_token.proofs.pass.WholePass.{some_bits}
 
 -- an event keeps a ring undisturbed and its receipts in order, if the world after it keeps what the token theorem and the
 -- bound of silence keep
@@ -49,11 +52,6 @@ KeepsRotating w e = (base : ℕ) (members : List ℕ) (waited' : List Waited) (n
     → Rotating next base members
 
 -- ---- a turn
-
--- an open request is a request
-asks_of : (o : Option OpenRequest) → IfSome o IsOpenRequest → Asks o
-asks_of None h = tt
-asks_of (Some o) h = h.request
 
 -- what a tap does at its turn
 pub tap_does : (w : World) (base : ℕ) (members : List ℕ) (u : Undisturbed w base members) (k : ℕ) (t : Tap) → RunsAt w k t → Does w.params w.now (view w.params t) (turn_of w.params t.station t.marks w.now)
@@ -129,11 +127,6 @@ turn_rotating w base members u k t waited' r at said is i' f' = by (tap_does w b
     by (DoesRepeat is_ still over) = absurd (never_repeats w base members u k t at is_ over)
     by (DoesClaim may still over) = absurd (never_claims w base members u k t at may still over)
 
--- a tap that takes a turn runs
-runs_of : (b : Bool) → not b ≡ false → b ≡ true
-runs_of true e = refl
-runs_of false e = absurd cc
-
 -- a turn
 turn_keeps_rotating : (w : World) (k : ℕ) → KeepsRotating w (Turn k)
 turn_keeps_rotating w k base members waited' next reply ok u r i' f' = by (slice_get w.taps k) refl ok
@@ -146,14 +139,9 @@ turn_keeps_rotating w k base members waited' next reply ok u r i' f' = by (slice
         let done = unless-Ok ((not t.running, world.NotRunning) ∷ (is_some turn.1 && nat_le w.limit (length w.trace), world.TraceFull) ∷ []) (made, record { now = w.now; spoke = turn.1 }) (next, reply) ok in
         let same : made ≡ next = ap (λ (z : World × Reply). z.0) done.1 in
         subst (λ z. Rotating z base members) same
-        (turn_rotating w base members u k t waited' r (record { here = here; running = runs_of t.running done.0.0 }) turn.1 refl (subst (λ z. Invariant z waited') (sym same) i') (subst Flow (sym same) f'))
+        (turn_rotating w base members u k t waited' r (record { here = here; running = runs_then t.running done.0.0 }) turn.1 refl (subst (λ z. Invariant z waited') (sym same) i') (subst Flow (sym same) f'))
 
 -- ---- a pass
-
--- a pass takes time
-some_bits : (n : ℕ) → (n == 0) ≡ false → 0 < n
-some_bits zero e = absurd (let w : true ≡ false = e in cc)
-some_bits (suc n) e = omega arith
 
 -- a pass
 pass_keeps_rotating : (w : World) (bits : ℕ) → KeepsRotating w (Pass bits)

@@ -11,11 +11,11 @@ use Rattle.law_token.proofs.whole.JoinedRuns.{events_join}
 use Rattle.law_token.proofs.whole.Keeping.{unbroken}
 use Rattle.law_live.specs.Flow.{Flow}
 use Rattle.law_live.proofs.Events.{event_flow}
-use Rattle.law_live.proofs.Runs.{event_invariant}
 use Rattle.law_rings.specs.Rotation.{is_calm}
 use Rattle.law_rings.specs.Receipts.{Rotating}
 use Rattle.law_rings.proofs.CalmEvents.{calm_keeps_rotating}
 use Rattle.law_rings.proofs.Reaching.{Undisturbed}
+use Rattle.law_token.proofs.whole.Induction.{event_invariant}
 
 -- the premises are kept by events after a world, given the taps that had waited out before
 abbrev pub KeepsPremises : World → List Waited → List Event → Type 0

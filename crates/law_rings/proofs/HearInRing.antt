@@ -171,10 +171,6 @@ pub data EndsAs (p : Params) (s : Station) (at : ℕ) (a : Arrival) (s' : Statio
   Makes : (f : Fields) → a ≡ Framed f → (station_type : ℕ) → IsType station_type → s'.phase ≡ s.phase → s'.rotation ≡ s.rotation → s'.reply ≡ option_or (answer_to p s at f station_type) s.reply → may_initiate s.phase ≡ false → EndsAs p s at a s'
   GoesOn : may_initiate s.phase ≡ true → may_initiate s'.phase ≡ true → TakesPart s'.phase → ((q : Bool) → HasAskedFor s'.phase q) → s'.rotation ≡ s.rotation → s'.reply ≡ s.reply → EndsAs p s at a s'
 
--- a telegram that is no token
-not_token : (f : Fields) (da sa : ℕ) → Framed f ≡ Token da sa → ⊥
-not_token f da sa e = cc
-
 -- an acknowledgement is no token
 ack_no_token : (da sa : ℕ) → Acknowledgement ≡ Token da sa → ⊥
 ack_no_token da sa e = cc

@@ -24,6 +24,7 @@ use Rattle.law_turn.specs.Turns.{saying, received_own, says_token, looks_at_gap,
 use Rattle.law_model.proofs.Cases.{by_test}
 use Rattle.law_rings.specs.Receipts.{moments}
 use Rattle.law_rings.specs.Ring.{is_answered_by, IsArmed, HasAskedFor}
+use Rattle.law_token.proofs.turn.Said.{code_bit}
 
 -- what a station said, and how it stands then: a token to the next station; one to itself, the only one in its list; or
 -- a request, after which it waits for a reply if there is one
@@ -60,23 +61,6 @@ unanswered Sdn true count e = refl
 unanswered Sdn false count e = refl
 unanswered Srd high count e = absurd cc
 
--- a request has bit 6
-request_bit : (service : Service) (high : Bool) (count : FrameCount) → has_bit (0x40 + (if is_answered service then count_bits count else 0) + code_of service high) 6 ≡ true
-request_bit Sda true First = refl
-request_bit Sda true Clear = refl
-request_bit Sda true Set = refl
-request_bit Sda false First = refl
-request_bit Sda false Clear = refl
-request_bit Sda false Set = refl
-request_bit Sdn true count = refl
-request_bit Sdn false count = refl
-request_bit Srd true First = refl
-request_bit Srd true Clear = refl
-request_bit Srd true Set = refl
-request_bit Srd false First = refl
-request_bit Srd false Clear = refl
-request_bit Srd false Set = refl
-
 -- a request
 speaks_request : (p : Params) (s : Station) (asked : Bool) (r : RequestFields) (now : ℕ) → s.busy ≡ false → Speaks p now s (says_request p s asked r now)
 speaks_request p s asked r now still = (frame_octets f, refl, by_choice (is_answered r.service) refl)
@@ -88,7 +72,7 @@ speaks_request p s asked r now still = (frame_octets f, refl, by_choice (is_answ
     y = record (saying s now (frame_octets f)) { cycles = record s.cycles { initiator = after_request s.cycles.initiator s.address r } }
 
     bit : has_bit f.fc 6 ≡ true
-    bit = request_bit r.service r.high (count_at s.cycles.initiator.counts r.da)
+    bit = code_bit r.service r.high (count_at s.cycles.initiator.counts r.da)
 
     by_choice : (b : Bool) → is_answered r.service ≡ b → Spoken p now s (if b then record y { phase = AwaitData asked None true } else record y { phase = Use asked (y.own.end + p.tid2) }) (frame_octets f)
     by_choice true e = record { las = refl; reply = refl; busy = refl; by = Requests f refl bit (inl (refl, refl, still)) tt refl }

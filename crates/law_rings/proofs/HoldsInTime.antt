@@ -25,11 +25,7 @@ use Rattle.law_rings.proofs.Taking.{part_on}
 use Rattle.law_rings.proofs.TapsPass.{RunsAt, holds_at, ring_at}
 use Rattle.law_rings.proofs.Tenures.{reply_end, heard_ends}
 use Rattle.law_rings.proofs.NoTest.{no_}
-
--- a limit is one of a holder that has used its cycle of high priority
-limit_most : (p : Params) (recent d : ℕ) (high : Bool) → limit p recent d high ≤ limit p recent d true
-limit_most p recent d false = omega arith
-limit_most p recent d true = omega arith
+use Rattle.law_live.proofs.HoldersSpeak.{limit-most}
 
 -- one that hears the reply for which it waited does so in time
 busy_in_time : (w : World) (base : ℕ) (members : List ℕ) (u : Undisturbed w base members) (k : ℕ) (t : Tap) → RunsAt w k t → HeldCall u.ring.call k (view w.params t).own → Senses (place w.params w.now k t) w.trace true (view w.params t).quiet
@@ -77,7 +73,7 @@ holder_in_time w base members u k t recent d at part may s =
     left = left_of v.cycles.initiator.pending
 
     most : end ≤ limit p recent d true
-    most = limit_most p recent d (has_used v.rotation.last)
+    most = limit-most p recent d (has_used v.rotation.last)
 
     -- a slot, or a reply, is within an attempt
     waits : (busy : Bool) (slot : Bool) → Held last k v.own → Awaits c w.trace busy v.quiet v.own None slot → v.own.begin + attempt p ≤ end → IfSome (if busy then None else if slot then Some (v.own.end + p.tsl) else None) (λ m. w.now ≤ m + p.lag)

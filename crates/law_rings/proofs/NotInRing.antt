@@ -28,7 +28,7 @@ use Rattle.law_token.proofs.bus.Live.{lives, holding_view, initiates_live, live_
 use Rattle.law_token.proofs.pass.Taps.{knows_on}
 use Rattle.law_token.proofs.turn.Actions.{MayClaim}
 use Rattle.law_token.proofs.turn.Records.{reaches_each, last_initiates}
-use Rattle.law_token.proofs.turn.Warrants.{public_known}
+use Rattle.law_token.proofs.turn.Warrants.{public_known, not_doomed}
 use Rattle.law_live.proofs.InTime.{in_time-view}
 use Rattle.law_rings.specs.Ring.{Answers, IsArmed, IsDue, Bearer, wants_reply, brought_by}
 use Rattle.law_rings.proofs.Calls.{HeldCall, held_call, TakenCall, taken_call, OffersCall, offers_call, offer_wants_none, call_brings}
@@ -51,14 +51,6 @@ holds_as w base members u k t at may = by (holding_view w.params w.now w.trace u
     by (Has m h late) = HoldsTaken m (taken_call w.params.ttd u.invariant.keeps.inv.last u.ring.call k t.spec.address m (last_call w base members u) h) late (taken_over w base members u k t m at.here h)
 
 -- ---- no token is passed again
-
--- its slot is over
-not_doomed : (c : Place) (trace : List Entry) (own : Span) → own.end + c.p.tsl ≤ c.now → Doomed c trace own → ⊥
-not_doomed c trace own over d = d (each_all (λ e. Spares c.now (own.end + c.p.tsl) (heard_span c.p.ttd c.tap c.since e)) trace (λ e. spared (heard_span c.p.ttd c.tap c.since e)))
-  where
-    spared : (o : Option Span) → Spares c.now (own.end + c.p.tsl) o
-    spared None = tt
-    spared (Some x) = ⊎_elim (λ (a : x.begin < c.now). inl a) (λ (b : c.now ≤ x.begin). inr (omega (arith, b, over))) (cases_lt x.begin c.now)
 
 -- a station that checks has offered the token
 checking_offers : (c : Place) (trace : List Entry) (last : Option Record) (ph : Phase) (b : Bool) (quiet : ℕ) (own : Span) (reply : Option Reply) → IsChecking ph → ViewOf c trace last ph b quiet own reply → Offers last c.tap own ⊎ Doomed c trace own

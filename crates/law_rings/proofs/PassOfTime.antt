@@ -26,6 +26,7 @@ use Rattle.law_rings.specs.Ring.{RingTap}
 use Rattle.law_rings.proofs.HearInRing as hear
 use Rattle.law_rings.proofs.Reaching.{reaches_as, Undisturbed, Known, known}
 use Rattle.law_rings.proofs.Beginning.{FirstAt, MayBegin, may_timer, may_begin}
+use Rattle.law_token.proofs.quiet.Alert.{on_phase}
 
 -- ---- what it reads
 
@@ -34,19 +35,6 @@ pub data PassOf (p : Params) (now to : ℕ) (xs : List Span) (a : Arrival) (v v'
   HearsNothing : v' ≡ v → (v.busy ≡ false → NoBegin now to xs) → (v.busy ≡ true → Opened to xs) → PassOf p now to xs a v v'
   HearsBegin : (m : ℕ) → now ≤ m → m < to → v.busy ≡ false → MayBegin p v v.phase m → v' ≡ begun v m → (NoBegin now to xs → ⊥) → Opened to xs → PassOf p now to xs a v v'
   HearsEnd : (s : Station) → s.busy ≡ true → (s ≡ v) ⊎ ((m : ℕ) × (v.busy ≡ false) × MayBegin p v v.phase m × (s ≡ begun v m) × (NoBegin now to xs → ⊥)) → v' ≡ ended p s to a → ClosedAt to xs → PassOf p now to xs a v v'
-
--- a phase that is not offline
-pub on_phase : (ph : Phase) → IsOn ph → is_offline ph ≡ false
-on_phase Offline on = absurd on
-on_phase PassiveIdle on = refl
-on_phase (Listening doubled) on = refl
-on_phase (Idle refused) on = refl
-on_phase (Claim sent ready) on = refl
-on_phase (Use asked ready) on = refl
-on_phase (AwaitData asked retry slot) on = refl
-on_phase (AwaitStatus of slot) on = refl
-on_phase (Pass tries ready) on = refl
-on_phase (Checking tries) on = refl
 
 -- and is not so after a begin
 pub begun_on : (ph : Phase) (own m : ℕ) → IsOn ph → is_offline (phase_begun ph own m) ≡ false

@@ -72,11 +72,6 @@ pub record Undisturbed (w : World) (base : ℕ) (members : List ℕ) : Type 0 wh
 pub last_call : (w : World) (base : ℕ) (members : List ℕ) (u : Undisturbed w base members) → IsCall u.invariant.keeps.inv.last u.ring.call
 last_call w base members u = subst (λ o. IsCall o u.ring.call) u.invariant.keeps.inv.is_last u.ring.is_call
 
--- by the invariant of entries
-length_of : (p : Params) (now : ℕ) (taps : List Tap) (trace : List Entry) (waited : List Waited) (last : Option Record) (e : Entry) → EntryHolds p now taps trace waited last e → HasLength e
-length_of p now taps trace waited last (Noise span) o = o.1
-length_of p now taps trace waited last (Sent x) o = o.some
-
 -- all that is known of an entry
 pub record Known (w : World) (base : ℕ) (members : List ℕ) (u : Undisturbed w base members) (e : Entry) : Type 0 where
   pub holds : EntryHolds w.params w.now w.taps w.trace u.waited u.invariant.keeps.inv.last e

@@ -45,11 +45,11 @@ use Rattle.law_rings.proofs.HoldersSay.{SaidBy, PassesOn, HasAgain, Requests}
 use Rattle.law_rings.proofs.NotInRing.{MaySpeak, HoldsAs, HoldsOwn, HoldsTaken, holds_as}
 use Rattle.law_rings.proofs.Reaching.{Undisturbed, call_stands}
 use Rattle.law_rings.proofs.RotatesPass.{times_received, fresh_spends}
-use Rattle.law_rings.proofs.SameLooks.{set_at}
 use Rattle.law_rings.proofs.SpeechKeeps.{SpeaksAt, initiates_part, armed_part}
 use Rattle.law_rings.proofs.Sums.{received_by, at_it, at_other, before_it, before_other, order_goes_on}
 use Rattle.law_rings.proofs.TapsPass.{RunsAt, holds_at, ring_at, view_address}
 use Rattle.law_rings.proofs.Tenures.{basics}
+use Rattle.law_token.proofs.turn.Last.{set_here}
 
 -- ---- where a tap changes nothing of receipts
 
@@ -94,7 +94,7 @@ rotates_set w base answered members call k t x trace' here s r = ⊎_elim mine o
           has = has';
           tap = r.tap;
           t = x;
-          here = subst (λ i. slice_get (slice_set w.taps k x) i ≡ Some x) e (set_at w.taps k t x here);
+          here = subst (λ i. slice_get (slice_set w.taps k x) i ≡ Some x) e (set_here w.taps k t x here);
           running = m.running ∙ r.running;
           part = subst TakesPart (sym m.phase) r.part;
           in_order = subst (λ n. InOrder p members n r.log) (ap (λ q. q.address) (sym m.spec)) r.in_order;
@@ -286,7 +286,7 @@ rotates_speech w base members u k t octets says good f' r = by says.speaks.said.
     call' = record { tap = k; octets = octets; begin = w.now; end = w.now + bits (length octets); answered = 0 }
 
     made : (log : Log) → HasLog p base (slice_set w.taps k t') log → TakesPart s'.phase → InOrder p members a log → Tenure p base w.now members call' log k t' → Rotates (turned w k t s' (Some octets)) base members call'
-    made log has part' order tenure = record { log = log; has = has; tap = k; t = t'; here = set_at w.taps k t t' at.here; running = at.running; part = part'; in_order = order; tenure = tenure }
+    made log has part' order tenure = record { log = log; has = has; tap = k; t = t'; here = set_here w.taps k t t' at.here; running = at.running; part = part'; in_order = order; tenure = tenure }
 
     next : next_station v ≡ next_address a members
     next = ap (λ z. next_address v.address (members_of z)) member.stage ∙ ap (λ n. next_address n members) (view_address w base members u k t at)
@@ -300,7 +300,7 @@ rotates_speech w base members u k t octets says good f' r = by says.speaks.said.
         offers = ap offered_by (arrival_spelled octets good ∙ ap telegram_arrival os) ∙ ap (λ b. if b then None else Some (next_station v)) (ne_eqb (next_station v) v.address ne) ∙ ap (λ n. Some n) next
     by (HasAgain os same ph rot) = made log' has' (subst TakesPart (sym ph) tt) order
         (Holding (ap may_initiate ph) (inr (refl, let e = at_here in let long : length octets ≡ 3 = ap length os in omega (arith, e, long)))
-        (subst (λ z. Spends p z (log'.previous a) s') (sym at_here) (subst (λ z. Spends p to z s') (sym before_here) (fresh_spends p base v s' to (r.log.previous a) (r.log.at a) (basics (turned w k t s' (Some octets)) k t' f' (set_at w.taps k t t' at.here) at.running) (record { phase = ph; rotation = rot }) old))))
+        (subst (λ z. Spends p z (log'.previous a) s') (sym at_here) (subst (λ z. Spends p to z s') (sym before_here) (fresh_spends p base v s' to (r.log.previous a) (r.log.at a) (basics (turned w k t s' (Some octets)) k t' f' (set_here w.taps k t t' at.here) at.running) (record { phase = ph; rotation = rot }) old))))
       where
         to : ℕ
         to = w.now + bits 3

@@ -13,6 +13,7 @@ use Rattle.law_runs.specs.Initiators.{offered_by}
 use Rattle.law_token.specs.Views.{view}
 use Rattle.law_token.proofs.bus.Lists.{each_map, get_set_at, get_set_other}
 use Rattle.law_rings.specs.Ring.{Call, IsArmed, ArmedAt, IsUndisturbed, TakesPart, IsMember, HasAskedFor, IsDue, RingTap, Bearer, HasTaps, IsAwaited, Ring, is_question, brought_by}
+use Rattle.law_token.proofs.turn.Last.{set_here}
 
 -- two taps that look the same once they have read their marks
 pub record LooksAs (p : Params) (t x : Tap) : Type 0 where
@@ -44,12 +45,6 @@ pub record AllLook (p : Params) (taps taps' : List Tap) : Type 0 where
 pub same_look : (p : Params) (t : Tap) → LooksAs p t t
 same_look p t = record { running = refl; spec = refl; since = refl; phase = refl; busy = refl; las = refl; reply = refl }
 
--- a tap set at its place
-pub set_at : (ts : List Tap) (k : ℕ) (t u : Tap) → slice_get ts k ≡ Some t → slice_get (slice_set ts k u) k ≡ Some u
-set_at [] k t u here = absurd (none-some t here)
-set_at (x ∷ xs) zero t u here = refl
-set_at (x ∷ xs) (suc k) t u here = set_at xs k t u here
-
 -- where one tap is set
 pub set_looks : (p : Params) (taps : List Tap) (k : ℕ) (t x : Tap) → slice_get taps k ≡ Some t → LooksAs p t x → AllLook p taps (slice_set taps k x)
 set_looks p taps k t x here looks = record { back = back; forth = forth }
@@ -63,7 +58,7 @@ set_looks p taps k t x here looks = record { back = back; forth = forth }
     forth : (j : ℕ) (y : Tap) → slice_get taps j ≡ Some y → Is p (slice_set taps k x) j y
     forth j y at = ⊎_elim
         (λ (e : k ≡ j). let same : t ≡ y = same_Some t y (sym here ∙ subst (λ i. slice_get taps i ≡ Some y) (sym e) at) in
-        record { x = x; here = subst (λ i. slice_get (slice_set taps k x) i ≡ Some x) e (set_at taps k t x here); looks = subst (λ z. LooksAs p z x) same looks })
+        record { x = x; here = subst (λ i. slice_get (slice_set taps k x) i ≡ Some x) e (set_here taps k t x here); looks = subst (λ z. LooksAs p z x) same looks })
         (λ (ne : k ≡ j → ⊥). record { x = y; here = get_set_other taps k j x ne ∙ at; looks = same_look p y }) (cases_eq k j)
 
 -- ---- what holds of taps that look the same

@@ -40,10 +40,10 @@ use Rattle.law_rings.specs.Ring.{Call, IsCall, OnItsWay, InRing, IsPastReply, Is
 use Rattle.law_rings.proofs.HoldersSay.{SaidBy, PassesOn, HasAgain, Requests, Spoken, brings_frame}
 use Rattle.law_rings.proofs.NotInRing.{MaySpeak, none_due, replies_over, none_wanted}
 use Rattle.law_rings.proofs.Reaching.{Undisturbed, Known, known}
-use Rattle.law_rings.proofs.SameLooks.{set_at}
 use Rattle.law_rings.proofs.TapsPass.{RunsAt, holds_at, ring_at, view_address}
 use Rattle.law_rings.proofs.TurnKeeps.{members_set, other_tap, origin_with}
 use Rattle.law_rings.proofs.NoTest.{no_}
+use Rattle.law_token.proofs.turn.Last.{set_here}
 
 -- ---- what is said
 
@@ -160,7 +160,7 @@ speech_keeps w base members u k t octets s' waited' sp i' = record {
   from = u.ring.from;
   ascends = u.ring.ascends;
   all = members_set p members w.taps k t s' at.here (λ _. facts.part) u.ring.all;
-  bearer = ⊎_elim (λ (may : may_initiate s'.phase ≡ true). record { tap = k; t = t'; here = set_at w.taps k t t' at.here; running = at.running; part = facts.part; bears = inl may })
+  bearer = ⊎_elim (λ (may : may_initiate s'.phase ≡ true). record { tap = k; t = t'; here = set_here w.taps k t t' at.here; running = at.running; part = facts.part; bears = inl may })
       (λ (z : (da : ℕ) × (offered_by (brought_by octets) ≡ Some da) × (is_member members da ≡ true) × (da ≡ t.spec.address → ⊥)). bearer_next z.0 z.1 z.2 z.3) facts.bears;
   taps = at_set (λ j y. y.running ≡ true → RingTap p base members taps' trace' call' j y) w.taps k t' (λ _. own) (λ j y ne here run. others j y ne (record { here = here; running = run }));
   entries = each_with (InRing p base w.now members trace' call') (Sent x) w.trace (λ _. new) (each_map (Known w base members u) (InRing p base w.now members trace' call') w.trace old (known w base members u));

@@ -28,10 +28,11 @@ use Rattle.law_live.proofs.HoldersRead.{spends-after_mark}
 use Rattle.law_rings.proofs.Calls.{HeldCall, held_call}
 use Rattle.law_rings.proofs.HearInRing.{IsHearing}
 use Rattle.law_rings.proofs.Reaching.{Undisturbed, last_call, Known, known, by_caller}
-use Rattle.law_rings.proofs.PassOfTime.{PassOf, HearsNothing, HearsBegin, HearsEnd, on_phase, begun_on}
+use Rattle.law_rings.proofs.PassOfTime.{PassOf, HearsNothing, HearsBegin, HearsEnd, begun_on}
 use Rattle.law_rings.proofs.Whole.{ArrivesAs, ComesNothing, ComesAs, arrives}
 use Rattle.law_rings.proofs.TapPass.{busy_hears, held_hears, held_begun}
 use Rattle.law_rings.proofs.TapsPass.{Passes, RunsAt, then_view, then_arrival, holds_at, ring_at, reads_pass}
+use Rattle.law_token.proofs.quiet.Alert.{on_phase}
 
 -- ---- what is kept of every station
 

@@ -33,8 +33,9 @@ use Rattle.law_rings.specs.Ring.{Call, IsCall, OnItsWay, InRing, IsPastReply, Is
 use Rattle.law_rings.proofs.ActInRing.{HasReplied}
 use Rattle.law_rings.proofs.NotInRing.{reply_late}
 use Rattle.law_rings.proofs.Reaching.{Undisturbed, Known, known}
-use Rattle.law_rings.proofs.SameLooks.{set_at, set_looks, ring_looks, ring_looks_call}
+use Rattle.law_rings.proofs.SameLooks.{set_looks, ring_looks, ring_looks_call}
 use Rattle.law_rings.proofs.TapsPass.{RunsAt, ring_at}
+use Rattle.law_token.proofs.turn.Last.{set_here}
 
 -- ---- a turn that says nothing
 
@@ -73,7 +74,7 @@ members_set p members taps k t s' here part has a in_it = ⊎_elim mine other (c
         record {
           tap = k;
           t = x;
-          here = set_at taps k t x here;
+          here = set_here taps k t x here;
           running = ap (λ (z : Tap). z.running) same ∙ m.running;
           part = part (subst (λ (z : Tap). TakesPart (view p z).phase) (sym same) m.part);
           address = ap (λ (z : Tap). z.spec.address) same ∙ m.address;

@@ -20,11 +20,12 @@ use Rattle.law_token.specs.Lists.{Each, In}
 use Rattle.law_token.specs.Places.{heard_span}
 use Rattle.law_token.specs.Entries.{IsAnother, AllOthers}
 use Rattle.law_token.proofs.bus.Lists.{each_in, each_map, each_both}
-use Rattle.law_token.proofs.pass.Brings.{filling, one_sending}
+use Rattle.law_token.proofs.pass.Brings.{filling, one_sending, not_mine}
 use Rattle.law_token.proofs.bus.Pairs.{hears_other}
 use Rattle.law_rings.specs.Ring.{Call, OnItsWay, IsPastReply, brought_by}
 use Rattle.law_rings.proofs.Calls.{order_call, call_brings}
 use Rattle.law_rings.proofs.Reaching.{Undisturbed, last_call, Known, known, CallStands, call_stands}
+use Rattle.law_live.proofs.NoToken.{any_none}
 
 -- ---- characters
 
@@ -54,15 +55,6 @@ pub data ArrivesAs (w : World) (base : ℕ) (members : List ℕ) (u : Undisturbe
   ComesNothing : a ≡ NoTelegram → ArrivesAs w base members u k to a
   ComesAs : (x : Record) → Known w base members u (Sent x) → x.end + w.params.ttd ≡ to → (x.tap ≡ k → ⊥) → OnItsWay w.params base w.now members w.trace u.ring.call x → a ≡ telegram_of x → ArrivesAs w base members u k to a
 
--- what fills a burst is another's
-not_own : (delay tap : ℕ) (t : Tap) (trace : List Entry) (r : Record) → fills_burst delay tap t trace r ≡ true → r.tap ≡ tap → ⊥
-not_own delay tap t trace r f mine =
-    let a = and_parts (not (r.tap == tap || is_unheard (slice_get r.heard tap)) && hears_from t (reaches delay r).begin && count_by (overlaps (reaches delay r)) (sensed delay tap t.since trace) == 1) (not (list_any (sends_during tap (reaches delay r)) trace)) f in
-    let b = and_parts (not (r.tap == tap || is_unheard (slice_get r.heard tap)) && hears_from t (reaches delay r).begin) (count_by (overlaps (reaches delay r)) (sensed delay tap t.since trace) == 1) a.0 in
-    let d = and_parts (not (r.tap == tap || is_unheard (slice_get r.heard tap))) (hears_from t (reaches delay r).begin) b.0 in
-    let e : not (true || is_unheard (slice_get r.heard tap)) ≡ true = sym (ap (λ b. not (b || is_unheard (slice_get r.heard tap))) (eq-eqb r.tap tap mine)) ∙ d.0 in
-    let wrong : false ≡ true = e in cc
-
 -- by what reaches the tap
 pub arrives : (w : World) (base : ℕ) (members : List ℕ) (u : Undisturbed w base members) (k to : ℕ) (t : Tap) → w.now < to → ArrivesAs w base members u k to (arrival_of (burst_characters w.params.ttd k t w.trace to))
 arrives w base members u k to t later = by (find (fills_burst_to w.params.ttd k t w.trace to) w.trace) refl
@@ -74,7 +66,7 @@ arrives w base members u k to t later = by (find (fills_burst_to w.params.ttd k 
         let f = filling w.params.ttd k t w.trace to x e in
         let h = each_in (Known w base members u) (Sent x) w.trace (known w base members u) f.inside in
         let way = h.ring (let ends = f.ends in omega (arith, ends, later)) in
-        ComesAs x h f.ends (not_own w.params.ttd k t w.trace x f.fills) way (ap arrival_of (received_so k x way.undamaged way.full))
+        ComesAs x h f.ends (not_mine w.params.ttd k t w.trace x f.fills) way (ap arrival_of (received_so k x way.undamaged way.full))
 
 -- ---- the call is whole at every tap
 
@@ -132,11 +124,6 @@ count_one span delay tap since r y (e ∷ es) (inl same) others all is here =
     (each_both (IsAnother e) (λ x. IsApart r x → KeepsOff span (heard_span delay tap since x)) (λ x. KeepsOff span (heard_span delay tap since x)) es (λ x a b. b (apart_after r e x same a)) others.0 all.1))
 count_one span delay tap since r y (e ∷ es) (inr i) others all is here =
     count_off span (heard_span delay tap since e) (sensed delay tap since es) 1 (all.0 (apart_before r e es others.0 i)) (count_one span delay tap since r y es i others.1 all.1 is here)
-
--- none of some entries passes a test
-none_passes : (test : Entry → Bool) (es : List Entry) → Each (λ e. test e ≡ false) es → list_any test es ≡ false
-none_passes test [] all = refl
-none_passes test (e ∷ es) all = ap (λ b. b || list_any test es) all.0 ∙ none_passes test es all.1
 
 -- a search that finds nothing
 finds_in : (test : Entry → Bool) (es : List Entry) (e : Entry) → In e es → test e ≡ true → find test es ≡ None → ⊥
@@ -216,7 +203,7 @@ call_fills w base members u k t air from another early =
       ran = ap (λ b. b || (t.since == c.r.begin + d && not t.amid)) (lt-ltb t.since (c.r.begin + d) (let b = c.begin in omega (arith, b, from, early)));
       alone = count_one span d k t.since c.r y w.trace c.inside u.invariant.keeps.inv.others
           (each_map (λ e. IsApart c.r e → IsBehind d u.ring.call e) (λ e. IsApart c.r e → KeepsOff span (heard_span d k t.since e)) w.trace (λ e f apart. off e (f apart)) (behind_call w base members u air from)) heard_as here;
-      silent = none_passes (sends_during k span) w.trace (each_map (λ e. IsApart c.r e → IsBehind d u.ring.call e) (λ e. sends_during k span e ≡ false) w.trace (λ e f. silent e f) (behind_call w base members u air from));
+      silent = any_none (sends_during k span) w.trace (each_map (λ e. IsApart c.r e → IsBehind d u.ring.call e) (λ e. sends_during k span e ≡ false) w.trace (λ e f. silent e f) (behind_call w base members u air from));
     })
   where
     c : CallStands w base members u

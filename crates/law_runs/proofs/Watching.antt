@@ -201,7 +201,7 @@ last-decides delay now next (new ∷ []) old last later all before apart decides
     next-decides delay new last old (last-next now new.moment last (omega (arith, all.1)) before) apart (λ x at. decides x (omega (arith, all.1))) one (omega (arith, all.1))
 last-decides delay now next (new ∷ other ∷ more) old last later all before apart decides one from = absurd cc
 
-later-world : (w next : World) (e : Event) (reply : Reply) → step w e ≡ Ok (next, reply) → w.now ≤ next.now
+pub later-world : (w next : World) (e : Event) (reply : Reply) → step w e ≡ Ok (next, reply) → w.now ≤ next.now
 later-world w next e reply ok = subst (λ (r : Result (World × Reply) Fault). w.now ≤ (world_after w r).now) ok (later-replay w (e ∷ []))
 
 -- the parameters stay

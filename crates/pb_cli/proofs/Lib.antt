@@ -1,1 +1,2 @@
 mod Streamed
+pub mod Written

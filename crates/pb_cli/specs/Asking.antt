@@ -1,8 +1,10 @@
 -- What the program may be asked.
+use Rattle.std.specs.Prelude.{◌≤◌, IfSome}
+use Rattle.pb_stream.specs.Streams.{stream_end}
 use Rattle.pb_cli.specs.Bounding.{IsBaud}
 use Rattle.pb_cli.specs.Playing.{IsUpTo, line_limit, worker_limit}
 use Rattle.pb_cli.specs.declared.words.Ask.{Ask}
-use Rattle.pb_cli.specs.declared.words.Ask.TheVariants.{Decode, Run, Audit, Bounds, Monitor, Capture, Export, Version}
+use Rattle.pb_cli.specs.declared.words.Ask.TheVariants.{Decode, Run, Audit, Bounds, Monitor, Capture, Export, Stream, Version}
 
 abbrev pub IsWithinLimits : Ask → Type 0
 IsWithinLimits Decode = Unit {0}
@@ -13,3 +15,4 @@ IsWithinLimits (Bounds file baud json) = IsBaud baud
 IsWithinLimits (Monitor file options) = Unit {0}
 IsWithinLimits (Capture file tap) = Unit {0}
 IsWithinLimits (Export file export) = IsBaud export.baud
+IsWithinLimits (Stream file until) = IfSome until (λ moment. moment ≤ stream_end)

@@ -7,3 +7,4 @@ pub mod Playing
 pub mod Reading
 pub mod Statuses
 pub mod Writing
+pub mod Streaming

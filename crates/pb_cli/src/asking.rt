@@ -1,6 +1,6 @@
 //! The words of the command line.
 
-ghost use Rattle.std.specs.Prelude.{◌<◌, ◌≤◌, ◌^◌, IfOk};
+ghost use Rattle.std.specs.Prelude.{◌<◌, ◌≤◌, ◌^◌, IfOk, IfSome};
 ghost use Rattle.pb_cli.specs.Asking.{IsWithinLimits};
 ghost use Rattle.pb_cli.specs.Bounding.{IsBaud};
 ghost use Rattle.pb_cli.specs.Playing.{IsUpTo};
@@ -71,6 +71,8 @@ const BAUD: &str = "baud";
 const JSON: &str = "json";
 
 const EXPORT: &str = "export";
+
+const STREAM: &str = "stream";
 
 const TO: &str = "to";
 
@@ -147,6 +149,10 @@ fn asked(alloc: Global, matches: &ArgMatches<'_>) -> Result<Ask, AskFault>
             tap: text_in(alloc, capture, TAP)?,
         }),
         Some((EXPORT, export)) => asked_export(alloc, export),
+        Some((STREAM, stream)) => Ok(Ask::Stream {
+            file: file_in(alloc, stream)?,
+            until: until_in(stream),
+        }),
         _ => Ok(Ask::Decode),
     }
 }
@@ -217,10 +223,22 @@ fn moment_in(matches: &ArgMatches<'_>, option: &str, usual: u64) -> u64
     }
 }
 
+/// The moment until which time passes in a stream, if it is given. The option's parser has checked its range.
+fn until_in(matches: &ArgMatches<'_>) -> Option<u64>
+    ensures { IfSome result (λ until. until ≤ 1000000000000) }
+{
+    match matches.get_one::<u64>(UNTIL) {
+        Some(until) if until <= LATEST => Some(until),
+        _ => None,
+    }
+}
+
 /// Whether the words suppress hints.
 fn is_quiet(matches: &ArgMatches<'_>) -> bool {
     match matches.subcommand() {
-        Some((RUN | AUDIT | BOUNDS | MONITOR | CAPTURE | EXPORT, words)) => words.get_flag(QUIET),
+        Some((RUN | AUDIT | BOUNDS | MONITOR | CAPTURE | EXPORT | STREAM, words)) => words.get_flag(
+            QUIET,
+        ),
         _ => false,
     }
 }
@@ -323,7 +341,8 @@ fn command<'a>(alloc: Global) -> Result<Command<'a>, AllocError> {
         .subcommand(bounds_command(alloc)?)?
         .subcommand(monitor_command(alloc)?)?
         .subcommand(capture_command(alloc)?)?
-        .subcommand(export_command(alloc)?)
+        .subcommand(export_command(alloc)?)?
+        .subcommand(stream_command(alloc)?)
 }
 
 fn decode_command<'a>(alloc: Global) -> Command<'a> {
@@ -400,7 +419,7 @@ fn monitor_command<'a>(alloc: Global) -> Result<Command<'a>, AllocError> {
 fn capture_command<'a>(alloc: Global) -> Result<Command<'a>, AllocError> {
     Command::new(alloc, CAPTURE)
         .about("Prints what a listener hears of a scenario's run, as lines for monitor")
-        .after_help("Example: ringplay capture examples/two-masters.toml --tap m1")
+        .after_help("Example: ringplay capture examples/two-masters.toml --tap a")
         .arg(file(alloc))?
         .arg(
             Arg::new(alloc, TAP).long(TAP).value_name("NAME").help(
@@ -436,6 +455,17 @@ fn export_command<'a>(alloc: Global) -> Result<Command<'a>, AllocError> {
                 .action(ArgAction::SetTrue)
                 .help("Leaves out the string of vcd, which not every tool reads"),
         )?
+        .arg(quiet(alloc))
+}
+
+fn stream_command<'a>(alloc: Global) -> Result<Command<'a>, AllocError> {
+    Command::new(alloc, STREAM)
+        .about("Plays a scenario and prints its trace as it settles, for runs of any length")
+        .after_help("Example: ringplay stream examples/two-masters.toml --until 100000000")
+        .arg(file(alloc))?
+        .arg(limited(alloc, UNTIL, "N", 1, LATEST).help(
+            "Ends at this bit time, 1 to 1000000000000, in place of the file's `until`",
+        ))?
         .arg(quiet(alloc))
 }
 

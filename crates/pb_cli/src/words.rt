@@ -57,6 +57,13 @@ pub enum Ask {
         /// The form, and which entries it shows; 9,600 to 12,000,000 bits a second.
         export: Export,
     },
+    /// Play a scenario file, and print its trace as it settles.
+    Stream {
+        /// The file's path.
+        file: String,
+        /// The moment until which time passes, in bit times, at most 10^12, in place of the file's.
+        until: Option<u64>,
+    },
     /// Print the version.
     Version,
 }

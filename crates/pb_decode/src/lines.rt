@@ -92,7 +92,7 @@ fn push_other_answer(text: &mut Vec<u8>, receiver: &Receiver) -> Result<bool, Al
     match receiver.answer() {
         Ok(telegram) => {
             spelled_text_is_the_telegrams();
-            push_telegram(text, telegram)?;
+            push_telegram(text, &telegram)?;
             Ok(false)
         }
         Err(fault) => {

@@ -13,8 +13,8 @@ use std::alloc::AllocError;
 const LONGEST_UNIT: usize = 246;
 
 /// Appends the text of a telegram.
-pub fn push_telegram(text: &mut Vec<u8>, telegram: Telegram) -> Result<(), AllocError>
-    ensures { OnOk result (text.new.items ≡ text.old.items ++ telegram_text telegram) }
+pub fn push_telegram(text: &mut Vec<u8>, telegram: &Telegram) -> Result<(), AllocError>
+    ensures { OnOk result (text.new.items ≡ text.old.items ++ telegram_text telegram.now) }
 {
     match telegram {
         Telegram::Short(short) => {

@@ -20,7 +20,8 @@ use Rattle.pb_export.specs.declared.holders.Role.{Role}
 use Rattle.pb_export.specs.declared.holders.Role.TheVariants as role
 use Rattle.pb_export.specs.Holders.{is_active, is_initiator, later, one_part, parts_after, parts_after_slot, parts_before, parts_by_role, parts_from, role_in, slot_end}
 use Rattle.pb_export.specs.Gone.{AreGone, AreGoneAround, AreGoneAt, AreGoneIf}
-use Rattle.pb_export.proofs.Loops.{dropped}
+use Rattle.pb_texts.proofs.Taps.{dropped}
+use Rattle.pb_export.proofs.Waving.{drop-between}
 
 -- ---- one entry
 
@@ -79,21 +80,11 @@ any_late delay tap from to m (suc n) [] stands late = refl
 any_late delay tap from to m (suc n) (e ∷ es) stands late =
     ap (λ (b : Bool). is_within from to (active_at delay tap e) || b) (any_late delay tap from to m n es stands late)
 
-drop_between : (i n : ℕ) (es : List Entry) → i ≤ n → drop n es ≡ drop (n - i) (drop i es)
-drop_between zero n es less =
-    let same : n ≡ n - zero = omega arith in
-    ap (λ (k : ℕ). drop k es) same
-drop_between (suc i) n [] less = drop_all n [] (omega arith) ∙ sym (drop_all (n - suc i) [] (omega arith))
-drop_between (suc i) zero (e ∷ es) less = absurd (omega (arith, less))
-drop_between (suc i) (suc m) (e ∷ es) less =
-    let same : m - i ≡ suc m - suc i = omega arith in
-    drop_between i m es (omega (arith, less)) ∙ ap (λ (k : ℕ). drop k (drop i es)) same
-
 silent_around : (delay tap from to m i n : ℕ) (es : List Entry) → i ≤ n → AreGone delay from (take i es) → StandsFrom m (drop n es) → to ≤ m
     → is_silent delay tap es from to ≡ is_silent delay tap (take (n - i) (drop i es)) from to
 silent_around delay tap from to m i n es less gone stands late =
     silent_gone delay tap from to i es gone
-    ∙ ap not (any_late delay tap from to m (n - i) (drop i es) (subst (StandsFrom m) (drop_between i n es less) stands) late)
+    ∙ ap not (any_late delay tap from to m (n - i) (drop i es) (subst (StandsFrom m) (drop-between i n es less) stands) late)
 
 -- ---- the parts after the last token or request
 

@@ -3,13 +3,7 @@ use Rattle.std.proofs.Common.{◌≡◌, ◌∙◌, ap, sym, subst, arith, ℕ, 
 use Rattle.std.specs.Prelude.{slice_get, drop}
 use Rattle.std.proofs.lemmas.List.{append-nil, drop_all}
 use Rattle.std.proofs.lemmas.Option.{none-some, same_Some}
-
-pub dropped : {X : Type 0} (xs : List X) (i : ℕ) (x : X) → slice_get xs i ≡ Some x → drop i xs ≡ x ∷ drop (i + 1) xs
-dropped [] i x here = absurd (none-some x here)
-dropped (y ∷ ys) zero x here = ap (λ z. z ∷ ys) (same_Some y x here)
-dropped {X} (y ∷ ys) (suc i) x here =
-    let place : suc (i + 1) ≡ suc i + 1 = omega arith in
-    subst (λ (n : ℕ). drop i ys ≡ x ∷ drop n (y ∷ ys)) place (dropped ys i x here)
+use Rattle.pb_texts.proofs.Taps.{dropped}
 
 -- ---- over the items of a list
 
@@ -37,13 +31,6 @@ count-step F g i end text after all by less is so_far =
     let rest = F (i + 1) left in
     let one : end - i ≡ suc left = omega (arith, less) in
     ap (λ z. z ++ rest) is ∙ append_assoc text (g i) rest ∙ ap (λ z. text ++ z) (sym (ap (F i) one ∙ by i left)) ∙ so_far
-
--- no number is left
-pub count-end : (F : ℕ → ℕ → List ℕ) (i end : ℕ) (text all : List ℕ)
-    → ((k : ℕ) → F k zero ≡ []) → end ≤ i → text ++ F i (end - i) ≡ all → text ≡ all
-count-end F i end text all by past so_far =
-    let none : end - i ≡ zero = omega (arith, past) in
-    sym (append-nil text) ∙ ap (λ z. text ++ z) (sym (ap (F i) none ∙ by i)) ∙ so_far
 
 -- ---- over the items of two lists
 

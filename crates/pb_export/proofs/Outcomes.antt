@@ -22,21 +22,9 @@ use Rattle.pb_texts.specs.Shown.{refusal}
 use Rattle.pb_texts.specs.Faults.{IsTold, line_of_run, new_line, refused_line}
 use Rattle.pb_export.specs.declared.options.Export.{Export}
 use Rattle.pb_export.specs.Exports.{export_of_run, export_of_scenario}
+use Rattle.pb_texts.proofs.Outcomes.{same_world, one_end, world_fault-of}
 
 -- ---- the trace
-
-same_world : (r : Result (World × Reply) model.Fault) (a b : World) (x y : Reply) → r ≡ Ok (a, x) → r ≡ Ok (b, y) → a ≡ b
-same_world r a b x y one other =
-    let same : Ok (a, x) ≡ Ok (b, y) = sym one ∙ other in
-    let pair : (a, x) ≡ (b, y) = cc same in
-    ap (λ (p : World × Reply). p.0) pair
-
-one_end : (w a b : World) (es : List Event) → RunsTo w es a → Leads bus w es b → a ≡ b
-unfolding Leads
-one_end w a b [] runs leads = sym runs ∙ leads
-one_end w a b (e ∷ es) runs leads =
-    let between : runs.0 ≡ leads.0 = same_world (step w e) runs.0 leads.0 runs.1 leads.1 runs.2 leads.2 in
-    one_end runs.0 a b es runs.3 (subst (λ (v : World). Leads bus v es b) (sym between) leads.3)
 
 traced_in : (s : Scenario) (r : Option (Result (World × List Event) RunFault)) (first end : World) (events : List Event) → EventsLead
     → new_world s.params s.taps ≡ Ok first → run_of s ≡ r → with_end (λ (last : World × List Event). last.1) r ≡ Some (Ok events)
@@ -69,20 +57,6 @@ refused_in x s (Some (Ok last)) clock g end = absurd cc
 refused_in x s (Some (Err fault)) clock g end =
     let same : fault ≡ At clock g = cc end in
     ap (λ (f : RunFault). export_of_run x s (Some (Err f))) same
-
--- the line of a fault of a world is that of the model's
-world_fault-of : (f : WorldFault) (P : WorldFault → Type 0) → IfSome (model_fault f) (λ g. P (world_fault g)) → f ≢ fault.NoMemory → P f
-world_fault-of fault.NoSuchTap P p told = p
-world_fault-of fault.Running P p told = p
-world_fault-of fault.NotRunning P p told = p
-world_fault-of fault.NothingInAir P p told = p
-world_fault-of fault.ZeroTime P p told = p
-world_fault-of (fault.TooFar furthest) P p told = p
-world_fault-of fault.ClockFull P p told = p
-world_fault-of fault.QueueFull P p told = p
-world_fault-of (fault.InboxFull tap) P p told = p
-world_fault-of fault.TraceFull P p told = p
-world_fault-of fault.NoMemory P p told = absurd (told refl)
 
 refused_each : (x : Export) (s : ScenarioView) (clock : ℕ) (g : Option model.Fault)
     → IfSome g (λ g. events_of s.scenario ≡ Some (Err (At clock g)))

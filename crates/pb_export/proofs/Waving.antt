@@ -15,7 +15,7 @@ use Rattle.pb_export.specs.Levels.{bus_at, bus_from, bus_with, is_on, joined}
 use Rattle.pb_export.specs.Windows.{is_shown}
 use Rattle.pb_export.specs.Vcd.{entry_change, line_change, moment, moments, named_at, named_from, named_with}
 use Rattle.pb_export.specs.Waves.{AreOver, AreToCome}
-use Rattle.pb_export.proofs.Loops.{dropped}
+use Rattle.pb_texts.proofs.Taps.{dropped}
 
 -- ---- which are over, and which are to come
 
@@ -39,9 +39,6 @@ come-at t i es e stands here less =
     let tail = drop (i + 1) es in
     let behind : StandsFrom 0 (e ∷ tail) = subst (StandsFrom 0) (dropped es i e here) (stands-drop 0 i es stands) in
     subst (AreToCome t) (sym (dropped es i e here)) (less, come-from t (entry_begin e) tail less behind.1)
-
-pub come-past : (t i : ℕ) (es : List Entry) → length es ≤ i → AreToCome t (drop i es)
-come-past t i es past = subst (AreToCome t) (sym (drop_all i es past)) tt
 
 pub over-more : (t i : ℕ) (es : List Entry) (e : Entry) → slice_get es i ≡ Some e → entry_end e ≤ t → AreOver t (take i es) → AreOver t (take (i + 1) es)
 over-more t i [] e here over before = absurd (none-some e here)
@@ -141,7 +138,7 @@ named-come w t place found (suc n) (e ∷ es) come = named-come w t (place + 1) 
 
 -- ---- what is seen of all of them
 
-drop-between : {X : Type 0} (first next : ℕ) (xs : List X) → first ≤ next → drop next xs ≡ drop (next - first) (drop first xs)
+pub drop-between : {X : Type 0} (first next : ℕ) (xs : List X) → first ≤ next → drop next xs ≡ drop (next - first) (drop first xs)
 drop-between zero next xs less =
     let same : next ≡ next - zero = omega arith in
     ap (λ (n : ℕ). drop n xs) same

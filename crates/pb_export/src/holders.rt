@@ -253,8 +253,9 @@ fn push_after_record(
     telegram: &Record,
     until: u64,
 ) -> Result<(), AllocError>
-    ensures { OnOk result (parts.new.items ≡ parts.old.items ++ holders.parts_by_role scenario.now
-        (map entry_of entries.now) (record_of telegram.now) (holders.role_in (record_of telegram.now)) until) }
+    ensures { OnOk result (parts.new.items ≡ parts.old.items
+        ++ holders.parts_by_role scenario.now (map entry_of entries.now) (record_of telegram.now)
+        (holders.role_in (record_of telegram.now)) until) }
 {
     match role_of(&telegram.octets) {
         Role::Nothing | Role::Keeps => push_part(parts, Some(telegram.tap), until),

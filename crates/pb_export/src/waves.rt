@@ -85,7 +85,8 @@ fn push_moment(
     requires first { place.first ≤ place.next }
     requires next { place.next ≤ length entries.now }
     ensures text { IfOk result (λ _. text.new.items ≡ text.old.items
-        ++ vcd.moment dump.baud dump.strings dump.window (map entry_of entries.now) place.level place.named now) }
+        ++ vcd.moment dump.baud dump.strings dump.window (map entry_of entries.now)
+        place.level place.named now) }
     ensures level { IfOk result (λ p. p.level ≡ levels.bus_at dump.window (map entry_of entries.now) now) }
     ensures named { IfOk result (λ p. p.named ≡ vcd.named_at dump.window (map entry_of entries.now) now) }
     ensures over { IfOk result (λ p. AreOver now (take p.first (map entry_of entries.now))) }

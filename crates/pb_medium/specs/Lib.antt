@@ -4,6 +4,7 @@ pub mod Making
 pub mod Comparing
 pub mod Walking
 pub mod Traces
+pub mod LettingGo
 pub mod Senses
 pub mod Lone
 pub mod Airs

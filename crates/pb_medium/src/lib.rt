@@ -8,6 +8,7 @@ mod cutting;
 mod damaging;
 mod entries;
 mod hearing;
+mod letting_go;
 mod lone;
 mod losing;
 mod making;

@@ -6,9 +6,7 @@ use Rattle.pb_telegram.specs.declared.chars.RxChar.TheVariants.{Good}
 use Rattle.pb_telegram.specs.declared.telegrams.Telegram.{Telegram}
 use Rattle.pb_telegram.specs.declared.telegrams.Telegram.TheVariants.{Short, Var, Fixed8, Token, Ack}
 use Rattle.pb_telegram.proofs.OneTelegram.{one_telegram}
-use Rattle.pb_monitor.specs.declared.cutting.Piece.{Piece}
-use Rattle.pb_monitor.specs.declared.cutting.Piece.TheVariants.{Whole, Skipped}
-use Rattle.pb_monitor.specs.Cutting.{need_of_data, needs, AreCutOf, spellings, wholes}
+use Rattle.pb_monitor.specs.Cutting.{Piece, Whole, Skipped, need_of_data, needs, AreCutOf, spellings, wholes}
 use Rattle.pb_monitor.proofs.Fronts.{needs_right}
 
 -- the front of a stream that begins with a telegram tells its length

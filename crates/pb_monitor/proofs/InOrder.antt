@@ -15,6 +15,7 @@ use Rattle.pb_monitor.specs.Meanings.{is_none, initiator_of, meaning_of}
 use Rattle.pb_monitor.specs.Judge.{behind, heard_at, judged_last, judged_offer, judged_passing, legal_alarm_of, may_claim, or_claim, silence_before, touch}
 use Rattle.pb_monitor.specs.Orders.{alarm_after, alarm_of_another, last_in, with_wrong, wrong_by, wrong_in, wrongs}
 use Rattle.pb_monitor.proofs.Chosen.{AllLegal}
+use Rattle.pb_monitor.proofs.NoneRaised.{same_last}
 
 -- the last telegrams say the same of the token
 abbrev IsLast : Option LastHeard → Option InitiatorTelegram → Type 0
@@ -77,13 +78,6 @@ claim_right : (o : Option InitiatorTelegram) (t : InitiatorTelegram) → t.is_cl
 claim_right None t claim = refl
 claim_right (Some last) t claim = ap (λ (b : Bool). if b || t.source == last.source then None else alarm_of_another last.offered t) claim
 
-kept_last : (p : Params) (j : State) (begin : ℕ) → (silence_before p j begin).last ≡ j.last
-kept_last p j begin = by (nat_lt (j.quiet + p.tsl) begin)
-  where
-    by : (b : Bool) → (if b then record j { silent_from = j.quiet; silent_to = begin } else j).last ≡ j.last
-    by true = refl
-    by false = refl
-
 telegram_right : (p : Params) (slack since : ℕ) (j : State) (begin : ℕ) (t : InitiatorTelegram) (o : Option InitiatorTelegram) → IsLast j.last o
     → (if may_claim p slack since (silence_before p j begin) begin t then None else judged_last p slack (silence_before p j begin).last begin t) ≡ None
     → alarm_after o t ≡ None
@@ -97,7 +91,7 @@ telegram_right p slack since j begin t o same legal = by t.is_claim refl
         ap (λ (b : Bool). b && (nat_lt begin (since + (p.ttd + tto p t.source + slack))
         || (nat_le begin (s.silent_to + (p.ttd + slack)) && nat_le (s.silent_from + tto p t.source) (begin + slack)))) claim in
         last_right p slack j.last o begin t same claim
-        (ap (λ (l : Option LastHeard). judged_last p slack l begin t) (sym (kept_last p j begin))
+        (ap (λ (l : Option LastHeard). judged_last p slack l begin t) (sym (same_last p j begin))
         ∙ sym (ap (λ (b : Bool). if b then None else judged_last p slack s.last begin t) off) ∙ legal)
 
 none_wrong : (p : Params) (slack since : ℕ) (j : State) (b : Burst) (o : Option InitiatorTelegram) → IsLast j.last o → legal_alarm_of p slack since j b ≡ None

@@ -33,11 +33,11 @@ right : (a b : Bool) → (a && b) ≡ true → b ≡ true
 right true b e = e
 right false b e = absurd cc
 
-either : (a b : Bool) → (a || b) ≡ true → (a ≡ true) ⊎ (b ≡ true)
+pub either : (a b : Bool) → (a || b) ≡ true → (a ≡ true) ⊎ (b ≡ true)
 either true b e = inl refl
 either false b e = inr e
 
-untouched : (b : Bool) → (b ≡ true → ⊥) → or_alarm (not b) PassedAgainThoughHeard ≡ None
+pub untouched : (b : Bool) → (b ≡ true → ⊥) → or_alarm (not b) PassedAgainThoughHeard ≡ None
 untouched true h = absurd (h refl)
 untouched false h = refl
 

@@ -116,7 +116,7 @@ pub record Around (p : Params) (specs : List TapSpec) (since : ℕ) (trace : Lis
   pub here : Has (Fills p.ttd b) trace
   pub facts : All (Facts specs p.ttd q b) trace
 
-same_last : (p : Params) (j : State) (begin : ℕ) → (silence_before p j begin).last ≡ j.last
+pub same_last : (p : Params) (j : State) (begin : ℕ) → (silence_before p j begin).last ≡ j.last
 same_last p j begin = by (nat_lt (j.quiet + p.tsl) begin)
   where
     by : (c : Bool) → (if c then record j { silent_from = j.quiet; silent_to = begin } else j).last ≡ j.last
@@ -165,9 +165,6 @@ none_at p slack specs since trace j b short least linked around init legal = by 
 pub facts_of : (specs : List TapSpec) (delay q : ℕ) (b : Burst) (es : List Entry) → AllClear delay q b.begin es → All (IsTold delay b) es → All (IsBySource specs) es → All (Facts specs delay q b) es
 facts_of specs delay q b [] c t s = tt
 facts_of specs delay q b (e ∷ es) c t s = ((c.0, t.0, s.0), facts_of specs delay q b es c.1 t.1 s.1)
-
-heard_telegram : Burst → LastHeard
-heard_telegram b = record { source = source_of (arrival_of b.chars); offered = offered_by (arrival_of b.chars); end = b.end; touched = false }
 
 knowing_of : (p : Params) (specs : List TapSpec) (trace : List Entry) (b : Burst) (es : List Entry) → initiates (arrival_of b.chars) ≡ true → All (IsBySource specs) es
     → All (Knowing p.ttd b (λ w. Knows p specs trace w (record { source = source_of (arrival_of b.chars); offered = offered_by (arrival_of b.chars); end = b.end; touched = false }))) es

@@ -1,9 +1,15 @@
 -- How a stream of octets is cut into telegrams.
-use Rattle.std.specs.Prelude.{◌≡◌, ℕ, ◌+◌, ◌==◌, Bool, false, nat_le, ◌&&◌, if◌then◌else◌, List, [], ◌∷◌, ◌++◌, length, Option, Some, None}
+use Rattle.std.specs.Prelude.{◌≡◌, ℕ, ◌+◌, ◌==◌, Bool, false, nat_le, ◌&&◌, if◌then◌else◌, List, [], ◌∷◌, ◌++◌, length, Option, Some, None, Result, Ok, Err}
 use Rattle.pb_telegram.specs.Grammar.{sd1, sd2, sd3, sd4, spelling}
 use Rattle.pb_telegram.specs.declared.telegrams.Telegram.{Telegram}
-use Rattle.pb_monitor.specs.declared.cutting.Piece.{Piece}
-use Rattle.pb_monitor.specs.declared.cutting.Piece.TheVariants.{Whole, Skipped}
+use Rattle.pb_telegram.specs.declared.faults.TelegramFault.{TelegramFault}
+use Rattle.pb_monitor.specs.declared.cutting.Cut.{Cut}
+use Rattle.pb_monitor.specs.declared.cutting.Cut.TheVariants as cut
+
+-- what comes first in a stream: a telegram, or an octet at which none begins
+pub data Piece : Type 0 where
+  Whole : (t : Telegram) → Piece
+  Skipped : (octet : ℕ) → Piece
 
 -- no telegram begins a stream that begins with these octets
 abbrev pub NoneBegins : List ℕ → Type 0
@@ -13,6 +19,12 @@ NoneBegins octets = (t : Telegram) (rest more : List ℕ) → spelling t ++ rest
 abbrev pub IsCutOff : Piece → (before behind : List ℕ) → Type 0
 IsCutOff (Whole t) before behind = before ≡ spelling t ++ behind
 IsCutOff (Skipped octet) before behind = (before ≡ octet ∷ behind) × NoneBegins before
+
+-- the same, of a cut, with the telegram beside it if it is one
+abbrev pub IsCutAs : Cut → Result Telegram TelegramFault → (before behind : List ℕ) → Type 0
+IsCutAs cut.Whole (Ok t) before behind = IsCutOff (Whole t) before behind
+IsCutAs cut.Whole (Err fault) before behind = ⊥
+IsCutAs (cut.Skipped octet) r before behind = IsCutOff (Skipped octet) before behind
 
 -- how many octets a telegram has, by its first octet, if its length is fixed; 1 if there is none
 abbrev pub need_by : ℕ → ℕ

@@ -1,15 +1,16 @@
 //! Cuts octets without boundaries into telegrams.
 
-ghost use Rattle.std.specs.Prelude.{◌≡◌, ◌↔◌, ◌==◌, ◌<◌, ◌≤◌, ◌++◌, ◌∷◌, ℕ, List, [], IsTrue, IsFalse, drop, length, map, None, IfSome, OnSome};
+ghost use Rattle.std.specs.Prelude.{◌≡◌, ◌↔◌, ◌==◌, ◌<◌, ◌≤◌, ◌++◌, ◌∷◌, ℕ, List, [], IsTrue, IsFalse, drop, length, map, None, IfSome, OnSome, IfOk, OnErr};
 ghost use Rattle.pb_telegram.specs.Grammar.{spelling};
 ghost use Rattle.pb_telegram.specs.Receiving.{StandsFor};
 ghost use Rattle.pb_telegram.specs.declared.chars.RxChar.TheVariants.{Good};
 ghost use Rattle.pb_telegram.specs.declared.telegrams.Telegram.{Telegram};
-ghost use Rattle.pb_monitor.specs.Cutting.{IsCutOff, is_decided, need_by, need_of_data, needs};
+ghost use Rattle.pb_monitor.specs.Cutting.{IsCutAs, is_decided, need_by, need_of_data, needs};
 
 use arrayvec::ArrayVec;
 use pb_telegram::{
-    FIXED_START, Receiver, RxChar, SHORT_START, TOKEN_START, Telegram, VAR_START, copy_octets,
+    FIXED_START, Receiver, RxChar, SHORT_START, TOKEN_START, Telegram, TelegramFault, VAR_START,
+    copy_octets,
 };
 use std::marker::Model;
 
@@ -17,10 +18,10 @@ use std::marker::Model;
 const LONGEST: usize = 255;
 
 /// What comes first in a stream of octets.
-#[derive(Debug, PartialEq, Eq, Drop)]
-pub enum Piece {
+#[derive(Clone, Copy, Debug, PartialEq, Eq)]
+pub enum Cut {
     /// A telegram.
-    Whole(Telegram),
+    Whole,
     /// An octet at which no telegram begins.
     Skipped(u8),
 }
@@ -95,11 +96,11 @@ impl Cutter {
         }
     }
 
-    /// Cuts off what comes first, if that is known already: a telegram, or an octet at which none begins, whatever
-    /// follows. Otherwise fewer than 255 octets have come, and nothing changes.
+    /// Cuts off what comes first, if that is known already: a telegram, which is then in `telegram`, or an octet at which
+    /// none begins, whatever follows. Otherwise fewer than 255 octets have come, and no octet is cut off.
     #[tactic(auto, using(crate::proofs::Fronts::none_begins, crate::proofs::Fronts::whole_front))]
-    pub fn cut(&mut self) -> Option<Piece>
-        ensures piece { IfSome result (λ piece. IsCutOff piece self.old self.new) }
+    pub fn cut(&mut self, telegram: &mut Result<Telegram, TelegramFault>) -> Option<Cut>
+        ensures piece { IfSome result (λ cut. IsCutAs cut telegram.new self.old self.new) }
         ensures shorter { OnSome result (length self.new < length self.old) }
         ensures waits { result ≡ None → self.new ≡ self.old }
         ensures room { result ≡ None → length self.old < 255 }
@@ -108,15 +109,14 @@ impl Cutter {
         if self.window.len() < need {
             return None;
         }
-        match spelled(&mut self.receiver, &self.window[..need]) {
-            Some(telegram) => {
-                self.drop_front(need);
-                Some(Piece::Whole(telegram))
-            }
-            None => match self.skip() {
-                Some(octet) => Some(Piece::Skipped(octet)),
-                None => None,
-            },
+        *telegram = spelled(&mut self.receiver, &self.window[..need]);
+        if telegram.is_ok() {
+            self.drop_front(need);
+            return Some(Cut::Whole);
+        }
+        match self.skip() {
+            Some(octet) => Some(Cut::Skipped(octet)),
+            None => None,
         }
     }
 
@@ -187,10 +187,11 @@ fn needed_by(first: u8) -> usize
     }
 }
 
-/// The telegram that octets spell.
-fn spelled(receiver: &mut Receiver, octets: &[u8]) -> Option<Telegram>
-    ensures whole { IfSome result (λ t. octets.now ≡ spelling t) }
-    ensures none { result ≡ None → (t : Telegram) → octets.now ≡ spelling t → ⊥ }
+/// The telegram that octets spell, or their first fault.
+#[inline(always)]
+fn spelled(receiver: &mut Receiver, octets: &[u8]) -> Result<Telegram, TelegramFault>
+    ensures whole { IfOk result (λ t. octets.now ≡ spelling t) }
+    ensures none { OnErr result ((t : Telegram) → octets.now ≡ spelling t → ⊥) }
 {
     receiver.restart();
     for octet in octets {
@@ -199,15 +200,13 @@ fn spelled(receiver: &mut Receiver, octets: &[u8]) -> Option<Telegram>
     told(receiver)
 }
 
-/// The telegram of the octets that a receiver was fed.
-fn told(receiver: &Receiver) -> Option<Telegram>
+/// The telegram of the octets that a receiver was fed, or their first fault.
+#[inline(always)]
+fn told(receiver: &Receiver) -> Result<Telegram, TelegramFault>
     ensures whole { (octets : List ℕ) → StandsFor receiver.now (map Good octets)
-        → IfSome result (λ t. octets ≡ spelling t) }
-    ensures none { (octets : List ℕ) → StandsFor receiver.now (map Good octets) → result ≡ None
-        → (t : Telegram) → octets ≡ spelling t → ⊥ }
+        → IfOk result (λ t. octets ≡ spelling t) }
+    ensures none { (octets : List ℕ) → StandsFor receiver.now (map Good octets)
+        → OnErr result ((t : Telegram) → octets ≡ spelling t → ⊥) }
 {
-    match receiver.answer() {
-        Ok(telegram) => Some(telegram),
-        Err(_) => None,
-    }
+    receiver.answer()
 }

@@ -3,12 +3,12 @@
 ghost use Rattle.std.specs.Prelude.{◌≡◌};
 
 use crate::bursts::Burst;
-use crate::cutting::Piece;
+use crate::cutting::Cut;
 use crate::monitors::Monitor;
 use crate::pcap::{Item, PcapFault, Stamp};
 use crate::reports::{push_content, push_refused};
 use crate::texts::push_number;
-use pb_telegram::Telegram;
+use pb_telegram::TelegramFault;
 use std::alloc::AllocError;
 
 impl Monitor {
@@ -22,7 +22,9 @@ impl Monitor {
             if !self.cutter.is_full() {
                 self.cutter.push(*byte);
             }
-            self.cut_all(text)?;
+            if self.cutter.is_decided() {
+                self.cut_all(text)?;
+            }
         }
         self.tell_skipped(text)
     }
@@ -39,15 +41,21 @@ impl Monitor {
     }
 
     /// Cuts off all that is known of the octets that have come.
+    #[inline(never)]
     fn cut_all(&mut self, text: &mut Vec<u8>) -> Result<(), AllocError> {
+        let mut burst = Burst {
+            begin: 0,
+            end: 0,
+            telegram: Err(TelegramFault::Empty),
+        };
         while self.cutter.is_decided() {
             let before = self.cutter.len();
-            match self.cutter.cut() {
-                Some(Piece::Whole(telegram)) => {
+            match self.cutter.cut(&mut burst.telegram) {
+                Some(Cut::Whole) => {
                     let count = before.saturating_sub(self.cutter.len());
-                    self.hear_cut(telegram, count, text)?;
+                    self.hear_cut(&burst, count, text)?;
                 }
-                Some(Piece::Skipped(_)) => self.pass_octet(),
+                Some(Cut::Skipped(_)) => self.pass_octet(),
                 None => break,
             }
         }
@@ -80,29 +88,22 @@ impl Monitor {
     /// A telegram of so many octets is cut off.
     fn hear_cut(
         &mut self,
-        telegram: Telegram,
+        burst: &Burst,
         count: usize,
         text: &mut Vec<u8>,
     ) -> Result<(), AllocError>
         ensures { self.new.cutter ≡ self.old.cutter }
     {
-        self.tell_skipped(text)?;
+        if self.skipped > 0 {
+            self.tell_skipped(text)?;
+        }
         let offset = self.place;
         self.place = self.place.saturating_add(count as u64);
-        let burst = Burst {
-            begin: 0,
-            end: 0,
-            telegram: Ok(telegram),
-        };
-        self.statistics.hear_untimed(&burst);
-        if self.options.summary.is_some() {
-            return Ok(());
+        self.statistics.hear_untimed(burst);
+        if self.is_told() {
+            push_cut(text, offset, burst)?;
         }
-        let Burst { telegram, .. } = burst;
-        push_number(text, offset)?;
-        text.extend_from_slice(b" ")?;
-        push_content(text, telegram)?;
-        text.extend_from_slice(b"\n")
+        Ok(())
     }
 
     /// The bytes of a file of packets come.
@@ -168,4 +169,13 @@ impl Monitor {
         self.refuse();
         Ok(())
     }
+}
+
+/// Appends the line of a telegram at an offset.
+#[inline(never)]
+fn push_cut(text: &mut Vec<u8>, offset: u64, burst: &Burst) -> Result<(), AllocError> {
+    push_number(text, offset)?;
+    text.extend_from_slice(b" ")?;
+    push_content(text, &burst.telegram)?;
+    text.extend_from_slice(b"\n")
 }

@@ -21,6 +21,7 @@ mod monitors;
 mod orders;
 mod pcap;
 mod pcapng;
+mod repeats;
 mod reports;
 mod spreads;
 mod states;
@@ -33,7 +34,7 @@ mod words;
 
 pub use alarms::{Alarm, AlarmClass, Classes};
 pub use bursts::Burst;
-pub use cutting::{Cutter, Piece};
+pub use cutting::{Cut, Cutter};
 pub use formats::{Form, Options, SummaryForm};
 pub use holders::Holder;
 pub use judges::Judge;

@@ -227,7 +227,9 @@ impl Monitor {
         };
         self.statistics.hear(&burst);
         let raised = self.judge(&burst);
-        self.push_burst(burst, text)?;
+        if self.is_told() {
+            self.push_burst(&burst, text)?;
+        }
         if let Some(raised) = raised {
             self.tell_alarm(&raised, begin, text)?;
         }
@@ -255,23 +257,21 @@ impl Monitor {
         }
     }
 
-    /// Appends the line of a burst, unless a summary alone is wanted.
-    fn push_burst(&self, burst: Burst, text: &mut Vec<u8>) -> Result<(), AllocError> {
-        if self.options.summary.is_some() {
-            return Ok(());
-        }
-        let Burst {
-            begin,
-            end,
-            telegram,
-        } = burst;
-        push_number(text, begin)?;
+    /// Whether bursts have lines: a summary alone is not wanted.
+    pub(crate) fn is_told(&self) -> bool {
+        self.options.summary.is_none()
+    }
+
+    /// Appends the line of a burst.
+    #[inline(never)]
+    fn push_burst(&self, burst: &Burst, text: &mut Vec<u8>) -> Result<(), AllocError> {
+        push_number(text, burst.begin)?;
         text.extend_from_slice(b" ")?;
-        push_number(text, end)?;
+        push_number(text, burst.end)?;
         text.extend_from_slice(b" ")?;
-        push_content(text, telegram)?;
+        push_content(text, &burst.telegram)?;
         if let Some(judge) = &self.judge {
-            push_holder(text, judge.holder(end))?;
+            push_holder(text, judge.holder(burst.end))?;
         }
         text.extend_from_slice(b"\n")
     }
@@ -315,7 +315,9 @@ impl Monitor {
         };
         let meaning = meaning_in(&burst.telegram);
         self.statistics.hear_untimed(&burst);
-        self.push_untimed(burst, text)?;
+        if self.is_told() {
+            push_untimed(&burst, text)?;
+        }
         let last = self.order.last();
         let raised = self.order.hear(meaning);
         if self.params.is_none() || !self.options.classes.legality {
@@ -330,16 +332,6 @@ impl Monitor {
         }
     }
 
-    /// Appends the line of a burst without moments, unless a summary alone is wanted.
-    fn push_untimed(&self, burst: Burst, text: &mut Vec<u8>) -> Result<(), AllocError> {
-        if self.options.summary.is_some() {
-            return Ok(());
-        }
-        let Burst { telegram, .. } = burst;
-        push_content(text, telegram)?;
-        text.extend_from_slice(b"\n")
-    }
-
     /// Appends the begin of a line for input that is refused.
     pub(crate) fn push_place(&self, text: &mut Vec<u8>) -> Result<(), AllocError> {
         match self.options.form {
@@ -348,4 +340,11 @@ impl Monitor {
             Form::Pcap => push_refused(text, b"packet", self.place),
         }
     }
+}
+
+/// Appends the line of a burst without moments.
+#[inline(never)]
+fn push_untimed(burst: &Burst, text: &mut Vec<u8>) -> Result<(), AllocError> {
+    push_content(text, &burst.telegram)?;
+    text.extend_from_slice(b"\n")
 }

@@ -25,16 +25,15 @@ pub(crate) struct Raised {
 /// Appends a telegram and what it says, or the fault of a burst without one.
 pub(crate) fn push_content(
     text: &mut Vec<u8>,
-    telegram: Result<Telegram, TelegramFault>,
+    telegram: &Result<Telegram, TelegramFault>,
 ) -> Result<(), AllocError> {
     match telegram {
         Ok(telegram) => {
-            let words = Words::of(&telegram);
             push_telegram(text, telegram)?;
             text.extend_from_slice(b" | ")?;
-            words.push(text)
+            Words::of(telegram).push(text)
         }
-        Err(fault) => push_fault(text, &fault),
+        Err(fault) => push_fault(text, fault),
     }
 }
 

@@ -4,13 +4,13 @@ ghost use Rattle.std.specs.Prelude.{◌<◌};
 
 use crate::bursts::Burst;
 use crate::meanings::{InitiatorTelegram, Meaning, meaning_in};
+use crate::repeats::Repeats;
 use crate::states::live;
 use crate::stations::{Role, Station, one_more};
 use crate::traffic::Traffic;
-use arrayvec::ArrayVec;
 use pb_cycles::Asked;
 use pb_ring::Las;
-use pb_telegram::{Fc, Head, Telegram, write_in};
+use pb_telegram::{Fc, Head, Telegram};
 use pb_timers::BusParams;
 use std::alloc::{AllocError, Global};
 
@@ -59,8 +59,7 @@ pub struct Statistics {
     traffic: Traffic,
     stations: Vec<Station>,
     ring: Las,
-    /// The octets of the last token or request; none if it is not known.
-    previous: ArrayVec<u8, 255>,
+    repeats: Repeats,
     offer: Option<Offer>,
     open: Option<Open>,
     /// The end of the last burst, if nothing was missed since.
@@ -91,7 +90,7 @@ impl Statistics {
             traffic: Traffic::default(),
             stations,
             ring: Las::listening(),
-            previous: ArrayVec::new(),
+            repeats: Repeats::new(),
             offer: None,
             open: None,
             quiet: None,
@@ -142,7 +141,7 @@ impl Statistics {
     fn forget_telegrams(&mut self) {
         self.open = None;
         self.offer = None;
-        self.previous.clear();
+        self.repeats.forget();
         self.forget_receipts();
     }
 
@@ -230,10 +229,7 @@ impl Statistics {
         is_claim: bool,
     ) {
         self.close();
-        let mut octets = ArrayVec::new();
-        write_in(telegram, &mut octets);
-        let is_repeat = !said.is_claim && octets.as_slice() == self.previous.as_slice();
-        self.previous = octets;
+        let is_repeat = self.repeats.hear(telegram) && !said.is_claim;
         self.take_offer(burst.begin, said, is_repeat);
         self.offer = said.offered.map(|to| Offer { to, end: burst.end });
         if let Some(station) = self.stations.get_mut(usize::from(said.source)) {

@@ -3,7 +3,6 @@ pub mod Cuts
 pub mod Said
 pub mod Joined
 pub mod Going
-pub mod Counting
 pub mod Playing
 pub mod Moving
 pub mod PlayedInstants

@@ -20,7 +20,9 @@ use Rattle.pb_scenario.proofs.Said.{said-cut, said-more}
 use Rattle.pb_scenario.specs.declared.faults.RunFault.{RunFault}
 use Rattle.pb_scenario.specs.Stages.{StageView, ComesOn, IsReady}
 use Rattle.pb_scenario.specs.Plays.{Happened, Stops, turn_if}
-use Rattle.pb_scenario.proofs.Playing.{all-append, err-append, one-ok, stops-too}
+pub use Rattle.pb_world.proofs.Instants.{in-err}
+use Rattle.pb_world.proofs.Instants.{all-append, due-get, one-ok, others-due, turn_list, turns-append, turns-list, wanted-front}
+use Rattle.pb_scenario.proofs.Playing.{err-append, stops-too}
 
 pub happened-none : (now : ℕ) (v : StageView) → Happened now v [] v
 happened-none now v = record { world = refl; comes = λ start events came. subst (v.comes start) (sym (append-nil events)) came }
@@ -48,10 +50,6 @@ stops-front now w xs ys fault stops =
     stops-too fault Err Err (all bus now xs w) (all bus now (xs ++ ys) w) (λ r err. err-append now xs ys w r err) stops
 
 -- ---- what code finds
-
-pub in-err : {X F : Type 0} (P : X → Type 0) (Q : F → Type 0) (r : Result X F) (f : F) → IsErr r → IsErrAnd r (λ e. e ≡ f) → Q f → MatchResult r P Q
-in-err P Q (Ok x) f err same q = absurd (let wrong : false ≡ true = err in cc)
-in-err P Q (Err e) f err same q = subst Q (sym same) q
 
 pub get-at : {X : Type 0} (xs : List X) (i : ℕ) (x : X) → i < length xs → x ≡ get_or xs i x → slice_get xs i ≡ Some x
 get-at [] i x within is = absurd (omega (arith, within))
@@ -89,30 +87,6 @@ step-stops now when i steps s a b fault found before stops =
 
 -- ---- turns
 
-turns-append : (xs ys : List ℕ) → map Turn (xs ++ ys) ≡ map Turn xs ++ map Turn ys
-turns-append [] ys = refl
-turns-append (x ∷ xs) ys = ap (λ es. Turn x ∷ es) (turns-append xs ys)
-
--- when a tap is due, among those of all taps
-due-get : (w : World) (tap : ℕ) → tap < length w.taps → slice_get (dues w) tap ≡ Some (due_at w tap)
-due-get w tap there = in_taps w.taps tap there
-  where
-    in_taps : (ts : List Tap) (i : ℕ) → i < length ts → slice_get (map (due_in w) ts) i ≡ Some (option_and_then (due_in w) (slice_get ts i))
-    in_taps [] i there = absurd (omega (arith, there))
-    in_taps (t ∷ ts) zero there = refl
-    in_taps (t ∷ ts) (suc i) there = in_taps ts i (omega (arith, there))
-
-drop-at : {X : Type 0} (xs : List X) (i : ℕ) (x : X) → slice_get xs i ≡ Some x → drop i xs ≡ x ∷ drop (i + 1) xs
-drop-at [] i x found = absurd cc
-drop-at (y ∷ ys) zero x found = let same : y ≡ x = cc in ap (λ z. z ∷ ys) same
-drop-at (y ∷ ys) (suc i) x found =
-    let same : suc (i + 1) ≡ suc i + 1 = omega arith in
-    drop-at ys i x found ∙ ap (λ n. x ∷ drop n (y ∷ ys)) same
-
--- the dues of a tap and of those behind it
-pub dues-from : (w : World) (tap : ℕ) → tap < length w.taps → drop tap (dues w) ≡ due_at w tap ∷ drop (tap + 1) (dues w)
-dues-from w tap there = drop-at (dues w) tap (due_at w tap) (due-get w tap there)
-
 -- Some taps have taken their turns: those that want one of the taps before a position. From it on the taps are due as they were.
 pub record HaveTurned (p : Plan Event) (now clock tap : ℕ) (old new : StageView) : Type 0 where
   pub taps : List ℕ
@@ -123,45 +97,15 @@ pub record HaveTurned (p : Plan Event) (now clock tap : ℕ) (old new : StageVie
 pub none-turned : (p : Plan Event) (now clock : ℕ) (v : StageView) → HaveTurned p now clock 0 v v
 none-turned p now clock v = record { taps = []; happened = happened-none now v; left = refl; others = λ other behind. refl }
 
--- the tap at the position is due as it is found, before the others behind it
-turned-front : (p : Plan Event) (now clock tap : ℕ) (old new : StageView) → HaveTurned p now clock tap old new → tap < length new.world.taps
-    → drop tap (dues old.world) ≡ due_at new.world tap ∷ drop (tap + 1) (dues old.world)
-turned-front p now clock tap old new turned there =
-    drop-at (dues old.world) tap (due_at new.world tap) (sym (turned.others tap (omega arith)) ∙ due-get new.world tap there)
-
-abbrev turn_list : Bool → ℕ → List ℕ
-turn_list b tap = if b then tap ∷ [] else []
-
 -- what is left behind a tap
 abbrev left_behind : Plan Event → ℕ → ℕ → StageView → List ℕ
 left_behind p clock tap old = places (tap + 1) (wanted p clock (tap + 1) (drop (tap + 1) (dues old.world)))
 
-turned-left : (p : Plan Event) (now clock tap : ℕ) (old new : StageView) (b : Bool) (turned : HaveTurned p now clock tap old new) → tap < length new.world.taps → b ≡ wants p clock tap (due_at new.world tap)
-    → turned.taps ++ (turn_list b tap ++ left_behind p clock tap old) ≡ places 0 (wanted p clock 0 (dues old.world))
-turned-left p now clock tap old new b turned there is =
-    let rest = left_behind p clock tap old in
-    ap (λ (x : Bool). turned.taps ++ (turn_list x tap ++ rest)) is
-    ∙ ap (λ (ts : List ℕ). turned.taps ++ ts) (join (wants p clock tap (due_at new.world tap)) rest)
-    ∙ ap (λ (ds : List (Option ℕ)). turned.taps ++ places tap (wanted p clock tap ds)) (sym (turned-front p now clock tap old new turned there)) ∙ turned.left
-  where
-    join : (x : Bool) (rest : List ℕ) → turn_list x tap ++ rest ≡ (if x then tap ∷ rest else rest)
-    join true rest = refl
-    join false rest = refl
-
-turns-list : (b : Bool) (tap : ℕ) → map Turn (turn_list b tap) ≡ turn_if b tap
-turns-list true tap = refl
-turns-list false tap = refl
-
--- a turn, or none, leaves when the other taps are due
-others-due : (now tap other : ℕ) (b : Bool) (w u : World) → tap + 1 ≤ other → all bus now (turn_if b tap) w ≡ Ok u → slice_get (dues u) other ≡ slice_get (dues w) other
-others-due now tap other false w u behind ok = let same : w ≡ u = cc in ap (λ (x : World). slice_get (dues x) other) (sym same)
-others-due now tap other true w u behind ok = by (step w (Turn tap)) refl ok
-  where
-    by : (o : Result (World × Reply) Fault) → step w (Turn tap) ≡ o → and_then now o (all bus now []) ≡ Ok u → slice_get (dues u) other ≡ slice_get (dues w) other
-    by (Err fault) is ok = absurd cc
-    by (Ok next) is ok =
-        let same : next.0 ≡ u = cc in
-        ap (λ (x : World). slice_get (dues x) other) (sym same) ∙ turns-leave-others w next.0 tap other next.1 (λ here. omega (arith, here, behind)) is
+turned-left : (p : Plan Event) (now clock tap : ℕ) (old new : StageView) (turned : HaveTurned p now clock tap old new) → tap < length new.world.taps
+    → turned.taps ++ (turn_list (wants p clock tap (due_at new.world tap)) tap ++ left_behind p clock tap old) ≡ places 0 (wanted p clock 0 (dues old.world))
+turned-left p now clock tap old new turned there =
+    let found = sym (turned.others tap (omega arith)) ∙ due-get new.world tap there in
+    ap (λ (ts : List ℕ). turned.taps ++ ts) (wanted-front p clock tap (dues old.world) (due_at new.world tap) found) ∙ turned.left
 
 -- one tap more has turned, if it wanted to
 pub turned-more : (p : Plan Event) (now clock tap : ℕ) (old mid new : StageView) → HaveTurned p now clock tap old mid → tap < length mid.world.taps
@@ -173,7 +117,7 @@ turned-more p now clock tap old mid new turned there one =
       taps = turned.taps ++ turn_list b tap;
       happened = subst (λ es. Happened now old es new) (sym (turns-append turned.taps (turn_list b tap) ∙ ap (λ es. map Turn turned.taps ++ es) (turns-list b tap)))
           (happened-join now old mid new (map Turn turned.taps) (turn_if b tap) turned.happened one);
-      left = append_assoc turned.taps (turn_list b tap) rest ∙ turned-left p now clock tap old mid b turned there refl;
+      left = append_assoc turned.taps (turn_list b tap) rest ∙ turned-left p now clock tap old mid turned there;
       others = λ other behind. others-due now tap other b mid.world new.world behind one.world ∙ turned.others other (omega (arith, behind));
     }
 
@@ -193,33 +137,7 @@ turned-stops p now clock tap old mid fault turned there stops =
     let b = wants p clock tap (due_at mid.world tap) in
     let rest = left_behind p clock tap old in
     let cut : map Turn (places 0 (wanted p clock 0 (dues old.world))) ≡ map Turn turned.taps ++ (turn_if b tap ++ map Turn rest) =
-    ap (map Turn) (sym (turned-left p now clock tap old mid b turned there refl)) ∙ turns-append turned.taps (turn_list b tap ++ rest)
+    ap (map Turn) (sym (turned-left p now clock tap old mid turned there)) ∙ turns-append turned.taps (turn_list b tap ++ rest)
     ∙ ap (λ es. map Turn turned.taps ++ es) (turns-append (turn_list b tap) rest ∙ ap (λ es. es ++ map Turn rest) (turns-list b tap)) in
     subst (λ es. Stops Err fault (all bus now es old.world)) (sym cut)
     (stops-after now old mid (map Turn turned.taps) (turn_if b tap ++ map Turn rest) fault turned.happened (stops-front now mid.world (turn_if b tap) (map Turn rest) fault stops))
-
--- ---- the next turn
-
-earlier-join : (a b c : Option ℕ) → earlier (earlier a b) c ≡ earlier a (earlier b c)
-earlier-join None b c = refl
-earlier-join (Some x) None c = refl
-earlier-join (Some x) (Some y) None = refl
-earlier-join (Some x) (Some y) (Some z) = let same : min (min x y) z ≡ min x (min y z) = omega arith in ap (λ n. Some n) same
-
--- one tap more
-pub sooner-more : (p : Plan Event) (clock : ℕ) (w : World) (tap : ℕ) (first next all_of : Option ℕ) → tap < length w.taps → next ≡ earlier first (comes p clock tap (due_at w tap))
-    → earlier first (next_turn p clock tap (drop tap (dues w))) ≡ all_of → earlier next (next_turn p clock (tap + 1) (drop (tap + 1) (dues w))) ≡ all_of
-sooner-more p clock w tap first next all_of there is so_far =
-    let rest = next_turn p clock (tap + 1) (drop (tap + 1) (dues w)) in
-    ap (λ (o : Option ℕ). earlier o rest) is ∙ earlier-join first (comes p clock tap (due_at w tap)) rest
-    ∙ ap (λ (ds : List (Option ℕ)). earlier first (next_turn p clock tap ds)) (sym (dues-from w tap there)) ∙ so_far
-
--- no tap is left
-pub sooner-all : (p : Plan Event) (clock : ℕ) (w : World) (tap : ℕ) (first all_of : Option ℕ) → length w.taps ≤ tap → earlier first (next_turn p clock tap (drop tap (dues w))) ≡ all_of → first ≡ all_of
-sooner-all p clock w tap first all_of past so_far =
-    let none : drop tap (dues w) ≡ [] = drop_all tap (dues w) (omega (arith, past, length-map w.taps (due_in w))) in
-    by first ∙ ap (λ (ds : List (Option ℕ)). earlier first (next_turn p clock tap ds)) (sym none) ∙ so_far
-  where
-    by : (o : Option ℕ) → o ≡ earlier o None
-    by None = refl
-    by (Some n) = refl

@@ -14,8 +14,9 @@ use Rattle.pb_scenario.specs.Faults.{EndsBy}
 use Rattle.pb_scenario.specs.Scenarios.{ScenarioView, walk_of}
 use Rattle.pb_scenario.specs.Stages.{StageView, IsReady}
 use Rattle.pb_scenario.specs.Plays.{Happened, Stops, EndsIn, GoesOn, IsPlayed, run_with}
-use Rattle.pb_scenario.proofs.Counting.{count-all}
-use Rattle.pb_scenario.proofs.Playing.{instant-is, run-stops, stops-too, no-front, from-early, to_turns, to_late, to_passing, from_turns, from_late, from_passing, regroup}
+use Rattle.pb_world.proofs.Counting.{count-all}
+use Rattle.pb_world.proofs.Instants.{no-front}
+use Rattle.pb_scenario.proofs.Playing.{instant-is, run-stops, stops-too, from-early, to_turns, to_late, to_passing, from_turns, from_late, from_passing, regroup}
 
 -- ---- an instant
 

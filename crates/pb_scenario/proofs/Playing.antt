@@ -12,6 +12,7 @@ use Rattle.pb_scenario.specs.declared.faults.RunFault.{RunFault}
 use Rattle.pb_scenario.specs.declared.faults.RunFault.TheVariants.{New, At}
 use Rattle.pb_scenario.specs.Faults.{model_fault}
 use Rattle.pb_scenario.specs.Plays.{Stops, run_with}
+use Rattle.pb_world.proofs.Instants.{front-front, one-ok}
 
 -- ---- faults
 
@@ -62,22 +63,6 @@ refused-by w e fault refuses = by (step w e) refl refuses
 
 -- ---- events in a row
 
-pub one-ok : (now : ℕ) (w u : World) (r : Reply) (e : Event) (es : List Event) → step w e ≡ Ok (u, r) → all bus now (e ∷ es) w ≡ all bus now es u
-one-ok now w u r e es is = ap (λ o. and_then now o (all bus now es)) is
-
--- what happens after events that have happened
-pub all-append : (now : ℕ) (xs ys : List Event) (w u : World) → all bus now xs w ≡ Ok u → all bus now (xs ++ ys) w ≡ all bus now ys u
-all-append now [] ys w u same = ap (all bus now ys) (ok-is w u same)
-  where
-    ok-is : (w u : World) → (let o : Result World (ℕ × Fault) = Ok w in o ≡ Ok u) → w ≡ u
-    ok-is w u same = cc
-all-append now (x ∷ xs) ys w u same = by (λ v. all-append now xs ys v u) (step w x) refl same
-  where
-    by : ((v : World) → all bus now xs v ≡ Ok u → all bus now (xs ++ ys) v ≡ all bus now ys u) → (o : Result (World × Reply) Fault) → step w x ≡ o → and_then now o (all bus now xs) ≡ Ok u
-        → all bus now (x ∷ (xs ++ ys)) w ≡ all bus now ys u
-    by rest (Ok v) is same = one-ok now w v.0 v.1 x (xs ++ ys) is ∙ rest v.0 same
-    by rest (Err f) is same = absurd cc
-
 -- what stops events stops those that they begin
 pub err-append : (now : ℕ) (xs ys : List Event) (w : World) (r : ℕ × Fault) → all bus now xs w ≡ Err r → all bus now (xs ++ ys) w ≡ Err r
 err-append now [] ys w r same = absurd cc
@@ -127,16 +112,6 @@ pub run-stops : {A : Type 0} (fault : RunFault) (before : List Event) (o : Resul
     → whole ≡ on_ok o f → Stops Err fault o → Stops (λ r. Some (Err r)) fault (with_front before whole)
 run-stops fault before o f whole is stops =
     stops-too fault Err (λ r. Some (Err r)) o (with_front before whole) (λ r err. ap (with_front before) (is ∙ on_ok-err o r f err)) stops
-
-front-front : (xs ys : List Event) (o : Option (Result (World × List Event) (ℕ × Fault))) → with_front xs (with_front ys o) ≡ with_front (xs ++ ys) o
-front-front xs ys None = refl
-front-front xs ys (Some (Err r)) = refl
-front-front xs ys (Some (Ok end)) = ap (λ es. Some (Ok (end.0, es))) (sym (append_assoc xs ys end.1))
-
-pub no-front : (o : Option (Result (World × List Event) (ℕ × Fault))) → with_front [] o ≡ o
-no-front None = refl
-no-front (Some (Err r)) = refl
-no-front (Some (Ok end)) = refl
 
 rest-ending : (k : ℕ) (p : Plan Event) (before here : List Event) (t : Option ℕ) (d : World) → with_front before (ending t here d (run k bus p)) ≡ run_with (before ++ here) p k t d
 rest-ending k p before here None d = refl

@@ -5,6 +5,7 @@ use Rattle.law_runs.specs.Runs.{Plan, all, run, with_front}
 use Rattle.law_runs.specs.Bus.{bus}
 use Rattle.law_runs.specs.Scenarios as runs
 use Rattle.law_runs.specs.Scenarios.{Scenario}
+pub use Rattle.pb_world.specs.RunTo.{run_with, turn_if}
 use Rattle.pb_scenario.specs.Walks.{WalkView, plan_in}
 use Rattle.pb_scenario.specs.declared.faults.RunFault.{RunFault}
 use Rattle.pb_scenario.specs.declared.faults.RunFault.TheVariants.{New, At}
@@ -27,17 +28,7 @@ pub record Happened (now : ℕ) (old : StageView) (es : List model.Event) (new :
 abbrev pub Plays : ℕ → StageView → List model.Event → Result (Unit {0}) RunFault → StageView → Type 0
 Plays now old es result new = MatchResult result (λ _. Happened now old es new) (λ fault. Stops Err fault (all bus now es old.world))
 
--- the turn of a tap, if it takes one
-abbrev pub turn_if : Bool → ℕ → List model.Event
-turn_if b tap = if b then model.Turn tap ∷ [] else []
-
 -- ---- instants
-
--- A run by a plan whose first events have led to a world: it continues from there at a moment, for this many instants,
--- or has ended.
-abbrev pub run_with : List model.Event → Plan model.Event → ℕ → Option ℕ → model.World → Option (Result (model.World × List model.Event) (ℕ × model.Fault))
-run_with events p left None w = Some (Ok (w, events))
-run_with events p left (Some moment) w = with_front events (run left bus p moment w)
 
 -- the events of an instant of a walk have happened, and after them the run continues at the next instant, if there is
 -- one

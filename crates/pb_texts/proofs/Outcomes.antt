@@ -25,13 +25,13 @@ use Rattle.pb_texts.specs.Audits.{audit_of_run, audit_of_scenario, broken_from, 
 
 -- ---- what an audit found
 
-same_world : (r : Result (World × Reply) model.Fault) (a b : World) (x y : Reply) → r ≡ Ok (a, x) → r ≡ Ok (b, y) → a ≡ b
+pub same_world : (r : Result (World × Reply) model.Fault) (a b : World) (x y : Reply) → r ≡ Ok (a, x) → r ≡ Ok (b, y) → a ≡ b
 same_world r a b x y one other =
     let same : Ok (a, x) ≡ Ok (b, y) = sym one ∙ other in
     let pair : (a, x) ≡ (b, y) = cc same in
     ap (λ (p : World × Reply). p.0) pair
 
-one_end : (w a b : World) (es : List Event) → RunsTo w es a → Leads bus w es b → a ≡ b
+pub one_end : (w a b : World) (es : List Event) → RunsTo w es a → Leads bus w es b → a ≡ b
 unfolding Leads
 one_end w a b [] runs leads = sym runs ∙ leads
 one_end w a b (e ∷ es) runs leads =
@@ -72,7 +72,7 @@ refused_in new (Some (Err fault)) clock g end =
     ap (λ (f : RunFault). audit_of_run new (Some (Err f))) same
 
 -- the line of a fault of a world is that of the model's
-world_fault-of : (f : WorldFault) (P : WorldFault → Type 0) → IfSome (model_fault f) (λ g. P (world_fault g)) → f ≢ fault.NoMemory → P f
+pub world_fault-of : (f : WorldFault) (P : WorldFault → Type 0) → IfSome (model_fault f) (λ g. P (world_fault g)) → f ≢ fault.NoMemory → P f
 world_fault-of fault.NoSuchTap P p told = p
 world_fault-of fault.Running P p told = p
 world_fault-of fault.NotRunning P p told = p

@@ -1,5 +1,6 @@
 -- A text that grows by pieces.
-use Rattle.std.proofs.Common.{◌≡◌, ◌∙◌, ap, List, ℕ, ◌++◌, append_assoc}
+use Rattle.std.proofs.Common.{◌≡◌, ◌≢◌, ◌∙◌, ap, true, false, ◌==◌, ◌⊎◌, inl, inr, List, ℕ, ◌++◌, append_assoc}
+use Rattle.std.proofs.lemmas.Bool.Decides.{eqb_tells}
 use Rattle.std.specs.Prelude.{Result, Ok, Err, OnOk, is_ok, if◌then◌else◌}
 
 -- a piece before what follows
@@ -20,3 +21,12 @@ octets (Err fault) x y c is = tt
 -- one piece more
 pub more : (w x y b c : List ℕ) → x ≡ w ++ b → y ≡ x ++ c → y ≡ w ++ (b ++ c)
 more w x y b c is next = next ∙ ap (λ z. z ++ c) is ∙ append_assoc w b c
+
+-- what is not 0 is told from it
+pub not_zero : (n : ℕ) → (n ≡ 0 → ⊥) → (n == 0) ≡ false
+not_zero n some =
+    by (eqb_tells n 0)
+  where
+    by : ((n == 0) ≡ true) × (n ≡ 0) ⊎ ((n == 0) ≡ false) × (n ≢ 0) → (n == 0) ≡ false
+    by (inl is) = absurd (some is.1)
+    by (inr is) = is.0

@@ -7,7 +7,7 @@ use Rattle.pb_timers.specs.Timers.{Params}
 use Rattle.law_model.specs.Medium.{TapSpec}
 use Rattle.pb_texts.specs.Texts.{comma_if, master_object, master_objects, tap_lines, taps_lines}
 
-dropped : {X : Type 0} (xs : List X) (i : ℕ) (x : X) → slice_get xs i ≡ Some x → drop i xs ≡ x ∷ drop (i + 1) xs
+pub dropped : {X : Type 0} (xs : List X) (i : ℕ) (x : X) → slice_get xs i ≡ Some x → drop i xs ≡ x ∷ drop (i + 1) xs
 dropped [] i x here = absurd (none-some x here)
 dropped (y ∷ ys) zero x here = ap (λ z. z ∷ ys) (same_Some y x here)
 dropped {X} (y ∷ ys) (suc i) x here =

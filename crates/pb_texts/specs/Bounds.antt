@@ -4,6 +4,7 @@ use Rattle.pb_timers.specs.Timers.{Params, bits, tto}
 use Rattle.pb_faults.specs.FirstFault.{first_fault}
 use Rattle.law_model.specs.Medium.{TapSpec}
 use Rattle.law_model.specs.World.{NewFault, new_faults}
+use Rattle.law_rings.specs.Rotation.{rotation_time}
 use Rattle.pb_scenario.specs.Scenarios.{ScenarioView}
 
 -- how long a running master that is not offline is left in silence at most, each telegram taken when it is sent: its time-out, the lag and the cable delay
@@ -32,6 +33,10 @@ is_master spec = spec.master
 
 abbrev pub masters_of : List TapSpec → ℕ
 masters_of specs = count_by is_master specs
+
+-- how much longer than the target rotation time a station of a settled ring of some masters waits for the token at most
+abbrev pub beyond_ttr : Params → ℕ → ℕ
+beyond_ttr p masters = rotation_time p masters - p.ttr
 
 -- how long a master has the token that only passes it on: the idle time, the token of three octets, and the cable delay
 abbrev pub shortest_hold : Params → ℕ

@@ -1,10 +1,11 @@
 -- The text of the numbers of a bus: lines, or one JSON object.
-use Rattle.std.specs.Prelude.{ℕ, ◌+◌, ◌-◌, ◌*◌, ◌/◌, ◌%◌, Bool, true, false, ◌&&◌, if◌then◌else◌, List, [], ◌∷◌, ◌++◌, codes, decimal}
+use Rattle.std.specs.Prelude.{ℕ, ◌+◌, ◌-◌, ◌*◌, ◌/◌, ◌%◌, ◌==◌, Bool, true, false, ◌&&◌, if◌then◌else◌, List, [], ◌∷◌, ◌++◌, codes, decimal}
 use Rattle.pb_timers.specs.Timers.{Params, tto}
 use Rattle.law_model.specs.Medium.{TapSpec}
 use Rattle.law_live.specs.NeverDead.{longest_without}
+use Rattle.law_rings.specs.Rotation.{rotation_time}
 use Rattle.pb_scenario.specs.Scenarios.{ScenarioView}
-use Rattle.pb_texts.specs.Bounds.{silence_bound, take_margin, reply_margin, lag_margin, masters_of, never_asks, is_round_long}
+use Rattle.pb_texts.specs.Bounds.{silence_bound, beyond_ttr, take_margin, reply_margin, lag_margin, masters_of, never_asks, is_round_long}
 
 -- Some words are unfolded in few proofs alone, so that longer texts stay short terms.
 
@@ -43,6 +44,13 @@ taps_lines baud p [] specs = []
 taps_lines baud p (name ∷ names) [] = []
 taps_lines baud p (name ∷ names) (spec ∷ specs) = tap_lines baud p name spec ++ taps_lines baud p names specs
 
+-- those of a ring of all masters, if there is one
+abbrev pub rotation_lines : (baud : ℕ) → Params → (masters : ℕ) → List ℕ
+rotation_lines baud p masters =
+    if masters == 0 then []
+    else number_line baud (codes "rotation bound ") (rotation_time p masters) (codes "a_rotation_is_bounded")
+    ++ number_line baud (codes "rotation bound beyond ttr ") (beyond_ttr p masters) (codes "a_rotation_is_bounded")
+
 abbrev pub margin_lines : (baud : ℕ) → Params → List ℕ
 margin_lines baud p =
     number_line baud (codes "slot margin of a take ") (take_margin p) (codes "TakeLate")
@@ -67,7 +75,8 @@ warning_lines p masters = line_if (never_asks p masters) asks_words ++ line_if (
 abbrev pub bounds_text : (baud : ℕ) → ScenarioView → List ℕ
 bounds_text baud s =
     let p = s.scenario.params in
-    taps_lines baud p s.names s.scenario.taps ++ margin_lines baud p ++ warning_lines p (masters_of s.scenario.taps)
+    taps_lines baud p s.names s.scenario.taps ++ rotation_lines baud p (masters_of s.scenario.taps)
+    ++ margin_lines baud p ++ warning_lines p (masters_of s.scenario.taps)
 
 -- ---- JSON
 
@@ -95,6 +104,13 @@ master_objects baud p behind (name ∷ names) (spec ∷ specs) =
     if spec.master then comma_if behind ++ master_object baud p name spec.address ++ master_objects baud p true names specs
     else master_objects baud p behind names specs
 
+-- those of a ring of all masters, if there is one
+abbrev pub rotation_members : (baud : ℕ) → Params → (masters : ℕ) → List ℕ
+rotation_members baud p masters =
+    if masters == 0 then []
+    else member baud (codes ",\"rotation_bound\":") (rotation_time p masters)
+    ++ member baud (codes ",\"rotation_bound_beyond_ttr\":") (beyond_ttr p masters)
+
 abbrev pub margin_members : (baud : ℕ) → Params → List ℕ
 margin_members baud p =
     member baud (codes ",\"take_margin\":") (take_margin p)
@@ -119,4 +135,6 @@ warnings_member p masters = codes ",\"warnings\":[" ++ warning_items p masters +
 
 abbrev pub bounds_json : (baud : ℕ) → ScenarioView → List ℕ
 bounds_json baud s =
-    codes "{\"baud\":" ++ decimal baud ++ masters_member baud s ++ margin_members baud s.scenario.params ++ warnings_member s.scenario.params (masters_of s.scenario.taps)
+    let p = s.scenario.params in
+    codes "{\"baud\":" ++ decimal baud ++ masters_member baud s ++ rotation_members baud p (masters_of s.scenario.taps)
+    ++ margin_members baud p ++ warnings_member p (masters_of s.scenario.taps)

@@ -2,10 +2,12 @@
 
 ghost use Rattle.std.specs.Prelude.{◌≡◌, ◌≤◌, ◌+◌, ◌-◌, ◌*◌, length, map};
 ghost use Rattle.pb_taps.specs.Taps.{spec_of};
+ghost use Rattle.law_rings.specs.Rotation as rings;
 ghost use Rattle.pb_texts.specs.Bounds as bounds;
 
 use pb_taps::{Kind, TapSpec};
 use pb_timers::{BusParams, bits};
+use pb_world::longest_cycle;
 
 /// The octets of a token.
 const TOKEN: usize = 3;
@@ -16,6 +18,26 @@ pub fn silence_bound(params: &BusParams, address: u8) -> u64
     ensures { result ≡ bounds.silence_bound params.now address }
 {
     params.tto(address) + u64::from(params.lag()) + u64::from(params.ttd())
+}
+
+/// How long a station of a settled ring of up to 127 masters waits for the token at most, in bit times, while only turns,
+/// time and requests happen (law_rings, `a_rotation_is_bounded`): the target rotation time, the longest cycle, and for each
+/// master that cycle, the passing of the token, the idle time and the lag.
+pub fn rotation_bound(params: &BusParams, masters: usize) -> u64
+    requires { masters ≤ 127 }
+    ensures { result ≡ rings.rotation_time params.now masters }
+{
+    u64::from(params.ttr()) + beyond_ttr(params, masters)
+}
+
+/// How much of that is beyond the target rotation time, in bit times.
+pub fn beyond_ttr(params: &BusParams, masters: usize) -> u64
+    requires { masters ≤ 127 }
+    ensures value { result ≡ bounds.beyond_ttr params.now masters }
+    ensures short { result ≤ 128 * 70000000000 }
+{
+    let cycle = longest_cycle(params);
+    cycle + masters as u64 * (cycle + shortest_hold(params) + u64::from(params.lag()))
 }
 
 /// How long before its slot ends a station takes a token, in bit times, if it takes it as late as it may; at least 1.

@@ -7,8 +7,8 @@ ghost use Rattle.pb_taps.specs.Faults.{new_fault};
 ghost use Rattle.pb_texts.specs.Texts as texts;
 
 use crate::bounds::{
-    is_master, is_round_long, lag_margin, masters_of, never_asks, reply_margin, silence_bound,
-    take_margin,
+    beyond_ttr, is_master, is_round_long, lag_margin, masters_of, never_asks, reply_margin,
+    rotation_bound, silence_bound, take_margin,
 };
 use crate::numbers::push_millis;
 use crate::texts::{asks_words, round_words};
@@ -19,9 +19,10 @@ use pb_world::longest_without;
 use std::alloc::{AllocError, Global};
 
 /// The numbers of a scenario's bus as one JSON object on a line: `baud`; `masters`, an array with the `name`, `time_out`,
-/// `silence_bound` and `never_dead_bound` of each; `take_margin`, `reply_margin` and `lag_margin`; `warnings`, an array of
-/// texts. Each number has `bit_times`, and `ms` at a number of bits a second, rounded up to a microsecond. A name needs no
-/// escape: it has letters and digits alone, where a file was read.
+/// `silence_bound` and `never_dead_bound` of each; `rotation_bound` and `rotation_bound_beyond_ttr`, if there are masters;
+/// `take_margin`, `reply_margin` and `lag_margin`; `warnings`, an array of texts. Each number has `bit_times`, and `ms` at
+/// a number of bits a second, rounded up to a microsecond. A name needs no escape: it has letters and digits alone, where a
+/// file was read.
 ///
 /// Faults: those of a new world on that bus, the first that applies; or `NoMemory`.
 pub fn bounds_json(alloc: Global, scenario: &Scenario, baud: u32) -> Result<Vec<u8>, NewFault>
@@ -37,6 +38,7 @@ pub fn bounds_json(alloc: Global, scenario: &Scenario, baud: u32) -> Result<Vec<
     text.extend_from_slice(b"{\"baud\":")?;
     push_number(&mut text, baud)?;
     push_masters(&mut text, scenario, baud)?;
+    push_rotation(&mut text, scenario.params(), masters, baud)?;
     push_margins(&mut text, scenario.params(), baud)?;
     push_warnings(&mut text, scenario.params(), masters)?;
     Ok(text)
@@ -102,6 +104,27 @@ fn push_master(
         baud,
     )?;
     text.extend_from_slice(b"}")
+}
+
+/// Appends the rotation bound of up to 127 masters, if there are some.
+fn push_rotation(
+    text: &mut Vec<u8>,
+    params: &BusParams,
+    masters: usize,
+    baud: u32,
+) -> Result<(), AllocError>
+    requires baud { 0 < baud }
+    requires masters { masters ≤ 127 }
+    ensures { OnOk result
+        (text.new.items ≡ text.old.items ++ texts.rotation_members baud params.now masters) }
+{
+    if masters == 0 {
+        return Ok(());
+    }
+    let bound = rotation_bound(params, masters);
+    push_member(text, b",\"rotation_bound\":", bound, baud)?;
+    let beyond = beyond_ttr(params, masters);
+    push_member(text, b",\"rotation_bound_beyond_ttr\":", beyond, baud)
 }
 
 /// Appends the margins.

@@ -8,8 +8,8 @@ ghost use Rattle.pb_taps.specs.Taps.{spec_of};
 ghost use Rattle.pb_texts.specs.Texts as texts;
 
 use crate::bounds::{
-    is_master, is_round_long, lag_margin, masters_of, never_asks, reply_margin, silence_bound,
-    take_margin,
+    beyond_ttr, is_master, is_round_long, lag_margin, masters_of, never_asks, reply_margin,
+    rotation_bound, silence_bound, take_margin,
 };
 use crate::numbers::push_millis;
 use pb_scenario::{Scenario, push_number};
@@ -20,7 +20,8 @@ use std::alloc::{AllocError, Global};
 
 /// A line for each number of a scenario's bus, in bit times and in milliseconds at a number of bits a second, rounded up
 /// to a microsecond, with the law or the rule that it is from: of each master its time-out, its silence bound and its
-/// never-dead bound; the margins of the slot and of the lag; then a line for each warning.
+/// never-dead bound; the rotation bound of a ring of all masters, and how much of it is beyond the target rotation time;
+/// the margins of the slot and of the lag; then a line for each warning.
 ///
 /// Faults: those of a new world on that bus, the first that applies; or `NoMemory`.
 pub fn bounds_text(alloc: Global, scenario: &Scenario, baud: u32) -> Result<Vec<u8>, NewFault>
@@ -34,6 +35,7 @@ pub fn bounds_text(alloc: Global, scenario: &Scenario, baud: u32) -> Result<Vec<
     let masters = masters_of(scenario.taps());
     let mut text = Vec::new(alloc);
     push_taps(&mut text, scenario, baud)?;
+    push_rotation(&mut text, scenario.params(), masters, baud)?;
     push_margins(&mut text, scenario.params(), baud)?;
     push_warnings(&mut text, scenario.params(), masters)?;
     Ok(text)
@@ -114,6 +116,37 @@ fn push_master(
         b": never-dead bound ",
         without,
         b"the_bus_is_never_dead",
+        baud,
+    )
+}
+
+/// Appends the lines of a ring of up to 127 masters, if there is one.
+fn push_rotation(
+    text: &mut Vec<u8>,
+    params: &BusParams,
+    masters: usize,
+    baud: u32,
+) -> Result<(), AllocError>
+    requires baud { 0 < baud }
+    requires masters { masters ≤ 127 }
+    ensures { OnOk result
+        (text.new.items ≡ text.old.items ++ texts.rotation_lines baud params.now masters) }
+{
+    if masters == 0 {
+        return Ok(());
+    }
+    push_line(
+        text,
+        b"rotation bound ",
+        rotation_bound(params, masters),
+        b"a_rotation_is_bounded",
+        baud,
+    )?;
+    push_line(
+        text,
+        b"rotation bound beyond ttr ",
+        beyond_ttr(params, masters),
+        b"a_rotation_is_bounded",
         baud,
     )
 }

@@ -16,3 +16,8 @@ pub mod Lasting
 pub mod Tracing
 pub mod Stretching
 pub mod Measuring
+pub mod LettingGo
+pub mod Counting
+pub mod Instants
+pub mod Driving
+pub mod Alone

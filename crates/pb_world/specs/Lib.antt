@@ -4,6 +4,7 @@ pub mod Starting
 pub mod Stopping
 pub mod Clocks
 pub mod Buses
+pub mod LettingGo
 pub mod Glances
 pub mod Ends
 pub mod Refusals
@@ -16,3 +17,5 @@ pub mod Meanings
 pub mod Traces
 pub mod Reasons
 pub mod Liveness
+pub mod Driven
+pub mod RunTo

@@ -1,6 +1,6 @@
 //! The premises of a run: watches its events until the first premise breaks.
 
-ghost use Rattle.std.specs.Prelude.{◌≡◌, ◌+◌, ◌-◌, ◌≤◌, ◌&&◌, nat_le, IfErr, OnOk, Ok, length, map};
+ghost use Rattle.std.specs.Prelude.{◌≡◌, ◌+◌, ◌-◌, ◌≤◌, ◌&&◌, nat_le, IfErr, None, OnErr, OnOk, Ok, length, map};
 ghost use Rattle.std.specs.List.{list_any};
 ghost use Rattle.std.specs.Option.{option_map};
 ghost use Rattle.law_model.specs.Laws.{IsEvent};
@@ -148,6 +148,7 @@ pub(crate) fn follow(
     ensures err { IfErr result (λ fault. (world_of bus.new ≡ world_of bus.old)
         × Refuses (world_of bus.old) (event_of event.now)
         (step (world_of bus.old) (event_of event.now)) fault) }
+    ensures stays { OnErr result (time_in (event_of event.now) ≡ None → watch.new ≡ watch.old) }
 {
     let foresight = foresee(bus, event);
     watch.oldest = listen(&mut watch.quiet, watch.oldest, bus, event);
@@ -165,6 +166,7 @@ fn listen(quiet: &mut [u64; TAP_LIMIT], oldest: u64, bus: &Bus, event: &Event) -
     requires oldest { IsOldest oldest (length bus.now.taps.items) quiet.old }
     ensures listens { Listens (world_of bus.entry.now) (event_of event.now) quiet.new }
     ensures oldest { IsOldest result (length bus.entry.now.taps.items) quiet.new }
+    ensures stays { time_in (event_of event.now) ≡ None → (quiet.new ≡ quiet.old) × (result ≡ oldest) }
 {
     let Some(bits) = time_in(event) else {
         return oldest;

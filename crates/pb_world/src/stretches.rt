@@ -185,9 +185,16 @@ pub fn longest_without(params: &BusParams, address: u8) -> u64
     ensures { result ≡ live.longest_without params.now address }
 {
     let rotation = u64::from(params.ttr()).saturating_sub(1);
-    let retries = retries(params);
     let wait = params.tto(address) + u64::from(params.lag()) + u64::from(params.ttd());
-    rotation + (retries + attempt(params)) + (retries + to_reply(params)) + wait
+    rotation + longest_cycle(params) + (retries(params) + to_reply(params)) + wait
+}
+
+/// The longest message cycle with all its retries, up to the turn that follows, in bit times.
+pub fn longest_cycle(params: &BusParams) -> u64
+    ensures value { result ≡ live.cycle params.now }
+    ensures short { result ≤ 40000000000 }
+{
+    retries(params) + attempt(params)
 }
 
 /// The retries of a message cycle, in bit times.

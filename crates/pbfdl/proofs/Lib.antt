@@ -1,1 +1,7 @@
 mod Octets
+pub mod BusSteps
+pub mod BusDropped
+pub mod MakingBuses
+pub mod Told
+pub mod MonitorSteps
+pub mod MonitorDropped

@@ -4,3 +4,10 @@ pub mod Indications
 pub mod Outcomes
 pub mod Receivers
 pub mod Telegrams
+pub mod Owned
+pub mod BusCodes
+pub mod Buses
+pub mod BusReadings
+pub mod Monitors
+pub mod MonitorOwned
+pub mod MonitorReadings

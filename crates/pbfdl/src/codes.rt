@@ -7,6 +7,9 @@ use pb_port::PortFault;
 use pb_telegram::TelegramFault;
 use pb_timers::ParamFault;
 
+/// The moment of a call is before that of an earlier one.
+pub(crate) const BACKWARDS: u32 = 42;
+
 /// The handle is empty.
 pub(crate) const EMPTY_HANDLE: u32 = 61;
 

@@ -307,7 +307,7 @@ fn new_station(
 }
 
 /// Whether a master's address is over the highest of the bus, or another's over 126.
-fn is_bad_station(params: &BusParams, master: bool, address: u8) -> bool
+pub(crate) fn is_bad_station(params: &BusParams, master: bool, address: u8) -> bool
     ensures value { result ≡ is_bad_station params.now master address }
     ensures station { result ≡ false → address ≤ 126 }
 {
@@ -316,7 +316,7 @@ fn is_bad_station(params: &BusParams, master: bool, address: u8) -> bool
 }
 
 /// A request, or the code of the first fault.
-fn request_of(da: u8, service: u8, high: bool, unit: &[u8]) -> Result<Request, u32>
+pub(crate) fn request_of(da: u8, service: u8, high: bool, unit: &[u8]) -> Result<Request, u32>
     ensures request { IfOk result (λ r. (service_of service ≡ Some r.service)
         × (r ≡ request_fields da r.service high unit.now)) }
     ensures code { MatchResult result

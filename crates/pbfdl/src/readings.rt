@@ -98,12 +98,19 @@ pub extern "C" fn fdl_port_outcome(
     let Some(station) = port.take(alloc) else {
         return EMPTY_HANDLE;
     };
-    match station.last_outcome() {
-        Some((address, came)) => tell(outcome, address, &came),
-        None => outcome.kind = 0,
-    }
+    tell_last(outcome, &station.last_outcome());
     port.put(station);
     0
+}
+
+/// Tells C what came of the last request that had an outcome.
+pub(crate) fn tell_last(outcome: &mut FdlOutcome, last: &Option<(u8, Outcome)>)
+    ensures { Tells outcome.new last.now }
+{
+    match last {
+        Some((address, came)) => tell(outcome, *address, came),
+        None => outcome.kind = 0,
+    }
 }
 
 /// Tells C what came of a request.
@@ -125,7 +132,7 @@ fn tell(outcome: &mut FdlOutcome, address: u8, came: &Outcome)
 }
 
 /// The number of a phase.
-fn number_of(phase: &Phase) -> u32
+pub(crate) fn number_of(phase: &Phase) -> u32
     ensures { result ≡ phase_number (phase_of phase.now) }
 {
     match phase {

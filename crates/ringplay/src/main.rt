@@ -5,18 +5,20 @@
 //! read or write fault or an input that is too long, 4 no memory.
 #![tactic(auto)]
 
-ghost use Rattle.std.specs.Prelude.{◌≡◌, IfOk};
+ghost use Rattle.std.specs.Prelude.{◌≡◌, ◌≤◌, IfOk, IfSome};
 ghost use Rattle.pb_cli.specs.Asking.{IsWithinLimits};
 ghost use Rattle.pb_cli.specs.Bounding.{IsBaud};
 ghost use Rattle.pb_cli.specs.Playing.{IsUpTo, line_limit, worker_limit};
+ghost use Rattle.pb_stream.specs.Streams.{stream_end};
 ghost use Rattle.ringplay.specs.ExitStatus.{exit_status_of, words_status_of};
 
 use pb_cli::{
     Ask, AskFault, Asked, Bus, CliFault, CountedReader, CountedWriter, Options, Status, VERSION,
     ask_with_options, audit_with_reasons, bounds_file, bus_of, capture_file, decode_lines,
-    export_file, monitor, play, read_input, write_out,
+    export_file, monitor, play, read_input, stream_file, write_out,
 };
 use pb_export::Export;
+use pb_scenario::read;
 use pb_texts::{MOST_EVENTS, explain, explain_audit, explain_bus, warn};
 use std::alloc::{AllocError, Global};
 use std::fmt::Display;
@@ -89,6 +91,7 @@ fn answer<T: AllocGlobal + Eprint + Files + Input + Print + Threads + Wait + Syn
         Ask::Monitor { file, options } => watch(rt, file, options, is_quiet),
         Ask::Capture { file, tap } => capture(rt, file.as_str(), tap, is_quiet),
         Ask::Export { file, export } => export_to(rt, file.as_str(), &export, is_quiet),
+        Ask::Stream { file, until } => stream(rt, file.as_str(), until, is_quiet),
         Ask::Version => version(rt),
     }
 }
@@ -230,6 +233,25 @@ fn export_to<T: AllocGlobal + Eprint + Files + Input + Print>(
             rt,
             explain(rt.alloc(), shown(path), &file, Some(MOST_EVENTS)),
         );
+    }
+    Ok(status)
+}
+
+/// `ringplay stream FILE`, to standard output; hints go to standard error.
+fn stream<T: AllocGlobal + Eprint + Files + Input + Print>(
+    rt: &T,
+    path: &str,
+    until: Option<u64>,
+    is_quiet: bool,
+) -> Result<Status, CliFault>
+    requires { IfSome until (λ moment. moment ≤ stream_end) }
+{
+    let file = contents(rt, path, is_quiet)?;
+    let mut writer = CountedWriter::new(io::writer(rt));
+    let status = stream_file(rt.alloc(), &file, until, &mut writer)?;
+    // A stream goes further than the run that a hint would play.
+    if !is_quiet && read(rt.alloc(), &file).is_err() {
+        hint(rt, explain(rt.alloc(), shown(path), &file, None));
     }
     Ok(status)
 }

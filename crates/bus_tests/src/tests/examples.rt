@@ -3,7 +3,7 @@
 use arrayvec::ArrayVec;
 use pb_scenario::{audit_of, read};
 use pb_timers::BusParams;
-use pb_world::{Event, Kind, TapSpec, World, audit, run};
+use pb_world::{DrivenBus, Event, Kind, TapSpec, World, audit, run};
 
 #[test]
 fn example_of_apply(rt: HostRuntime) {
@@ -62,6 +62,28 @@ fn example_of_audit(rt: HostRuntime) {
     let (premise, clock) = found.premise.expect(&rt, "a broken premise");
     assert_eq!(rt; (premise, clock.get()), (3, 900));
     assert!(rt; found.illegal.is_none());
+}
+
+#[test]
+fn example_of_driven_bus(rt: HostRuntime) {
+    let alloc = rt.alloc();
+    let params = BusParams::new(100, 37, 60, 11, 0, 10_000, 10, 5, 1, 0);
+    let params = params.expect(&rt, "valid parameters");
+    let (address, kind, reply) = (1, Kind::Master, ArrayVec::new());
+    let taps = [TapSpec {
+        address,
+        kind,
+        reply,
+    }];
+    let mut bus = DrivenBus::new(alloc, params, &taps).expect(&rt, "a bus");
+    bus.apply(alloc, &Event::Start(0)).expect(&rt, "a start");
+    // a tap that runs does not start; the refused event changes nothing
+    bus.apply(alloc, &Event::Start(0))
+        .expect_err(&rt, "a fault");
+    // after 800 bit times of silence the master claims the token; it is then alone on the bus
+    bus.run(alloc, 1_400).expect(&rt, "a run");
+    assert_eq!(rt; bus.bus().now.get(), 1_400);
+    assert!(rt; bus.judge().premise.is_none());
 }
 
 #[test]

@@ -29,7 +29,9 @@ use Rattle.law_monitor.specs.Timely.{Successive}
 use Rattle.law_monitor.specs.Anywhere.{as_heard}
 use Rattle.law_monitor.proofs.NoneRaised.{blind_alarm, blind_last}
 use Rattle.law_monitor.proofs.anywhere.Here.{ClaimHere, NoLossHere, Untouched, PassedHere, TakenHere, FollowsHere, GoodHere, inits, all_inits, has_inits}
-use Rattle.law_monitor.proofs.timely.Fillers.{filler_has, known_before, same_last, wrong}
+use Rattle.law_monitor.proofs.timely.Fillers.{filler_has, known_before, same_last}
+use Rattle.pb_monitor.proofs.Legal.{untouched}
+use Rattle.law_token.proofs.whole.Stays.{not_true_false}
 
 -- the listener's parameters, with which it hears its own entries at once
 abbrev at_once : Params → Params
@@ -111,10 +113,6 @@ touched_known p slack specs heard l x m late begins k = record {
         let z = ltb-true (m + (2 * p.ttd + slack)) (l.end + p.tsl) f in
         let q = k.end in none m (omega (arith, q, late)) (omega (arith, q, z)) begins
     by false e false f t none = absurd cc
-
-untouched : (b : Bool) → (b ≡ true → ⊥) → or_alarm (not b) PassedAgainThoughHeard ≡ None
-untouched true h = absurd (h refl)
-untouched false h = refl
 
 -- what follows it raises no alarm
 follows_none : (p : Params) (slack : ℕ) (specs : List TapSpec) (heard : List Entry) (w r : Record) (l : LastHeard) (a : Arrival) (o : Option ℕ) → KnowsHere p specs heard w l → source_of a ≡ address_at specs r.tap → offered_to w ≡ o → FollowsHere p specs heard w o r
@@ -213,9 +211,9 @@ none_lost p slack specs delays since heard told j b k unfit =
     by r at no_loss true e = let lost = ltb-true (j.quiet + live p slack) b.begin e in absurd (no_loss j.quiet (omega (arith, lost, at)) (subst (λ m. AllClear 0 j.quiet m heard) at k.clear))
 
     good : (l : Option Record) (r : Record) → Fills 0 b (Sent r) → IsBySource specs (Sent r) → is_initiator r ≡ true → GoodHere p specs delays heard l r → nat_lt (j.quiet + live p slack) b.begin ≡ false
-    good None r fill source init c = absurd (wrong Fit (claim_told p slack specs delays since heard told j b k r fill source init c) unfit)
+    good None r fill source init c = absurd (not_true_false Fit (claim_told p slack specs delays since heard told j b k r fill source init c) unfit)
     good (Some w) r fill source init h =
-        ⊎_elim (λ (c : ClaimHere p specs delays heard r). absurd (wrong Fit (claim_told p slack specs delays since heard told j b k r fill source init c) unfit))
+        ⊎_elim (λ (c : ClaimHere p specs delays heard r). absurd (not_true_false Fit (claim_told p slack specs delays since heard told j b k r fill source init c) unfit))
         (λ (t : NoLossHere p heard r × FollowsHere p specs heard w (offered_to w) r). by r (at_its b r fill) t.0 (nat_lt (j.quiet + live p slack) b.begin) refl) h.1
 
 none_wrong : (p : Params) (slack : ℕ) (specs : List TapSpec) (delays : ℕ → ℕ) (since : ℕ) (heard told : List Entry) (j : State) (b : Burst) → JudgingHere p specs delays since heard told j b
@@ -235,7 +233,7 @@ none_wrong p slack specs delays since heard told j b k unfit = by j.last k.linke
         good : (w r : Record) → KnowsHere p specs heard w l → Fills 0 b (Sent r) → IsBySource specs (Sent r) → is_initiator r ≡ true → GoodHere p specs delays heard (Some w) r
             → (judged_offer p slack l l.offered b.begin (initiator_of a) ≡ None) × (taking_offer p slack l l.offered b.begin (initiator_of a) ≡ None)
         good w r knows fill source init h =
-            ⊎_elim (λ (c : ClaimHere p specs delays heard r). absurd (wrong (may_claim p slack since (silence_before p j b.begin) b.begin (initiator_of a)) (claim_told p slack specs delays since heard told j b k r fill source init c) unfit))
+            ⊎_elim (λ (c : ClaimHere p specs delays heard r). absurd (not_true_false (may_claim p slack since (silence_before p j b.begin) b.begin (initiator_of a)) (claim_told p slack specs delays since heard told j b k r fill source init c) unfit))
             (λ (t : NoLossHere p heard r × FollowsHere p specs heard w (offered_to w) r).
             subst (λ m. (judged_offer p slack l l.offered m (initiator_of a) ≡ None) × (taking_offer p slack l l.offered m (initiator_of a) ≡ None)) (sym (at_its b r fill))
             (follows_none p slack specs heard w r l a l.offered knows (ap source_of fill.2 ∙ source init) (sym knows.offered) (subst (λ o. FollowsHere p specs heard w o r) (sym knows.offered) t.1))) h.1

@@ -27,7 +27,9 @@ use Rattle.law_monitor.proofs.hearing.Ears.{Pairs, pairs_each}
 use Rattle.law_monitor.proofs.timely.Alike.{Alike, AlikeRecord, claim_alike, entry_silence}
 use Rattle.law_monitor.proofs.timely.Folds.{Both}
 use Rattle.law_monitor.proofs.timely.Runs.{IsKept, Passed}
-use Rattle.law_monitor.proofs.timely.Spoken.{none_each, outside}
+use Rattle.law_monitor.proofs.timely.Spoken.{outside}
+use Rattle.law_model.proofs.Window.{not_false}
+use Rattle.law_token.proofs.quiet.Bound.{none_of}
 
 -- ---- the property
 
@@ -124,10 +126,6 @@ comes_one p x trace None before here init = tt
 comes_one p x trace (Some w) before here init =
     let h = each_in (Passed p.ttd x) (Sent w) trace before here init in (h.1, h.2)
 
-unnot : (b : Bool) → not b ≡ true → b ≡ false
-unnot true e = absurd cc
-unnot false e = refl
-
 said_lone : (w : World) (waited : List Waited) (k : ℕ) (t : Tap) → (kept : Keeps w waited) → slice_get w.taps k ≡ Some t → t.running ≡ true → Settled w → Flow w
     → (octets : List ℕ) → (turn_of w.params t.station t.marks w.now).1 ≡ Some octets → is_initiator (sending k octets w.now w.taps) ≡ true → Each (Passed w.params.ttd (sending k octets w.now w.taps)) w.trace
     → Lone w.params (specs_of w) (with_entry (Sent (sending k octets w.now w.taps)) w.trace) kept.inv.last (sending k octets w.now w.taps)
@@ -158,7 +156,7 @@ said_lone w waited k t kept here running set flow octets says init before =
 
         both : Each (λ e. Passed p.ttd x e × (is_within from w.now (active_at p.ttd k e) ≡ false)) w.trace
         both = each_both (Passed p.ttd x) (λ e. is_within from w.now (active_at p.ttd k e) ≡ false) (λ e. Passed p.ttd x e × (is_within from w.now (active_at p.ttd k e) ≡ false)) w.trace (λ e a b. (a, b)) before
-            (none_each (λ e. is_within from w.now (active_at p.ttd k e)) w.trace (unnot (list_any (λ e. is_within from w.now (active_at p.ttd k e)) w.trace) silent))
+            (none_of (λ e. is_within from w.now (active_at p.ttd k e)) w.trace (not_false (list_any (λ e. is_within from w.now (active_at p.ttd k e)) w.trace) silent))
 
         ends : Each (EndsBy from) w.trace
         ends = each_both (EntryHolds p w.now w.taps w.trace waited kept.inv.last) (λ e. Passed p.ttd x e × (is_within from w.now (active_at p.ttd k e) ≡ false)) (EndsBy from) w.trace (ended p k from w.now w.taps w.trace waited kept.inv.last x refl refl) kept.inv.entries both

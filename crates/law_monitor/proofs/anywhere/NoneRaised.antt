@@ -29,9 +29,10 @@ use Rattle.law_monitor.proofs.anywhere.Judged.{heard_raises_none}
 use Rattle.law_monitor.proofs.anywhere.Lone.{Lone, lone_kept}
 use Rattle.law_monitor.proofs.anywhere.Told.{ComesAfter, Arrives, lone_arrives, legal_arrives, order_told, sources_told, good_told}
 use Rattle.law_monitor.proofs.anywhere.Uniform.{uniform_anywhere}
-use Rattle.law_monitor.proofs.sources.Worlds.{specs_after, params_after, sources_after}
+use Rattle.law_monitor.proofs.sources.Worlds.{specs_after, sources_after}
 use Rattle.law_monitor.proofs.timely.Fillers.{legal_from, successive_both}
 use Rattle.law_monitor.proofs.timely.Runs.{runs_have, runs_are_timely}
+use Rattle.law_live.proofs.Runs.{params_of}
 
 successive_by : (P Q : Option Record → Record → Type 0) (last : Option Record) (es : List Entry) → ((l : Option Record) (r : Record) → P l r → Q l r) → Successive P last es → Successive Q last es
 successive_by P Q last [] f s = tt
@@ -62,7 +63,7 @@ timely_raise_none p slack c specs trace since bs short sources order legal timel
 
 legal_after : (p : Params) (specs : List TapSpec) (events : List Event) (new w : World) → LeavesTime p → HasRun p specs events new w → first_broken new events ≡ None → first_illegal p specs w.trace ≡ None
 legal_after p specs events new w time run none =
-    subst (λ q. first_illegal q specs w.trace ≡ None) (params_after p specs events new w run) (subst (λ s. first_illegal w.params s w.trace ≡ None) (specs_after p specs events new w run) (theorem_of_delay p specs events new w time run none).legal)
+    subst (λ q. first_illegal q specs w.trace ≡ None) (params_of p specs events new w run) (subst (λ s. first_illegal w.params s w.trace ≡ None) (specs_after p specs events new w run) (theorem_of_delay p specs events new w time run none).legal)
 
 pub runs_raise_none : RunsRaiseNone
 runs_raise_none p specs events new w slack c since bs is none =

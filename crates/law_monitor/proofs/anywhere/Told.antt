@@ -21,6 +21,8 @@ use Rattle.law_monitor.proofs.anywhere.Here.{ClaimHere, NoLossHere, Untouched, P
 use Rattle.law_monitor.proofs.anywhere.Lone.{Far, ComesOne, Lone}
 use Rattle.law_monitor.proofs.timely.Fillers.{not_within}
 use Rattle.law_monitor.proofs.timely.Spoken.{outside}
+use Rattle.law_model.proofs.Window.{not_false}
+use Rattle.pb_monitor.proofs.Legal.{either}
 
 -- ---- how telegrams reach a listener
 
@@ -126,17 +128,13 @@ clear_told delay delays r n (e ∷ es) near room far h =
     let b = or_parts (is_within (r.begin - n) r.begin (active_at delay r.tap e)) (list_any (λ e. is_within (r.begin - n) r.begin (active_at delay r.tap e)) es) h in
     (clear_one delay delays r n e near room far.0 b.0, clear_told delay delays r n es near room far.1 b.1)
 
-unnot : (b : Bool) → not b ≡ true → b ≡ false
-unnot true e = absurd cc
-unnot false e = refl
-
 claim_told : (p : Params) (specs : List TapSpec) (delays : ℕ → ℕ) (trace : List Entry) (l : Option Record) (r : Record) → ((tap : ℕ) → delays tap ≤ p.ttd) → Arrives p specs delays trace l r → is_claim p specs trace r ≡ true
     → ClaimHere p specs delays (map (as_heard delays) trace) (later delays r)
 claim_told p specs delays trace l r near arrives c = record {
   claims = parts.0;
   near = near r.tap;
   silent = ⊎_elim (λ (early : r.begin < timeout). inl (soon timeout early)) (λ (room : timeout ≤ r.begin). inr (clear_told p.ttd delays r timeout trace near room (arrives.1 c room)
-      (unnot (list_any (λ e. is_within (r.begin - timeout) r.begin (active_at p.ttd r.tap e)) trace) parts.1))) (cases_lt r.begin timeout);
+      (not_false (list_any (λ e. is_within (r.begin - timeout) r.begin (active_at p.ttd r.tap e)) trace) parts.1))) (cases_lt r.begin timeout);
 }
   where
     timeout : ℕ
@@ -251,10 +249,6 @@ follows_told p specs delays trace w r (Some to) near offers takes h = by (w.tap 
         })
 
 -- ---- a telegram
-
-either : (a b : Bool) → (a || b) ≡ true → (a ≡ true) ⊎ (b ≡ true)
-either true b e = inl refl
-either false b e = inr e
 
 -- an initiator telegram that is legal and in time, after one that has arrived, is good for the listener
 pub good_told : (p : Params) (specs : List TapSpec) (delays : ℕ → ℕ) (trace : List Entry) → ((tap : ℕ) → delays tap ≤ p.ttd)

@@ -128,6 +128,3 @@ same_with x now e es new = record {
   filled = λ b late h. has_with (Fills x.delay b) e es h;
   told = λ b le late h. each_with (Told x b) e es (inr (new_clear now b.begin b.end (at_ear x e) late new)) h;
 }
-
-pub same_trace : (x : Ear) (now : ℕ) (es : List Entry) → SameTrace x now es es
-same_trace x now es = record { clear = λ u v le late h. h; back = λ m late h. h; begins = λ m early h. h; filled = λ b late h. h; told = λ b le late h. h }

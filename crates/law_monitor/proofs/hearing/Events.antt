@@ -32,6 +32,7 @@ use Rattle.law_monitor.proofs.hearing.Kept.{same_hit, same_noisy, same_cut, same
 use Rattle.law_monitor.proofs.hearing.Passes.{pass_hearing}
 use Rattle.law_monitor.proofs.hearing.Spelled.{SpellsOne, lasting_spelled, said_spells}
 use Rattle.law_monitor.proofs.hearing.Tapes.{Hearing, hearing_same}
+use Rattle.law_token.proofs.bus.NewWorlds.{none_run}
 
 abbrev pub ear : Params → ℕ → Tap → Ear
 ear p tap t = record { delay = p.ttd; tap = tap; since = t.since }
@@ -184,11 +185,6 @@ runs_taped (e ∷ es) w next tap tape highest are runs h =
     subst (λ r. Taped next tap (taped_all tap (world_after w r) (taped tap w tape e) es)) (sym runs.2)
     (runs_taped es runs.0 next tap (taped tap w tape e) (subst (λ (z : Params). z.hsa < 127) (sym one.params) highest) are.1 runs.3 (step_taped w runs.0 tap tape e runs.1 highest are.0 runs.2 h))
 
-none_runs : (p : Params) (specs : List TapSpec) (k : ℕ) (t : Tap) → slice_get (map (stopped_tap p) specs) k ≡ Some t → t.running ≡ true → ⊥
-none_runs p [] k t at run = none-some t at
-none_runs p (spec ∷ specs) zero t at run = let w : false ≡ true = ap (λ (z : Tap). z.running) (same_Some (stopped_tap p spec) t at) ∙ run in cc
-none_runs p (spec ∷ specs) (suc k) t at run = none_runs p specs k t at run
-
 pub new_taped : (p : Params) (specs : List TapSpec) (w : World) (tap : ℕ) → p.hsa < 127 → AllFit specs → new_world p specs ≡ Ok w → Taped w tap blank
 new_taped p specs w tap highest fit ok =
     let new : World = record { params = p; now = 0; trace = []; taps = map (stopped_tap p) specs; limit = trace_limit } in
@@ -197,5 +193,5 @@ new_taped p specs w tap highest fit ok =
       settled = settled_new p specs w highest fit ok;
       sound = sound-new_world p specs w fit ok;
       spelled = subst (λ (z : World). Each SpellsOne z.trace) is tt;
-      hears = subst (HearsAt tap blank) is (λ t at run. absurd (none_runs p specs tap t at run));
+      hears = subst (HearsAt tap blank) is (λ t at run. absurd (none_run p specs tap t at run));
     }

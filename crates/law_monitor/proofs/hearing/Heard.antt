@@ -15,10 +15,10 @@ use Rattle.pb_monitor.specs.Captures.{Burst, All, Has, IsClear, AllClear, IsSoli
 use Rattle.law_token.proofs.whole.Stays.{new_params}
 use Rattle.law_monitor.specs.Captures.{HearsSince}
 use Rattle.law_monitor.specs.Taps.{IsSensed, TapsCapture, blank, bursts_heard}
-use Rattle.law_monitor.proofs.sources.Worlds.{params_after}
 use Rattle.law_monitor.proofs.hearing.Ears.{Ear, at_ear, IsClearAt, Clear, BeginsIn, Begins, Told}
 use Rattle.law_monitor.proofs.hearing.Tapes.{Closed, Chain}
 use Rattle.law_monitor.proofs.hearing.Events.{runs_taped, new_taped}
+use Rattle.law_live.proofs.Runs.{params_of}
 
 -- ---- one entry
 
@@ -198,6 +198,6 @@ taps_capture p specs events new w tap t is =
     let highest : new.params.hsa < 127 = subst (λ (z : Params). z.hsa < 127) (sym (new_params p specs new run.made)) low in
     let taped = runs_taped events new w tap blank highest run.are run.runs first in
     let heard = taped.hears t is.here is.running in
-    let same = params_after p specs events new w run in
+    let same = params_of p specs events new w run in
     hears_chain (record { delay = p.ttd; tap = tap; since = t.since }) w.trace heard.q (bursts_heard tap new events) is.senses
     (subst (λ (z : Params). Chain (record { delay = z.ttd; tap = tap; since = t.since }) w.trace t.since heard.q (bursts_heard tap new events)) same heard.chain)

@@ -13,6 +13,7 @@ use Rattle.law_token.proofs.bus.Hearers.{IsNew, new_span}
 use Rattle.law_token.proofs.pass.AllTaps.{same_entry_at}
 use Rattle.pb_monitor.specs.Captures.{Burst, Fills}
 use Rattle.law_monitor.proofs.hearing.Ears.{Ear, at_ear, BeginsIn, SameEntry, same_self, SameTrace, same_pairs, pairs_map, pairs_change, new_clear}
+use Rattle.law_token.proofs.quiet.SameEntries.{part_some}
 
 -- ---- damage
 
@@ -24,9 +25,6 @@ pub same_hit : (x : Ear) (now : ℕ) (test : Entry → Bool) (hit : Hit) (es : L
 same_hit x now test hit es = same_pairs x now es _ (pairs_change (SameEntry x now) test (with_hit hit) es (same_self x now) (λ e _. hit_one x now hit e))
 
 -- ---- noise that lasts longer
-
-part_some : (since : ℕ) (span : Span) → since < span.end → part_after since span ≡ Some (record { begin = max span.begin since; end = span.end })
-part_some since span lt = ap (λ b. if b then Some (record { begin = max span.begin since; end = span.end }) else None) (lt-ltb since span.end lt)
 
 noisy_one : (x : Ear) (now m : ℕ) (e : Entry) → x.since ≤ now → is_noise_at now e ≡ true → SameEntry x now e (noisy_until m e)
 noisy_one x now m (Sent r) began h = same_self x now (Sent r)

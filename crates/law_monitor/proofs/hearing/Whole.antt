@@ -17,6 +17,7 @@ use Rattle.law_turn.specs.Arrivals.{NoTelegram, arrival_of, arrival_unless}
 use Rattle.law_model.specs.Trace.{Hit, Record, characters_from, characters_at, hits_place}
 use Rattle.law_model.proofs.Cases.{by_test}
 use Rattle.law_runs.specs.Initiators.{telegram_of}
+use Rattle.law_token.proofs.pass.Spelled.{is_none_of, faultless}
 
 -- ---- how many octets are needed, by the first one
 
@@ -99,13 +100,6 @@ undamaged tap hits place start [] e = refl
 undamaged tap hits place start (o ∷ os) e =
     by_test (λ (c : RxChar). position_from is_bad start (c ∷ characters_from tap hits (place + 1) os) ≡ None → octets (c ∷ characters_from tap hits (place + 1) os) ≡ o ∷ os) (list_any (hits_place tap place) hits) Bad (Good o)
     (λ _ f. absurd cc) (λ _ f. ap (λ (l : List ℕ). o ∷ l) (undamaged tap hits (place + 1) (start + 1) os f)) e
-
-is_none_of : {X : Type 0} (o : Option X) → is_some o ≡ false → o ≡ None
-is_none_of {X} None e = refl
-is_none_of {X} (Some x) e = absurd cc
-
-faultless : (os : List ℕ) → fault_of (map Good os) ≡ None → NoneHolds (octet_faults os)
-faultless os e = subst (λ xs. NoneHolds (octet_faults xs)) (octets-map os) (none_holds (faults (map Good os)) e).1.1
 
 pub whole_at : (tap : ℕ) (r : Record) → fault_of (map Good r.octets) ≡ None → (arrival_of (characters_at tap r) ≡ NoTelegram → ⊥) → arrival_of (characters_at tap r) ≡ telegram_of r
 whole_at tap r sound spells = by (fault_of chars) refl

@@ -147,10 +147,6 @@ specs_after p specs events new w run =
     let made : World = record { params = p; now = 0; trace = []; taps = map (stopped_tap p) specs; limit = trace_limit } in
     (runs_same events new w run.runs).specs ∙ sym (ap specs_of (unless-Ok (new_faults p specs) made new run.made).1) ∙ specs_stopped p specs
 
--- and its parameters
-pub params_after : (p : Params) (specs : List TapSpec) (events : List Event) (new w : World) → HasRun p specs events new w → w.params ≡ p
-params_after p specs events new w run = (runs_same events new w run.runs).params ∙ new_params p specs new run.made
-
 all_each : (P : Entry → Type 0) (es : List Entry) → Each P es → captures.All P es
 all_each P [] all = tt
 all_each P (e ∷ es) all = (all.0, all_each P es all.1)

@@ -83,10 +83,6 @@ not_within from to b e (inl l) = ap (λ z. nat_lt b to && z) (le-ltb from e l) �
     never false = refl
 not_within from to b e (inr l) = ap (λ z. z && nat_lt from e) (le-ltb b to l)
 
-pub wrong : (b : Bool) → b ≡ true → b ≡ false → ⊥
-wrong true e f = cc
-wrong false e f = cc
-
 pub same_last : (p : Params) (j : State) (begin : ℕ) → ((silence_before p j begin).last ≡ j.last) × ((silence_before p j begin).quiet ≡ j.quiet)
 same_last p j begin = by (nat_lt (j.quiet + p.tsl) begin)
   where

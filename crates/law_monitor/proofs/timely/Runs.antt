@@ -40,10 +40,12 @@ use Rattle.law_token.proofs.turn.WholeTurn.{turn_invariant}
 use Rattle.law_token.proofs.whole.Keeping.{unbroken}
 use Rattle.law_token.proofs.whole.Stays.{runs_then, same_bus}
 use Rattle.law_monitor.specs.Timely.{IsTimely, Successive, RunsAreTimely}
-use Rattle.law_monitor.proofs.sources.Worlds.{specs_after, params_after}
+use Rattle.law_monitor.proofs.sources.Worlds.{specs_after}
 use Rattle.law_monitor.proofs.timely.Alike.{Stable, all_alike, timely_stable, alike_hit, alike_noisy, alike_cut, alike_told, alike_lost}
 use Rattle.law_monitor.proofs.timely.Folds.{successive_map, successive_with_other, successive_with}
 use Rattle.law_monitor.proofs.timely.Spoken.{SaidTimely, turn_timely}
+use Rattle.law_token.proofs.whole.Induction.{event_invariant}
+use Rattle.law_live.proofs.Runs.{params_of}
 
 -- ---- a new telegram is the last
 
@@ -233,17 +235,6 @@ step_kept P Also keeps w next waited all e reply ok i j more have = on e ok
 
 -- ---- runs
 
--- each event that breaks no premise keeps the invariant of the token
-keeps_token : (w : World) (e : Event) → KeepsInvariant w e
-keeps_token w (Turn tap) = turn_invariant w tap
-keeps_token w (Pass bits) = pass_invariant w bits
-keeps_token w (Damage tap speaker place) = damage_invariant w tap speaker place
-keeps_token w (Start tap) = start_invariant w tap
-keeps_token w (Stop tap) = stop_invariant w tap
-keeps_token w (Queue tap request) = queue_invariant w tap request
-keeps_token w (Noise bits) = noise_invariant w bits
-keeps_token w (Unheard tap speaker) = loss_invariant w tap speaker
-
 pub runs_keep : (P : Property) (Also : World → Type 0) → IsKept P Also → (events : List Event) (w next : World) (waited : List Waited) → AreEvents events → RunsTo w events next → (course_of (record { world = w; waited = waited; broken = None }) events).broken ≡ None
     → Invariant w waited → Also w → AllHave P w.params (specs_of w) w.trace → AllHave P next.params (specs_of next) next.trace
 runs_keep P Also keeps [] w next waited are runs none i more have = subst (λ z. AllHave P z.params (specs_of z) z.trace) runs have
@@ -254,7 +245,7 @@ runs_keep P Also keeps (e ∷ es) w next waited are runs none i more have =
     let go : (course_of (record { world = between; waited = all; broken = broken_or None between.now (broken_by w e between new all) }) es).broken ≡ None =
     subst (λ r. (course_of (followed (record { world = w; waited = waited; broken = None }) e r) es).broken ≡ None) runs.2 none in
     let breaks = unbroken between all between.now es (broken_by w e between new all) go in
-    let j = keeps_token w e waited between runs.1 runs.2 are.0 breaks i in
+    let j = event_invariant w e waited between runs.1 runs.2 are.0 breaks i in
     let same = same_bus w between e runs.1 runs.2 in
     let step = step_kept P Also keeps w between waited all e runs.1 runs.2 i j more have in
     runs_keep P Also keeps es between next all are.1 runs.3
@@ -270,7 +261,7 @@ new_have P p specs w ok =
 pub runs_have : (P : Property) (Also : World → Type 0) → IsKept P Also → (p : Params) (specs : List TapSpec) (events : List Event) (new w : World) → LeavesTime p → HasRun p specs events new w → first_broken new events ≡ None → Also new → AllHave P p specs w.trace
 runs_have P Also keeps p specs events new w time run none more =
     let have = runs_keep P Also keeps events new w [] run.are run.runs none (new_invariant p specs new time run.fit run.made) more (new_have P p specs new run.made) in
-    subst (λ q. AllHave P q specs w.trace) (params_after p specs events new w run) (subst (λ s. AllHave P w.params s w.trace) (specs_after p specs events new w run) have)
+    subst (λ q. AllHave P q specs w.trace) (params_of p specs events new w run) (subst (λ s. AllHave P w.params s w.trace) (specs_after p specs events new w run) have)
 
 -- ---- each comes in time
 

@@ -48,12 +48,10 @@ use Rattle.law_token.proofs.turn.Warrants.{Warrant, Waits, public_known, legal_s
 use Rattle.law_monitor.specs.Timely.{EndsNoLoss, TakesInTime, IsTimely}
 use Rattle.law_monitor.proofs.hearing.Filled.{apart}
 use Rattle.law_monitor.proofs.hearing.Spelled.{SpellsOne, said_spells}
+use Rattle.law_token.proofs.quiet.Bound.{none_of}
+use Rattle.law_token.proofs.turn.Last.{reply_of, asks_of}
 
 -- ---- silence, as a tap hears it
-
-pub none_each : (test : Entry → Bool) (es : List Entry) → list_any test es ≡ false → Each (λ e. test e ≡ false) es
-none_each test [] h = tt
-none_each test (e ∷ es) h = let b = or_parts (test e) (list_any test es) h in (b.0, none_each test es b.1)
 
 pub outside : (from to : ℕ) (s : Span) → is_within from to s ≡ false → (to ≤ s.begin) ⊎ (s.end ≤ from)
 outside from to s h = ⊎_elim (λ (a : s.end ≤ from). inr a) (λ (b : to ≤ s.begin). inl b) (apart s (record { begin = from; end = to }) h)
@@ -80,7 +78,7 @@ lives_no_loss c trace lives own from late = by (list_any (λ e. is_within from c
     by : (b : Bool) → list_any (λ e. is_within from c.now (active_at c.p.ttd c.tap e)) trace ≡ b → not b ≡ false
     by true e = refl
     by false e =
-        let none = none_each (λ e. is_within from c.now (active_at c.p.ttd c.tap e)) trace e in
+        let none = none_of (λ e. is_within from c.now (active_at c.p.ttd c.tap e)) trace e in
         let over = each_map (λ e. is_within from c.now (active_at c.p.ttd c.tap e) ≡ false) (λ e. IsOver c.now from (heard_span c.p.ttd c.tap c.since e)) trace (over_silent c from) none in
         let inits = each_both (OwnPast c.tap c.now) (λ e. is_within from c.now (active_at c.p.ttd c.tap e) ≡ false) (InitEnds c.tap from) trace (inits_silent c from) own none in
         absurd (let l = lives from over inits in omega (arith, l, late))
@@ -179,13 +177,6 @@ own_token c trace last (AwaitStatus of slot) busy quiet own reply is over v l e 
 own_token c trace last (Pass tries ready) busy quiet own reply is over v l e = absurd is
 
 -- ---- a turn
-
-asks_of : (o : Option OpenRequest) → IfSome o IsOpenRequest → Asks o
-asks_of None h = tt
-asks_of (Some o) h = h.request
-
-reply_of : (o : Option Reply) (r : Reply) → IfSome o (λ r. IsReply r.octets) → o ≡ Some r → IsReply r.octets
-reply_of o r h e = subst (λ z. IfSome z (λ r. IsReply r.octets)) e h
 
 -- if it is an initiator's, it is timely after the last one
 abbrev pub SaidTimely : World → ℕ → Option Record → List ℕ → Type 0

@@ -21,6 +21,7 @@ use Rattle.law_token.proofs.bus.Lists.{each_without}
 use Rattle.law_monitor.proofs.hearing.Ears.{Pairs, pairs_back}
 use Rattle.law_monitor.proofs.timely.Alike.{AlikeRecord, Alike, alike_hit, alike_noisy, alike_cut, alike_told, alike_lost}
 use Rattle.law_monitor.proofs.timely.Folds.{Both}
+use Rattle.law_runs.proofs.Watching.{later-world}
 
 -- no telegram begins at a moment
 abbrev pub NotAt : ℕ → Entry → Type 0
@@ -198,15 +199,12 @@ both_both t (Some x) (Some y) (Some z) f g = record {
 
 -- ---- runs
 
-clock_later : (w next : World) (e : Event) (reply : Reply) → step w e ≡ Ok (next, reply) → w.now ≤ next.now
-clock_later w next e reply ok = subst (λ r. w.now ≤ (world_after w r).now) ok (later-replay w (e ∷ []))
-
 -- the last initiator telegram that had begun by a moment, where no telegram begins then
 pub last_stays : (events : List Event) (w next : World) (t : ℕ) → t ≤ w.now → RunsTo w events next → Each (NotAt t) next.trace → Each (NotAt t) w.trace × Both (AlikeRecord t) (last_from None t w.trace) (last_from None t next.trace)
 last_stays [] w next t le runs none = subst (λ (z : World). Each (NotAt t) z.trace → Each (NotAt t) w.trace × Both (AlikeRecord t) (last_from None t w.trace) (last_from None t z.trace)) runs (λ n. (n, both_self t (last_from None t w.trace))) none
 last_stays (e ∷ es) w next t le runs none =
     let between = runs.0 in
-    let later = clock_later w between e runs.1 runs.2 in
+    let later = later-world w between e runs.1 runs.2 in
     let rest = last_stays es between next t (omega (arith, le, later)) runs.3 none in
     let one = leads_step t w between e runs.1 le runs.2 rest.0 in
     (one.0, both_both t (last_from None t w.trace) (last_from None t between.trace) (last_from None t next.trace) (one.1 None None tt) rest.1)

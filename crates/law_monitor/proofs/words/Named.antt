@@ -45,9 +45,10 @@ use Rattle.pb_monitor.proofs.NoneRaised.{LinkedLast, Linked}
 use Rattle.law_monitor.specs.Naming.{Allows, kept, NamedOrNobody}
 use Rattle.law_monitor.proofs.words.Known.{linked_after, all_append, ordered_more, since_more, last_known, OfSent, last_stands}
 use Rattle.law_monitor.proofs.words.Lasts.{NotAt, last_stays}
-use Rattle.law_monitor.proofs.sources.Worlds.{specs_after, params_after, sources_after}
+use Rattle.law_monitor.proofs.sources.Worlds.{specs_after, sources_after}
 use Rattle.law_monitor.proofs.timely.Alike.{AlikeRecord}
 use Rattle.law_monitor.proofs.timely.Folds.{Both}
+use Rattle.law_live.proofs.Runs.{params_of}
 
 -- ---- what the listener says, by the last telegram
 
@@ -134,7 +135,7 @@ named_or_nobody p specs events more new w later slack since bs is none tap may =
 
     holds : Holding (place p w.now tap t) invariant.1.keeps.inv.last
     holds = let b = and_parts t.running (may_initiate t.station.phase) may.2 in
-        subst (λ q. Holding (place q w.now tap t) invariant.1.keeps.inv.last) (params_after p specs events new w run)
+        subst (λ q. Holding (place q w.now tap t) invariant.1.keeps.inv.last) (params_of p specs events new w run)
         (holding w.params w.now w.trace invariant.1.keeps.inv.last tap t (invariant.1.keeps.inv.taps tap t may.1 b.0) b.1)
 
     -- a token of the station to itself, later than all

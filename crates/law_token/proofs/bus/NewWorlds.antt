@@ -17,7 +17,7 @@ no_namesakes : (p : Params) (specs : List TapSpec) → has_namesakes (map (stopp
 no_namesakes p [] = refl
 no_namesakes p (spec ∷ specs) = no_namesakes p specs
 
-none_run : (p : Params) (specs : List TapSpec) (k : ℕ) (t : Tap) → slice_get (map (stopped_tap p) specs) k ≡ Some t → t.running ≡ true → ⊥
+pub none_run : (p : Params) (specs : List TapSpec) (k : ℕ) (t : Tap) → slice_get (map (stopped_tap p) specs) k ≡ Some t → t.running ≡ true → ⊥
 none_run p [] k t at run = none-some t at
 none_run p (spec ∷ specs) zero t at run = let w : false ≡ true = ap (λ (z : Tap). z.running) (same_Some (stopped_tap p spec) t at) ∙ run in cc
 none_run p (spec ∷ specs) (suc k) t at run = none_run p specs k t at run

@@ -173,7 +173,7 @@ abbrev pub Tells : Params → ℕ → List Entry → Option Record → ℕ → T
 Tells p now trace last k t ph (Noise span) = Unit {0}
 Tells p now trace last k t ph (Sent r) = Telling p now trace last k t ph r
 
-not_mine : (delay tap : ℕ) (t : Tap) (trace : List Entry) (r : Record) → fills_burst delay tap t trace r ≡ true → r.tap ≡ tap → ⊥
+pub not_mine : (delay tap : ℕ) (t : Tap) (trace : List Entry) (r : Record) → fills_burst delay tap t trace r ≡ true → r.tap ≡ tap → ⊥
 not_mine delay tap t trace r f mine =
     let a = and_parts (not (r.tap == tap || is_unheard (slice_get r.heard tap)) && hears_from t (reaches delay r).begin && count_by (overlaps (reaches delay r)) (sensed delay tap t.since trace) == 1) (not (list_any (sends_during tap (reaches delay r)) trace)) f in
     let b = and_parts (not (r.tap == tap || is_unheard (slice_get r.heard tap)) && hears_from t (reaches delay r).begin) (count_by (overlaps (reaches delay r)) (sensed delay tap t.since trace) == 1) a.0 in

@@ -35,7 +35,7 @@ tokened true c x y f da sa e = (refl, cc, cc)
 tokened false true x y f da sa e = absurd cc
 tokened false false x y f da sa e = absurd cc
 
-is_none_of : {X : Type 0} (o : Option X) → is_some o ≡ false → o ≡ None
+pub is_none_of : {X : Type 0} (o : Option X) → is_some o ≡ false → o ≡ None
 is_none_of {X} None e = refl
 is_none_of {X} (Some x) e = absurd cc
 
@@ -61,7 +61,7 @@ take_whole (suc n) [] e = refl
 take_whole (suc n) (o ∷ os) e = ap (λ (l : List ℕ). o ∷ l) (take_whole n os (omega (arith, e)))
 
 -- octets without a fault
-faultless : (os : List ℕ) → fault_of (map Good os) ≡ None → NoneHolds (octet_faults os)
+pub faultless : (os : List ℕ) → fault_of (map Good os) ≡ None → NoneHolds (octet_faults os)
 faultless os e = subst (λ xs. NoneHolds (octet_faults xs)) (octets-map os) (none_holds (faults (map Good os)) e).1.1
 
 -- characters that bring a token are all the octets that were meant

@@ -153,7 +153,7 @@ none_breaks false true c d e = absurd cc
 none_breaks false false true d e = absurd cc
 none_breaks false false false d e = (refl, refl)
 
-some_bits : (n : ℕ) → (n == 0) ≡ false → 0 < n
+pub some_bits : (n : ℕ) → (n == 0) ≡ false → 0 < n
 some_bits zero e = absurd (let w : true ≡ false = e in cc)
 some_bits (suc n) e = omega arith
 

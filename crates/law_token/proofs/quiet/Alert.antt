@@ -252,7 +252,7 @@ pub feels_spans : (c : Place) (trace : List Entry) (busy : Bool) → Feels c tra
 feels_spans c trace true f = λ q over. f q (over_in c trace q over)
 feels_spans c trace false f = over_of c trace c.now f
 
-on_phase : (ph : Phase) → IsOn ph → is_offline ph ≡ false
+pub on_phase : (ph : Phase) → IsOn ph → is_offline ph ≡ false
 on_phase Offline on = absurd on
 on_phase PassiveIdle on = refl
 on_phase (Listening doubled) on = refl

@@ -26,7 +26,7 @@ use Rattle.law_model.proofs.Window.{not_false}
 
 -- ---- silence, entry by entry
 
-none_of : (test : Entry → Bool) (es : List Entry) → list_any test es ≡ false → Each (λ e. test e ≡ false) es
+pub none_of : (test : Entry → Bool) (es : List Entry) → list_any test es ≡ false → Each (λ e. test e ≡ false) es
 none_of test [] h = tt
 none_of test (e ∷ es) h = let b = or_parts (test e) (list_any test es) h in (b.0, none_of test es b.1)
 

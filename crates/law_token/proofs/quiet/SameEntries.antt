@@ -85,7 +85,7 @@ same_hit c test hit es = same_all c es (change_first test (with_hit hit) es) (al
 
 -- ---- noise that lasts longer
 
-part_some : (since : ℕ) (span : Span) → since < span.end → part_after since span ≡ Some (record { begin = max span.begin since; end = span.end })
+pub part_some : (since : ℕ) (span : Span) → since < span.end → part_after since span ≡ Some (record { begin = max span.begin since; end = span.end })
 part_some since span lt = ap (λ b. if b then Some (record { begin = max span.begin since; end = span.end }) else None) (lt-ltb since span.end lt)
 
 noisy_one : (c : Place) (m : ℕ) (e : Entry) → c.since ≤ c.now → is_noise_at c.now e ≡ true → SameEntry c e (noisy_until m e)

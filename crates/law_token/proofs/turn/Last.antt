@@ -60,16 +60,16 @@ said_active c x ph (SaidData none) = tt
 said_active c x ph (SaidStatus none) = tt
 said_active c x ph (SaidToken to offers) = tt
 
-asks_of : (o : Option OpenRequest) → IfSome o IsOpenRequest → Asks o
+pub asks_of : (o : Option OpenRequest) → IfSome o IsOpenRequest → Asks o
 asks_of None h = tt
 asks_of (Some o) h = h.request
 
-reply_of : (o : Option Reply) (r : Reply) → IfSome o (λ r. IsReply r.octets) → o ≡ Some r → IsReply r.octets
+pub reply_of : (o : Option Reply) (r : Reply) → IfSome o (λ r. IsReply r.octets) → o ≡ Some r → IsReply r.octets
 reply_of o r h e = subst (λ z. IfSome z (λ r. IsReply r.octets)) e h
 
 -- ---- the waits of the new world
 
-set_here : (ts : List Tap) (k : ℕ) (t u : Tap) → slice_get ts k ≡ Some t → slice_get (slice_set ts k u) k ≡ Some u
+pub set_here : (ts : List Tap) (k : ℕ) (t u : Tap) → slice_get ts k ≡ Some t → slice_get (slice_set ts k u) k ≡ Some u
 set_here [] k t u here = absurd (none-some t here)
 set_here (x ∷ xs) zero t u here = refl
 set_here (x ∷ xs) (suc k) t u here = set_here xs k t u here

@@ -105,7 +105,7 @@ speech_claim c s sent =
 
 -- ---- requests
 
-code_bit : (service : Service) (high : Bool) (count : FrameCount) → has_bit (0x40 + (if is_answered service then count_bits count else 0) + code_of service high) 6 ≡ true
+pub code_bit : (service : Service) (high : Bool) (count : FrameCount) → has_bit (0x40 + (if is_answered service then count_bits count else 0) + code_of service high) 6 ≡ true
 code_bit Sda true First = refl
 code_bit Sda true Clear = refl
 code_bit Sda true Set = refl

@@ -87,7 +87,7 @@ speaks_of p now k a s master trace waited last octets (Repeats own h over public
 speaks_of p now k a s master trace waited last octets (Waits q from over public said) alone = Begins q (record { timeout = omega (arith, over); public = public; alone = alone q from over public })
 
 -- a check that is over is not doomed
-not_doomed : (c : Place) (trace : List Entry) (own : Span) → own.end + c.p.tsl ≤ c.now → Doomed c trace own → ⊥
+pub not_doomed : (c : Place) (trace : List Entry) (own : Span) → own.end + c.p.tsl ≤ c.now → Doomed c trace own → ⊥
 not_doomed c trace own over d = d (each_all (λ e. Spares c.now (own.end + c.p.tsl) (heard_span c.p.ttd c.tap c.since e)) trace (λ e. spared (heard_span c.p.ttd c.tap c.since e)))
   where
     spared : (o : Option Span) → Spares c.now (own.end + c.p.tsl) o

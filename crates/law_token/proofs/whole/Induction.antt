@@ -22,7 +22,7 @@ use Rattle.law_token.proofs.bus.Claims.{at_most_one, is_named}
 -- ---- along a list
 
 -- each event that breaks no premise keeps the invariant
-event_invariant : (w : World) (e : Event) → KeepsInvariant w e
+pub event_invariant : (w : World) (e : Event) → KeepsInvariant w e
 event_invariant w (Turn tap) = turn_invariant w tap
 event_invariant w (Pass bits) = pass_invariant w bits
 event_invariant w (Damage tap speaker place) = damage_invariant w tap speaker place

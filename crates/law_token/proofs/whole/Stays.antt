@@ -165,7 +165,7 @@ step_after R Q w next q (Unheard tap speaker) reply is ok all =
 
 -- ---- the taps of a world
 
-not_true_false : (b : Bool) → b ≡ true → b ≡ false → ⊥
+pub not_true_false : (b : Bool) → b ≡ true → b ≡ false → ⊥
 not_true_false true e f = cc
 not_true_false false e f = cc
 

@@ -5,8 +5,8 @@ use Rattle.std.proofs.lemmas.List.{drop_all}
 use Rattle.law_model.specs.Trace.{Heard}
 use Rattle.pb_medium.specs.Entries.{heard_of}
 use Rattle.pb_export.specs.Boxes.{is_damaged}
-use Rattle.pb_export.proofs.Loops.{dropped}
 use Rattle.pb_export.proofs.boxes.has_damage.Goals as goal
+use Rattle.pb_texts.proofs.Taps.{dropped}
 
 -- the test of those from one on
 from_one : (hs : List Heard) (i : ℕ) (h : Heard) (b : Bool) → slice_get hs i ≡ Some h → b ≡ is_damaged h

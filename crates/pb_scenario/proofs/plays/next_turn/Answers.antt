@@ -4,7 +4,7 @@ use Rattle.law_turn.specs.Stations.{earlier}
 use Rattle.law_runs.specs.Runs.{comes}
 use Rattle.pb_world.specs.Worlds.{due_at}
 use Rattle.pb_scenario.specs.Walks.{plan_in}
-use Rattle.pb_scenario.proofs.Moving.{sooner-all, sooner-more}
+use Rattle.pb_world.proofs.Instants.{sooner-all, sooner-more}
 use Rattle.pb_scenario.proofs.plays.next_turn.Goals as goal
 
 pub loop-tap-preserved : goal.loop-tap-preserved

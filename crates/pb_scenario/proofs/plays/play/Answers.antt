@@ -3,7 +3,7 @@ use Rattle.std.proofs.Common.{◌≡◌, ◌∙◌, Some, length, ap, sym, subst
 use Rattle.pb_scenario.specs.Walks.{WalkView}
 use Rattle.pb_scenario.specs.Scenarios.{walk_of}
 use Rattle.pb_scenario.specs.Plays.{GoesOn}
-use Rattle.pb_scenario.proofs.Counting.{count-new}
+use Rattle.pb_world.proofs.Counting.{count-new}
 use Rattle.pb_scenario.proofs.Moving.{in-err}
 use Rattle.pb_scenario.proofs.PlayedInstants.{rest-begins, rest-goes, rest-ends, rest-ready, rest-stops}
 use Rattle.pb_scenario.proofs.plays.play.Goals as goal

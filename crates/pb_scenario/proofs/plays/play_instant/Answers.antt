@@ -8,7 +8,7 @@ use Rattle.pb_scenario.specs.Walks.{passes, plan_in}
 use Rattle.pb_scenario.specs.declared.deeds.When.TheVariants.{BeforeTurns, AfterTurns}
 use Rattle.pb_scenario.specs.Said.{said_by}
 use Rattle.pb_scenario.specs.Plays.{Happened}
-use Rattle.pb_scenario.proofs.Counting.{count-all}
+use Rattle.pb_world.proofs.Counting.{count-all}
 use Rattle.pb_scenario.proofs.Moving.{happened-as, happened-at, in-err, ready-after, stops-as, stops-at}
 use Rattle.pb_scenario.proofs.PlayedInstants.{ends-early, ends-late, ends-passing, ends-turns, goes-on}
 use Rattle.pb_scenario.proofs.plays.play_instant.Goals as goal

@@ -2,7 +2,7 @@
 use Rattle.std.proofs.Common.{◌<◌, ◌∙◌, length, map, arith}
 use Rattle.law_model.specs.World.{Turn}
 use Rattle.pb_scenario.specs.Walks.{plan_in}
-use Rattle.pb_scenario.proofs.Counting.{count-all}
+use Rattle.pb_world.proofs.Counting.{count-all}
 use Rattle.pb_scenario.proofs.Moving.{in-err, none-turned, ready-after, turned-all, turned-more, turned-stops}
 use Rattle.pb_scenario.proofs.plays.play_turns.Goals as goal
 

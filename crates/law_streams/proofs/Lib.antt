@@ -1,0 +1,7 @@
+pub mod PastEntries
+pub mod PastSteps
+pub mod PastStays
+pub mod Following
+pub mod Followed
+pub mod RaisedLimits
+pub mod Instants

@@ -1,0 +1,8 @@
+use Rattle.law_streams.proofs.Followed.{more-stream, more-trace}
+use Rattle.law_streams.proofs.laws.a_greater_limit_changes_nothing.Goals as goal
+
+pub returns-clause-trace : goal.returns-clause-trace
+returns-clause-trace c = more-trace
+
+pub returns-clause-stream : goal.returns-clause-stream
+returns-clause-stream c = more-stream

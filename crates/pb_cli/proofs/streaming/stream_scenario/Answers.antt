@@ -1,0 +1,35 @@
+use Rattle.std.proofs.Common.{◌≡◌, Option, subst, rules}
+use Rattle.std.specs.Io.KnownBytes.{Appends}
+use Rattle.law_streams.specs.Streams.{stream_limit, stream_within}
+use Rattle.pb_stream.specs.Streams.{up_to}
+use Rattle.pb_cli.specs.Streaming.{StepsOn}
+use Rattle.pb_cli.specs.declared.faults.Status.{Status}
+use Rattle.pb_cli.proofs.Written.{begins, ends, goes_on, no_world}
+use Rattle.pb_cli.proofs.streaming.stream_scenario.Goals as goal
+
+pub returns-in-Err-clause-text : goal.returns-in-Err-clause-text
+returns-in-Err-clause-text g c =
+    let before = g.W.Sink.contents c.args.writer.now in
+    let after = g.W.Sink.contents c.write_out.new.writer in
+    no_world c.args.scenario.now c.args.until c.in-Err.fault c.in_ok-new_line-in-Err.field-0.items before after
+    c.in-Err.ensures.fault c.in_ok-new_line-in-Err.ensures.told c.in_ok-new_line-in-Err.ensures.line
+    (subst (Appends before after) c.deref.ensures.value c.in_ok-write_out-in-Err.ensures.whole)
+
+pub returns-in-Some-clause-text : goal.returns-in-Some-clause-text
+returns-in-Some-clause-text g c =
+    let whole = stream_within stream_limit (up_to c.args.until c.args.scenario.now.scenario) in
+    let mid = g.W.Sink.contents c.loop-text.writer in
+    let after = g.W.Sink.contents c.step.new.writer in
+    ends c.args.scenario.now.names whole c.loop-text.stream (g.W.Sink.contents c.args.writer.now) mid after c.in-Some.status c.loop-text.invariant.streams
+    (subst (λ (o : Option Status). StepsOn c.loop-text.stream c.step.new.stream mid after o) c.in-Some.is c.in_ok-status.ensures.steps)
+
+pub loop-text-preserved : goal.loop-text-preserved
+loop-text-preserved g c =
+    let whole = stream_within stream_limit (up_to c.args.until c.args.scenario.now.scenario) in
+    let mid = g.W.Sink.contents c.loop-text.writer in
+    let after = g.W.Sink.contents c.step.new.writer in
+    record {
+      streams = goes_on c.args.scenario.now.names whole c.loop-text.stream c.step.new.stream (g.W.Sink.contents c.args.writer.now) mid after c.loop-text.invariant.streams
+          (subst (λ (o : Option Status). StepsOn c.loop-text.stream c.step.new.stream mid after o) c.in-None.is c.in_ok-status.ensures.steps);
+      unfailed = search rules;
+    }

@@ -1,0 +1,16 @@
+-- Some of the stream is written, and the rest is to come.
+use Rattle.std.proofs.Common.{◌≡◌, ◌-◌}
+use Rattle.law_streams.specs.Streams.{stream_limit, stream_within}
+use Rattle.pb_stream.specs.Streams.{up_to}
+use Rattle.pb_cli.proofs.Written.{Streams}
+use Rattle.pb_cli.proofs.streaming.stream_scenario.Given as goal
+
+abbrev pub invariant-loop-text : goal.invariant-loop-text
+invariant-loop-text g l = record {
+  streams : Streams l.scenario.names (stream_within stream_limit (up_to l.until l.scenario.scenario)) l.stream
+      (g.W.Sink.contents l.initial.writer) (g.W.Sink.contents l.writer);
+  unfailed : g.W.Sink.failures l.writer ≡ g.W.Sink.failures l.initial.writer;
+}
+
+abbrev pub decreases-loop-text : goal.decreases-loop-text
+decreases-loop-text g l = l.stream.walk.until - l.stream.walk.clock

@@ -1,0 +1,104 @@
+//! `ringplay stream`: from a scenario file to the trace of its run, written as it settles.
+
+ghost use Rattle.std.specs.Prelude.{◌≡◌, ◌≢◌, ◌≤◌, Err, IfOk, IfSome};
+ghost use Rattle.pb_texts.specs.Files.{scenario_of};
+ghost use Rattle.pb_stream.specs.Streams.{IsStreaming, stream_end};
+ghost use Rattle.pb_cli.specs.Streaming.{StepsOn, WritesFile, WritesScenario};
+
+use crate::faults::{CliFault, Status};
+use crate::streams::Sink;
+use crate::writing::write_out;
+use pb_stream::{Progress, Stream};
+use pb_texts::{Scenario, described, new_line, refused_file, refused_line};
+use std::alloc::Global;
+
+/// How many entries are written at once.
+const BLOCK: usize = 64;
+
+/// Plays a scenario file up to `until`, in bit times, or else up to its own end, and writes the line of each entry once the
+/// entry is over. Where the file or an event is refused, the line of the fault follows what was written.
+///
+/// On `Ok` the writer holds the lines of the run within 10^12 entries and that line, and the status is `Refused` exactly if
+/// there is one. Faults: `Write` if the writer failed, or was interrupted 1,001 times in a row; `NoMemory`. Tests show, and
+/// no contract says, that a front of that text was written after a fault, and that memory does not grow with the run.
+pub fn stream_file<W: Sink>(
+    alloc: Global,
+    file: &[u8],
+    until: Option<u64>,
+    writer: &mut W,
+) -> Result<Status, CliFault>
+    requires { IfSome until (λ moment. moment ≤ stream_end) }
+    ensures text { IfOk result (WritesFile (scenario_of file.now) until
+        (W.contents writer.old) (W.contents writer.new)) }
+    ensures read { result ≢ Err CliFault.Read }
+    ensures too_long { result ≢ Err CliFault.TooLong }
+    ensures writer_failed { result ≢ Err CliFault.Write → W.failures writer.new ≡ W.failures writer.old }
+{
+    match described(alloc, file) {
+        Ok(scenario) => {
+            let end = until.unwrap_or(scenario.until());
+            stream_scenario(alloc, &scenario, end, writer)
+        }
+        Err(fault) => {
+            write_out(writer, &refused_file(alloc, &fault)?.text)?;
+            Ok(Status::Refused)
+        }
+    }
+}
+
+/// Plays a scenario and writes the lines of its trace as they settle.
+fn stream_scenario<W: Sink>(
+    alloc: Global,
+    scenario: &Scenario,
+    until: u64,
+    writer: &mut W,
+) -> Result<Status, CliFault>
+    requires { until ≤ stream_end }
+    ensures text { IfOk result
+        (WritesScenario scenario.now until (W.contents writer.old) (W.contents writer.new)) }
+    ensures read { result ≢ Err CliFault.Read }
+    ensures too_long { result ≢ Err CliFault.TooLong }
+    ensures writer_failed { result ≢ Err CliFault.Write → W.failures writer.new ≡ W.failures writer.old }
+{
+    let mut stream = match Stream::new(alloc, scenario, until) {
+        Ok(stream) => stream,
+        Err(fault) => {
+            write_out(writer, &new_line(alloc, fault)?)?;
+            return Ok(Status::Refused);
+        }
+    };
+    let mut text = Vec::new(alloc);
+    loop {
+        match step(alloc, &mut stream, &mut text, writer)? {
+            Some(status) => return Ok(status),
+            None => {}
+        }
+    }
+}
+
+/// Plays an instant, and writes the lines that it gives. Returns the status where the stream has ended.
+fn step<W: Sink>(
+    alloc: Global,
+    stream: &mut Stream<'_>,
+    text: &mut Vec<u8>,
+    writer: &mut W,
+) -> Result<Option<Status>, CliFault>
+    requires { IsStreaming stream.old }
+    ensures steps { IfOk result
+        (StepsOn stream.old stream.new (W.contents writer.old) (W.contents writer.new)) }
+    ensures read { result ≢ Err CliFault.Read }
+    ensures too_long { result ≢ Err CliFault.TooLong }
+    ensures writer_failed { result ≢ Err CliFault.Write → W.failures writer.new ≡ W.failures writer.old }
+{
+    text.clear();
+    let progress = stream.advance(alloc, text, BLOCK)?;
+    write_out(writer, text)?;
+    match progress {
+        Progress::Goes => Ok(None),
+        Progress::Ended => Ok(Some(Status::Done)),
+        Progress::Refused { clock, fault } => {
+            write_out(writer, &refused_line(alloc, fault, clock)?)?;
+            Ok(Some(Status::Refused))
+        }
+    }
+}

@@ -1,0 +1,41 @@
+//! Whether a token or a request is the last one again.
+
+use arrayvec::ArrayVec;
+use pb_telegram::{Telegram, write_in};
+
+/// The octets of the last token or request, and room for those of the next one.
+#[derive(Drop)]
+pub(crate) struct Repeats {
+    one: ArrayVec<u8, 255>,
+    other: ArrayVec<u8, 255>,
+    /// Whether those of the last one are in `one`.
+    is_in_one: bool,
+}
+
+impl Repeats {
+    /// No token and no request is known.
+    pub(crate) fn new() -> Repeats {
+        Repeats {
+            one: ArrayVec::new(),
+            other: ArrayVec::new(),
+            is_in_one: false,
+        }
+    }
+
+    /// Forgets the last one.
+    pub(crate) fn forget(&mut self) {
+        self.one.clear();
+        self.other.clear();
+    }
+
+    /// Hears the next one, and returns whether it has the same octets as the last one, if that is known.
+    pub(crate) fn hear(&mut self, telegram: &Telegram) -> bool {
+        self.is_in_one = !self.is_in_one;
+        if self.is_in_one {
+            write_in(telegram, &mut self.one);
+        } else {
+            write_in(telegram, &mut self.other);
+        }
+        self.one.as_slice() == self.other.as_slice()
+    }
+}

@@ -1,0 +1,3 @@
+pub mod Playing
+pub mod Instants
+pub mod Streaming

@@ -1,0 +1,66 @@
+-- What is appended are the next entries of the stream.
+use Rattle.std.proofs.Common.{◌≡◌, ◌∙◌, Some, None, length, ap, arith, refl, subst, sym, ◌++◌}
+use Rattle.std.specs.Prelude.{IfSome}
+use Rattle.law_model.specs.World.{World}
+use Rattle.law_runs.specs.Scenarios.{At}
+use Rattle.pb_medium.specs.Traces.{entries_of}
+use Rattle.pb_scenario.specs.Faults.{model_fault}
+use Rattle.pb_scenario.specs.Texts.{entries_text}
+use Rattle.pb_scenario.specs.Walks.{WalkView}
+use Rattle.pb_world.specs.Buses.{world_of}
+use Rattle.pb_stream.specs.Plays as plays
+use Rattle.pb_stream.specs.Streams.{names_of, rest_of}
+use Rattle.pb_stream.proofs.Streaming.{ends-rest, goes-rest, stops-rest}
+use Rattle.pb_stream.proofs.streams.Stream.advance.Goals as goal
+
+pub returns-in_ok-hand_on-in-Ok-Some : goal.returns-in_ok-hand_on-in-Ok-Some
+returns-in_ok-hand_on-in-Ok-Some c =
+    let s = c.args.self.now in
+    let walk = s.walk in
+    let after = c.go_to.new.self in
+    let old = world_of s.bus in
+    let mid = world_of c.play_instant.new.bus in
+    let new = world_of c.hand_on.new.bus in
+    let at = c.in-Ok-Some.at in
+    let moved : after ≡ record walk { clock = at } = c.go_to.ensures in
+    let goes : plays.GoesOn walk old (Some at) mid = subst (λ o. plays.GoesOn walk old o mid) c.in-Ok-Some.field-0-is c.in-Ok-Some.ensures.goes in
+    let (entries, text, lets) = c.in_ok-hand_on-in-Ok-Some.ensures in
+    let clock = ap (λ (w : WalkView). w.clock) moved in
+    let until = ap (λ (w : WalkView). w.until) moved in
+    record {
+      entries = entries;
+      text = text;
+      rest = goes-rest walk after old mid new at entries moved goes lets.whole lets.past;
+      ready = record {
+        kept = lets.kept;
+        in_time = omega (arith, clock, until, goes.later.1);
+        taps = sym (ap (λ (w : World). length w.taps) lets.whole) ∙ goes.taps ∙ c.requires.taps ∙ sym (ap (λ (w : WalkView). w.taps) moved);
+      };
+      names = refl;
+      until = until;
+      later = omega (arith, clock, goes.later.0);
+    }
+
+pub returns-in_ok-push_trace-in-Ok-None : goal.returns-in_ok-push_trace-in-Ok-None
+returns-in_ok-push_trace-in-Ok-None c =
+    let s = c.args.self.now in
+    let old = world_of s.bus in
+    let bus = c.play_instant.new.bus in
+    let mid = world_of bus in
+    let goes : plays.GoesOn s.walk old None mid = subst (λ o. plays.GoesOn s.walk old o mid) c.in-Ok-None.field-0-is c.in-Ok-None.ensures.goes in (
+      entries_of bus.trace,
+      c.in_ok-push_trace-in-Ok-None.ensures ∙ ap (λ es. c.args.text.now.items ++ entries_text (names_of s) es) c.entries.ensures,
+      ends-rest s.walk old mid goes,
+    )
+
+pub returns-in_ok-push_trace-in-Err : goal.returns-in_ok-push_trace-in-Err
+returns-in_ok-push_trace-in-Err c =
+    let s = c.args.self.now in
+    let old = world_of s.bus in
+    let bus = c.play_instant.new.bus in
+    let mid = world_of bus in (
+      entries_of bus.trace,
+      c.in_ok-push_trace-in-Err.ensures ∙ ap (λ es. c.args.text.now.items ++ entries_text (names_of s) es) c.entries-in-Err.ensures,
+      subst (λ m. IfSome (model_fault c.in-Err.fault) (λ f. rest_of s ≡ Some (record { entries = entries_of bus.trace; fault = Some (At m f) }))) (sym c.now.ensures)
+          (stops-rest s.walk old mid c.in-Err.fault c.in-Err.ensures.goes),
+    )

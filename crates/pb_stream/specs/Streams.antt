@@ -1,0 +1,66 @@
+-- A stream: what is still to come of it, and what a call appends.
+use Rattle.std.specs.Prelude.{◌≡◌, ℕ, ◌+◌, ◌<◌, ◌≤◌, List, ◌++◌, length, Option, Some, None, IfSome}
+use Rattle.law_model.specs.Trace.{Entry}
+use Rattle.law_runs.specs.Runs.{run}
+use Rattle.law_runs.specs.Scenarios as runs
+use Rattle.law_runs.specs.Scenarios.{At}
+use Rattle.law_streams.specs.Streams.{Streamed, telling_bus, streamed_of}
+use Rattle.law_streams.specs.Limits.{stream_behind}
+use Rattle.pb_world.specs.Buses.{world_of, IsKept}
+use Rattle.pb_world.specs.LettingGo.{LetsPastGo}
+use Rattle.pb_world.specs.declared.buses.Bus.{Bus}
+use Rattle.pb_scenario.specs.Faults.{model_fault}
+use Rattle.pb_scenario.specs.Texts.{entries_text}
+use Rattle.pb_scenario.specs.Walks.{plan_in}
+use Rattle.pb_stream.specs.declared.streams.Progress.{Progress}
+use Rattle.pb_stream.specs.declared.streams.Progress.TheVariants.{Goes, Ended, Refused}
+use Rattle.pb_stream.specs.declared.streams.Stream.{Stream}
+
+-- the last moment until which time may pass in a stream
+abbrev pub stream_end : ℕ
+stream_end = 1000000000000
+
+-- a scenario that ends at another moment
+abbrev pub up_to : ℕ → runs.Scenario → runs.Scenario
+up_to until s = record s { until = until }
+
+abbrev pub names_of : Stream → List (List ℕ)
+names_of s = s.scenario.now.names
+
+-- what is still to come: what the run has from the walk's moment on
+abbrev pub rest_of : Stream → Option Streamed
+rest_of s = streamed_of (run (s.walk.until + 1) telling_bus (plan_in s.walk) s.walk.clock (world_of s.bus))
+
+-- the invariant of its fields
+pub record IsStreaming (s : Stream) : Type 0 where
+  pub kept : IsKept s.bus
+  pub in_time : s.walk.clock ≤ s.walk.until
+  pub taps : length (world_of s.bus).taps ≡ s.walk.taps
+
+-- ---- what is appended
+
+-- the lines of some entries
+abbrev pub Appends : List (List ℕ) → List Entry → List ℕ → List ℕ → Type 0
+Appends names entries before after = after ≡ before ++ entries_text names entries
+
+-- some entries are handed on and let go, or none
+abbrev pub HandsOn : List (List ℕ) → Bus → List ℕ → Bus → List ℕ → Type 0
+HandsOn names old before new after = (entries : List Entry) × Appends names entries before after × LetsPastGo entries old new
+
+-- it goes on: what was to come are the entries whose lines were appended, and then what is still to come
+pub record GoesOn (old new : Stream) (before after : List ℕ) : Type 0 where
+  pub entries : List Entry
+  pub text : Appends (names_of old) entries before after
+  pub rest : rest_of old ≡ stream_behind entries (rest_of new)
+  pub ready : IsStreaming new
+  pub names : names_of new ≡ names_of old
+  pub until : new.walk.until ≡ old.walk.until
+  pub later : old.walk.clock < new.walk.clock
+
+abbrev pub Tells : Progress → Stream → Stream → List ℕ → List ℕ → Type 0
+Tells Goes old new before after = GoesOn old new before after
+Tells Ended old new before after =
+    (entries : List Entry) × Appends (names_of old) entries before after × (rest_of old ≡ Some (record { entries = entries; fault = None }))
+Tells (Refused clock fault) old new before after =
+    (entries : List Entry) × Appends (names_of old) entries before after
+    × IfSome (model_fault fault) (λ f. rest_of old ≡ Some (record { entries = entries; fault = Some (At clock f) }))

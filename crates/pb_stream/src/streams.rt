@@ -1,0 +1,124 @@
+//! The stream of a scenario: its run, instant by instant, and the lines of its trace as they settle.
+
+ghost use Rattle.std.specs.Prelude.{◌≡◌, OnOk};
+ghost use Rattle.pb_world.specs.Buses.{IsKept};
+ghost use Rattle.pb_stream.specs.Streams.{HandsOn};
+
+use crate::plays::play_instant;
+use pb_scenario::{NewFault, Scenario, Walk, WorldFault, push_trace};
+use pb_world::{Bus, new_bus_within};
+use std::alloc::{AllocError, Global};
+
+/// The last moment until which time may pass in a stream, in bit times.
+pub const STREAM_END: u64 = 1_000_000_000_000;
+
+/// How many entries the trace of a stream may have.
+const ENTRIES: usize = 1_000_000_000_000;
+
+/// How far an instant has brought a stream.
+#[derive(Clone, Copy, Debug, PartialEq, Eq)]
+pub enum Progress {
+    /// There is a next instant.
+    Goes,
+    /// The run has ended.
+    Ended,
+    /// An event was refused, and that ended the run.
+    Refused {
+        /// The clock, in bit times.
+        clock: u64,
+        /// Why; never `NoMemory`.
+        fault: WorldFault,
+    },
+}
+
+/// A run of a scenario that lets go of the entries that are over. Tests show, and no contract says, that between instants
+/// it takes the memory of its taps and of what is on the bus, whatever time has passed.
+#[derive(Drop)]
+pub struct Stream<'a> {
+    pub(crate) scenario: &'a Scenario,
+    pub(crate) bus: Bus,
+    pub(crate) walk: Walk<'a>,
+}
+
+impl<'a> Stream<'a> {
+    ghost use Rattle.std.specs.Prelude.{◌≡◌, ◌≤◌, IfOk, IfErr};
+    ghost use Rattle.law_model.specs.World.{new_world};
+    ghost use Rattle.law_streams.specs.Streams.{stream_limit, stream_within};
+    ghost use Rattle.pb_taps.specs.Faults.{RefusesNew};
+    ghost use Rattle.pb_stream.specs.Streams.{IsStreaming, Tells, names_of, rest_of, stream_end, up_to};
+
+    /// The stream of a scenario at 0, up to the moment `until`, in bit times, in place of the scenario's own.
+    ///
+    /// Faults: those of a new world ([`NewFault`]), the first that applies.
+    pub fn new(alloc: Global, scenario: &'a Scenario, until: u64) -> Result<Stream<'a>, NewFault>
+        requires { until ≤ stream_end }
+        ensures rest { IfOk result
+            (λ s. rest_of s ≡ stream_within stream_limit (up_to until scenario.now.scenario)) }
+        ensures names { IfOk result (λ s. names_of s ≡ scenario.now.names) }
+        ensures ready { IfOk result IsStreaming }
+        ensures fault { IfErr result
+            (RefusesNew (new_world scenario.now.scenario.params scenario.now.scenario.taps)) }
+    {
+        let bus = new_bus_within(alloc, *scenario.params(), scenario.taps(), ENTRIES)?;
+        match Walk::new(alloc, scenario.steps(), scenario.taps().len(), until) {
+            Ok(walk) => Ok(Stream {
+                scenario,
+                bus,
+                walk,
+            }),
+            Err(_) => Err(NewFault::NoMemory),
+        }
+    }
+
+    /// Plays an instant, and appends the lines of the entries that are over since the last ones, if they are at least
+    /// `block`; at the end, or where an event is refused, the lines of all entries that are left.
+    ///
+    /// Fault: memory was refused. Then the stream must not be played further.
+    pub fn advance(
+        &mut self,
+        alloc: Global,
+        text: &mut Vec<u8>,
+        block: usize,
+    ) -> Result<Progress, AllocError>
+        requires { IsStreaming self.old }
+        ensures { IfOk result (λ progress. Tells progress self.old self.new text.old.items text.new.items) }
+    {
+        match play_instant(alloc, &mut self.bus, &self.walk) {
+            Ok(Some(at)) => {
+                self.walk.go_to(at);
+                hand_on(&mut self.bus, self.scenario, text, block)?;
+                Ok(Progress::Goes)
+            }
+            Ok(None) => {
+                push_trace(text, self.scenario, self.bus.trace.entries())?;
+                Ok(Progress::Ended)
+            }
+            Err(WorldFault::NoMemory) => Err(AllocError),
+            Err(fault) => {
+                push_trace(text, self.scenario, self.bus.trace.entries())?;
+                Ok(Progress::Refused {
+                    clock: self.walk.now(),
+                    fault,
+                })
+            }
+        }
+    }
+}
+
+/// Appends the lines of the entries that are over, and lets them go, if they are at least `block`.
+fn hand_on(
+    bus: &mut Bus,
+    scenario: &Scenario,
+    text: &mut Vec<u8>,
+    block: usize,
+) -> Result<(), AllocError>
+    requires { IsKept bus.old }
+    ensures { OnOk result (HandsOn scenario.now.names bus.old text.old.items bus.new text.new.items) }
+{
+    if bus.past().len() < block {
+        return Ok(());
+    }
+    push_trace(text, scenario, bus.past())?;
+    bus.let_go();
+    Ok(())
+}

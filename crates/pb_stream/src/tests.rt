@@ -1,0 +1,83 @@
+//! Streams beside runs.
+
+ghost use Rattle.std.specs.Prelude.{◌≤◌};
+ghost use Rattle.pb_stream.specs.Streams.{stream_end};
+
+use crate::{Progress, STREAM_END, Stream};
+use pb_scenario::{Scenario, WorldFault, events_of, read, trace_text};
+use pb_world::{World, run};
+use std::alloc::{AllocGlobal, Global};
+use std::process::Abort;
+
+/// Two masters; the second stops, and then again.
+const FILE: &[u8] = b"
+version = 1
+until = 4000
+bus = { tsl = 100, tid1 = 37, tid2 = 60, tsdr = 11, lag = 0, ttr = 10000, gap = 10, hsa = 5, retries = 1 }
+tap = [{ name = 'a', kind = 'master', address = 1 }, { name = 'b', kind = 'master', address = 2 }]
+step = [
+    { at = 0, do = 'start', tap = 'a' }, { at = 0, do = 'start', tap = 'b' },
+    { at = 4100, do = 'stop', tap = 'b' }, { at = 4200, do = 'stop', tap = 'b' },
+]
+";
+
+/// More instants than the tests have.
+const MANY: usize = 100_000;
+
+/// The text of a stream, and how it ends.
+fn streamed(
+    rt: &impl Abort,
+    alloc: Global,
+    scenario: &Scenario,
+    until: u64,
+    block: usize,
+) -> (Vec<u8>, Progress)
+    requires { until ≤ stream_end }
+{
+    let mut stream = Stream::new(alloc, scenario, until).expect(rt, "a stream");
+    let mut text = Vec::new(alloc);
+    for _instant in 0..MANY {
+        match stream.advance(alloc, &mut text, block).expect(rt, "memory") {
+            Progress::Goes => {}
+            end => return (text, end),
+        }
+    }
+    (text, Progress::Goes)
+}
+
+/// The text of a run, where no event is refused.
+fn run_text(rt: &impl Abort, alloc: Global, scenario: &Scenario) -> Vec<u8> {
+    let events = events_of(alloc, scenario).expect(rt, "a run");
+    let mut world = World::new(alloc, *scenario.params(), scenario.taps()).expect(rt, "a world");
+    run(alloc, &mut world, &events).expect(rt, "events");
+    trace_text(alloc, scenario, world.trace()).expect(rt, "memory")
+}
+
+/// A stream has the lines of the run, in whatever blocks.
+#[test]
+fn a_stream_has_the_lines_of_the_run(rt: HostRuntime) {
+    let alloc = rt.alloc();
+    let scenario = read(alloc, FILE).expect(&rt, "a scenario");
+    let text = run_text(&rt, alloc, &scenario);
+    let (one, end) = streamed(&rt, alloc, &scenario, 4000, 1);
+    assert!(rt; one.as_slice() == text.as_slice() && end == Progress::Ended);
+    let (many, end) = streamed(&rt, alloc, &scenario, 4000, 7);
+    assert!(rt; many.as_slice() == text.as_slice() && end == Progress::Ended);
+}
+
+/// Where an event is refused, the lines of all that was sent before come first.
+#[test]
+fn a_refused_stream_has_what_came_before(rt: HostRuntime) {
+    let alloc = rt.alloc();
+    let scenario = read(alloc, FILE).expect(&rt, "a scenario");
+    let (text, end) = streamed(&rt, alloc, &scenario, STREAM_END, 64);
+    assert!(rt;
+        text.as_slice()
+            .starts_with(run_text(&rt, alloc, &scenario).as_slice())
+    );
+    let refused = Progress::Refused {
+        clock: 4200,
+        fault: WorldFault::NotRunning,
+    };
+    assert!(rt; end == refused);
+}

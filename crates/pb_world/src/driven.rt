@@ -1,0 +1,143 @@
+//! A bus that a caller drives: by events, and by itself up to a moment.
+
+ghost use Rattle.std.specs.Prelude.{◌≡◌};
+ghost use Rattle.pb_taps.specs.Events.{event_of};
+ghost use Rattle.pb_world.specs.Driven.{Applies};
+ghost use Rattle.pb_world.specs.Watched.{IsWatched};
+
+use crate::buses::Bus;
+use crate::findings::Audit;
+use crate::premises::follow;
+use crate::run_to::run_to;
+use crate::watched::{Watched, new_watched};
+use pb_taps::{Event, NewFault, TapSpec, WorldFault};
+use pb_timers::BusParams;
+use std::alloc::Global;
+use std::marker::Model;
+
+/// A watched bus to which events have led from a new one. A refused event changes nothing, so that a caller may go on
+/// after it.
+///
+/// ```
+/// let alloc = rt.alloc();
+/// let params = BusParams::new(100, 37, 60, 11, 0, 10_000, 10, 5, 1, 0);
+/// let params = params.expect(&rt, "valid parameters");
+/// let (address, kind, reply) = (1, Kind::Master, ArrayVec::new());
+/// let taps = [TapSpec {
+///     address,
+///     kind,
+///     reply,
+/// }];
+/// let mut bus = DrivenBus::new(alloc, params, &taps).expect(&rt, "a bus");
+/// bus.apply(alloc, &Event::Start(0)).expect(&rt, "a start");
+/// // a tap that runs does not start; the refused event changes nothing
+/// bus.apply(alloc, &Event::Start(0))
+///     .expect_err(&rt, "a fault");
+/// // after 800 bit times of silence the master claims the token; it is then alone on the bus
+/// bus.run(alloc, 1_400).expect(&rt, "a run");
+/// assert_eq!(rt; bus.bus().now.get(), 1_400);
+/// assert!(rt; bus.judge().premise.is_none());
+/// ```
+#[derive(Drop)]
+pub struct DrivenBus {
+    watched: Watched,
+}
+
+impl Model for DrivenBus {
+    ghost use Rattle.pb_world.specs.Watched.{IsOfNew};
+    ghost use Rattle.pb_world.specs.declared.watched.Watched.{Watched};
+
+    ghost Value = { Watched };
+
+    ghost view = { λ b. b.watched };
+
+    ghost invariant = { λ b. IsOfNew b.watched };
+}
+
+impl DrivenBus {
+    ghost use Rattle.std.specs.Prelude.{◌≡◌, [], Ok, IfOk, IfErr, OnOk, map};
+    ghost use Rattle.law_model.specs.World.{new_world};
+    ghost use Rattle.pb_taps.specs.Events.{event_of};
+    ghost use Rattle.pb_taps.specs.Faults.{RefusesNew};
+    ghost use Rattle.pb_taps.specs.Taps.{spec_of};
+    ghost use Rattle.pb_world.specs.Buses.{IsKept};
+    ghost use Rattle.pb_world.specs.Driven.{Applies};
+    ghost use Rattle.pb_world.specs.RunTo.{HasRun, HasStopped};
+    ghost use Rattle.pb_world.specs.Watched.{FindsIn, HasCome, world_in};
+
+    /// A bus at clock 0. No tap runs yet.
+    ///
+    /// Faults: those of the new bus.
+    pub fn new(alloc: Global, params: BusParams, specs: &[TapSpec]) -> Result<DrivenBus, NewFault>
+        ensures new { IfOk result (λ b. new_world params (map spec_of specs.now) ≡ Ok (world_in b)) }
+        ensures came { IfOk result (λ b. HasCome b (world_in b) []) }
+        ensures fault { IfErr result (RefusesNew (new_world params (map spec_of specs.now))) }
+    {
+        let watched = new_watched(alloc, params, specs)?;
+        Ok(DrivenBus { watched })
+    }
+
+    /// Applies an event, and judges it by the premises. A refused event changes nothing.
+    ///
+    /// Faults: those of the event on a bus.
+    pub fn apply(&mut self, alloc: Global, event: &Event) -> Result<(), WorldFault>
+        ensures { Applies self.old (event_of event.now) result self.new }
+    {
+        apply(&mut self.watched, alloc, event)
+    }
+
+    /// Lets the bus run to a moment, in bit times: at each instant the turns that are due, in the order of the taps,
+    /// then a pass of time to the next instant. The due turns of the present moment are taken too. Where the moment is
+    /// not later than the clock, they are all that is done.
+    ///
+    /// Faults: those of a turn and of a pass of time. The refused event changes nothing; those before it remain.
+    pub fn run(&mut self, alloc: Global, until: u64) -> Result<(), WorldFault>
+        ensures run { OnOk result (HasRun until self.old self.new) }
+        ensures fault { IfErr result (λ fault. HasStopped until fault self.old self.new) }
+    {
+        run_to(&mut self.watched, alloc, until)
+    }
+
+    /// What an audit finds in the events so far.
+    pub fn judge(&self) -> Audit
+        ensures { FindsIn self.entry.now result }
+    {
+        self.watched.judge()
+    }
+
+    /// The bus after the events so far.
+    pub fn bus(&self) -> &Bus
+        ensures bus { result.now ≡ self.entry.now.bus }
+        ensures kept { IsKept result.now }
+    {
+        self.watched.bus()
+    }
+}
+
+/// Applies an event to a watched bus. A refused one changes nothing.
+pub(crate) fn apply(watched: &mut Watched, alloc: Global, event: &Event) -> Result<(), WorldFault>
+    requires { IsWatched watched.old }
+    ensures applies { Applies watched.old (event_of event.now) result watched.new }
+    ensures watched { IsWatched watched.new }
+{
+    match event {
+        Event::Pass(_) => apply_pass(watched, alloc, event),
+        _ => follow(&mut watched.watch, alloc, &mut watched.bus, event),
+    }
+}
+
+/// Applies a pass of time. The watch is restored if it is refused; only a pass changes the watch before it can be.
+fn apply_pass(watched: &mut Watched, alloc: Global, event: &Event) -> Result<(), WorldFault>
+    requires { IsWatched watched.old }
+    ensures applies { Applies watched.old (event_of event.now) result watched.new }
+    ensures watched { IsWatched watched.new }
+{
+    let before = watched.watch;
+    match follow(&mut watched.watch, alloc, &mut watched.bus, event) {
+        Ok(()) => Ok(()),
+        Err(fault) => {
+            watched.watch = before;
+            Err(fault)
+        }
+    }
+}

@@ -1,0 +1,43 @@
+"""The library for C that tests link: how it is built, and laid out as a release has it."""
+
+import shutil
+import subprocess
+import sys
+
+import repository
+
+TOP = repository.TOP
+# The library, its header, and the functions of its heap over malloc.
+LIBRARY = TOP / "crates/pbfdl/out/libpbfdl.a"
+HEADER = TOP / "include/pbfdl.h"
+HEAP = repository.KIT / "c/liblibc_c.a"
+
+
+def build():
+    """Proves and builds the library for C first where a source is newer than it. A failed build ends the test with status 70."""
+    if not is_stale():
+        return
+    built = subprocess.run(["rt", "lib"], cwd=LIBRARY.parent.parent, stdout=sys.stderr)
+    if built.returncode or not LIBRARY.exists():
+        print("libpbfdl.a: the build failed", file=sys.stderr)
+        sys.exit(70)
+    LIBRARY.touch()
+
+
+def is_stale():
+    """Whether the library is missing, or older than a source of it."""
+    if not LIBRARY.exists():
+        return True
+    tree = repository.Repository.of_tree()
+    folders = [tree.folder(name) / part for name in ["pbfdl", *tree.below("pbfdl")] for part in ("src", "specs", "proofs")]
+    sources = [TOP / "crates.txt", *(it for folder in folders for it in folder.rglob("*") if it.is_file())]
+    return max(it.stat().st_mtime for it in sources) > LIBRARY.stat().st_mtime
+
+
+def lay(folder, library=LIBRARY, header=HEADER):
+    """Puts lib/libpbfdl.a, with the functions of its heap, and include/pbfdl.h into a folder, as a release has them."""
+    for part in ("lib", "include"):
+        (folder / part).mkdir(parents=True, exist_ok=True)
+    script = f"CREATE {folder}/lib/libpbfdl.a\nADDLIB {library}\nADDLIB {HEAP}\nSAVE\nEND\n"
+    subprocess.run(["ar", "-M"], input=script, text=True, check=True)
+    shutil.copy(header, folder / "include/pbfdl.h")

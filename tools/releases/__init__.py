@@ -1,0 +1,1 @@
+"""What tools/release makes of the program's own help texts."""
