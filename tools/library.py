@@ -24,6 +24,16 @@ def build():
     LIBRARY.touch()
 
 
+def build_over(tree):
+    """Builds the library over the crates that rt ci has proved and left in this tree: rt ci proves the border too, and keeps no archive of
+    it, and 'rt lib' would prove all crates below once more. Gives what the compiler said where that failed."""
+    words = ["nice", "-n", "19", *tree.check("pbfdl")]
+    words[words.index("check")] = "build"
+    words += ["--crate-type", "staticlib", "--toolchain", repository.KIT / "toolchain", "--backend", "llvm", "-o", LIBRARY]
+    built = subprocess.run(words, cwd=tree.folder("pbfdl"), stdout=subprocess.PIPE, stderr=subprocess.STDOUT, text=True, errors="replace")
+    return built.stdout if built.returncode or not LIBRARY.exists() else ""
+
+
 def is_stale():
     """Whether the library is missing, or older than a source of it."""
     if not LIBRARY.exists():
