@@ -12,3 +12,5 @@ pub mod Events
 pub mod NoToken
 pub mod Runs
 pub mod Promising
+pub mod OtherData
+pub mod Acting

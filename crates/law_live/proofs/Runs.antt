@@ -15,17 +15,9 @@ use Rattle.law_runs.specs.Activity.{is_silent}
 use Rattle.law_token.specs.Places.{LeavesTime}
 use Rattle.law_token.specs.Promises.{HasRun, IsMasterAt}
 use Rattle.law_token.proofs.whole.JoinedRuns.{runs_same}
-use Rattle.law_token.specs.Invariant.{Invariant, KeepsInvariant}
+use Rattle.law_token.specs.Invariant.{Invariant}
 use Rattle.law_token.proofs.whole.Keeping.{fits_valid, unbroken}
-use Rattle.law_token.proofs.pass.WholePass.{pass_invariant}
 use Rattle.law_token.proofs.bus.NewWorlds.{new_invariant}
-use Rattle.law_token.proofs.turn.WholeTurn.{turn_invariant}
-use Rattle.law_token.proofs.air.Damage.{damage_invariant}
-use Rattle.law_token.proofs.air.Start.{start_invariant}
-use Rattle.law_token.proofs.air.Stop.{stop_invariant}
-use Rattle.law_token.proofs.air.Request.{queue_invariant}
-use Rattle.law_token.proofs.air.Noise.{noise_invariant}
-use Rattle.law_token.proofs.air.Loss.{loss_invariant}
 use Rattle.law_token.proofs.quiet.Bound.{silence_at_speakers}
 use Rattle.law_live.specs.NeverDead.{cycle, cycle_to_reply, longest_without, has_token_since, has_noise_since, NeverDead}
 use Rattle.law_live.specs.Flow.{Flow}
@@ -34,14 +26,14 @@ use Rattle.law_live.proofs.Events.{began_now, event_flow, new_flow}
 use Rattle.law_token.proofs.whole.Induction.{event_invariant}
 
 -- where no premise breaks, no telegram is lost and no turn comes late
-numbers : (a b c d : Bool) → first_number a b c d ≡ None → (b ≡ false) × (c ≡ false)
+pub numbers : (a b c d : Bool) → first_number a b c d ≡ None → (b ≡ false) × (c ≡ false)
 numbers true b c d e = absurd (none-some 1 (sym e))
 numbers false true c d e = absurd (none-some 2 (sym e))
 numbers false false true d e = absurd (none-some 3 (sym e))
 numbers false false false d e = (refl, refl)
 
 -- a test that fails does not hold
-not_both : (b : Bool) → b ≡ false → b ≡ true → ⊥
+pub not_both : (b : Bool) → b ≡ false → b ≡ true → ⊥
 not_both b e f = let w : false ≡ true = sym e ∙ f in cc
 
 -- what a run leaves

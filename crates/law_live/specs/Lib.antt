@@ -4,3 +4,4 @@ pub mod Holding
 pub mod Flow
 pub mod Stretches
 pub mod Examples
+pub mod Actions

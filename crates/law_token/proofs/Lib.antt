@@ -4,3 +4,4 @@ pub mod air
 pub mod pass
 pub mod quiet
 pub mod whole
+pub mod replies

@@ -7,5 +7,7 @@ pub mod Stations
 pub mod Invariant
 pub mod Promises
 pub mod Runs
+pub mod Data
+pub mod Actions
 pub mod Examples
 pub mod Outcomes

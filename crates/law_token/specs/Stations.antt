@@ -51,16 +51,21 @@ IsActive (Checking tries) = Unit {0}
 
 -- ---- a tap
 
+-- a station with nothing kept as a responder
+abbrev pub unasked : Station → Station
+unasked s = record s { cycles = record s.cycles { responder = record { reply = s.cycles.responder.reply; kept = None; executed = 0 } } }
+
 -- The station has the tap's address and replies with the tap's data, and it can send what it keeps; only a master is in
 -- the ring or listens for it; a station that waits for a reply has an open request; the tables of a running one
--- represent a past; a stopped one is offline.
+-- represent a past, apart from what it keeps as a responder, which may have data of before a change; a stopped one is
+-- offline.
 pub record TapStays (p : Params) (t : Tap) : Type 0 where
   pub address : t.station.address ≡ t.spec.address
   pub below : t.station.address < 127
   pub sayable : HasReply t.station × HasCycles t.station
   pub opened : HasOpenRequest t.station
   pub ranked : IsActive t.station.phase → t.spec.master ≡ true
-  pub past : t.running ≡ true → (past : Past) × StandsForPast p t.station past
+  pub past : t.running ≡ true → (past : Past) × StandsForPast p (unasked t.station) past
   pub spells : Spells t.station
   pub stopped : t.running ≡ false → t.station.phase ≡ Offline
   pub replies : t.station.cycles.responder.reply ≡ t.spec.reply

@@ -6,12 +6,17 @@
 //! are laws.
 #![tactic(auto)]
 
+mod actions;
 mod events;
 mod examples;
 mod runs;
 mod silence;
 mod theorem;
 
+pub use actions::{
+    a_change_of_data_keeps_the_invariant, no_master_is_left_in_silence_whatever_the_data,
+    the_token_is_exclusive_whatever_the_data,
+};
 pub use events::{
     a_loss_breaks_a_premise, a_new_world_has_the_invariant, a_pass_keeps_the_invariant,
     a_request_keeps_the_invariant, a_start_keeps_the_invariant, a_stop_keeps_the_invariant,

@@ -21,3 +21,4 @@ pub mod Counting
 pub mod Instants
 pub mod Driving
 pub mod Alone
+pub mod SoundData

@@ -17,5 +17,7 @@ pub mod Meanings
 pub mod Traces
 pub mod Reasons
 pub mod Liveness
+pub mod Replying
+pub mod Data
 pub mod Driven
 pub mod RunTo

@@ -1,9 +1,11 @@
 //! A bus: what each event does to it, and what is read from it.
 
 use crate::clocks::pass;
+use crate::replying::set_reply;
 use crate::rooms::{make_room, make_room_for};
 use crate::starting::start;
 use crate::stopping::stop;
+use arrayvec::ArrayVec;
 use pb_cycles::Request;
 use pb_faults::NoMemory;
 use pb_medium::{Hit, Speaker, Trace};
@@ -32,9 +34,10 @@ impl Bus {
     ghost use Rattle.std.specs.Prelude.{◌≡◌, ◌+◌, ◌<◌, None, IsTrue, ◌↔◌, IfOk, MatchOption, length, slice_get};
     ghost use Rattle.law_model.specs.Laws.{IsEvent};
     ghost use Rattle.law_model.specs.World as events;
-    ghost use Rattle.law_turn.specs.Laws.{IsRequest};
+    ghost use Rattle.law_turn.specs.Laws.{Fits as FitsTelegram, IsRequest};
     ghost use Rattle.pb_transitions.specs.Clocks.{is_past};
     ghost use Rattle.pb_world.specs.Buses.{world_of, Does, IsKept};
+    ghost use Rattle.pb_world.specs.Data.{SetsData};
     ghost use Rattle.pb_medium.specs.Entries.{hit_of};
     ghost use Rattle.pb_taps.specs.Events.{event_of};
     ghost use Rattle.pb_world.specs.Worlds.{due_at, IsStationAt};
@@ -71,6 +74,20 @@ impl Bus {
             Event::Noise(bits) => self.noise(*bits),
             Event::Unheard { tap, speaker } => self.unheard(*tap, *speaker),
         }
+    }
+
+    /// Changes the data with which the station at a tap replies to the next request for data, between two events. A
+    /// repeat of the last request still gets the reply that it got; `sent` stays.
+    ///
+    /// Fault: `NoSuchTap`. Nothing is allocated.
+    pub fn set_reply(&mut self, tap: usize, reply: ArrayVec<u8, 246>) -> Result<(), WorldFault>
+        requires { IsKept self.old }
+        ensures sets { SetsData (world_of self.old) tap reply.items result (world_of self.new) }
+        ensures sent { self.new.sent ≡ self.old.sent }
+        ensures kept { IsKept self.new }
+        ensures fits { FitsTelegram reply.items }
+    {
+        set_reply(&mut self.taps, tap, reply)
     }
 
     fn turn(&mut self, alloc: Global, tap: usize) -> Result<(), WorldFault>

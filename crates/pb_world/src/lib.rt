@@ -21,6 +21,7 @@ mod passes;
 mod premises;
 mod reasons;
 mod refusing;
+mod replying;
 mod rooms;
 mod rules;
 mod run_to;

@@ -9,6 +9,7 @@ ghost use Rattle.law_live.specs.Promises.{LeadOn};
 
 use crate::buses::Bus;
 use crate::making::new_bus;
+use arrayvec::ArrayVec;
 use pb_faults::NoMemory;
 use pb_medium::Entry;
 use pb_station::{Decided, Decision, Glance, Station};
@@ -51,7 +52,10 @@ impl World {
     ghost use Rattle.pb_world.specs.Worlds.{due_at, Follows, Goes, IsStationAt};
     ghost use Rattle.pb_world.specs.Glances.{CanBeDecided, Fits, IsGlance};
     ghost use Rattle.law_runs.specs.Bus.{next_change};
+    ghost use Rattle.law_live.specs.Actions.{ActOn};
     ghost use Rattle.law_live.specs.Promises.{KeepsPromises, LeadOn, LeadTo};
+    ghost use Rattle.law_token.specs.Actions.{Sets};
+    ghost use Rattle.pb_world.specs.Data.{SetsData};
 
     /// A world at clock 0. No tap runs yet.
     ///
@@ -128,6 +132,19 @@ impl World {
     {
         self.bus.apply(alloc, &event)?;
         Ok(reply(&self.bus))
+    }
+
+    /// Changes the data with which the station at a tap replies to the next request for data (message cycles: SRD),
+    /// between two events: the tap's definition has the new data then. A reply that is not sent yet stays, and a repeat
+    /// of the last request still gets the reply that it got. The premises are judged on the events alone, and what
+    /// [`apply`](World::apply) promises holds with such changes between the events.
+    ///
+    /// Fault: `NoSuchTap`. Nothing is allocated.
+    pub fn set_reply(&mut self, tap: usize, reply: ArrayVec<u8, 246>) -> Result<(), WorldFault>
+        ensures sets { SetsData self.old tap reply.items result self.new }
+        ensures promises { OnOk result (ActOn self.old (Sets tap reply.items ∷ []) self.new) }
+    {
+        self.bus.set_reply(tap, reply)
     }
 
     /// Applies an event, without making a reply.

@@ -1,5 +1,5 @@
 -- A station whose tables stand for its past has a next station with a station's address.
-use Rattle.std.proofs.Common.{◌≡◌, ℕ, ◌+◌, ◌<◌, Bool, true, false, ◌==◌, ◌||◌, List, [], ◌∷◌, ◌++◌, refl, ap}
+use Rattle.std.proofs.Common.{◌≡◌, ℕ, ◌+◌, ◌<◌, Bool, true, false, ◌==◌, ◌||◌, List, [], ◌∷◌, ◌++◌, refl, ap, subst}
 use Rattle.std.specs.Prelude.{filter, nat_lt, nat_le, unwrap_or}
 use Rattle.std.proofs.lemmas.Bool.{eq-eqb}
 use Rattle.pb_timers.specs.Timers.{Params}
@@ -14,6 +14,10 @@ use Rattle.law_turn.specs.Turns.{settled, after_marks}
 use Rattle.law_turn.proofs.Initiating.{reply-after_marks}
 use Rattle.law_turn.proofs.Standing.{stands-after_timer, stands-after_marks}
 use Rattle.law_model.proofs.Cases.{by_test}
+use Rattle.law_token.specs.Stations.{unasked}
+use Rattle.law_token.proofs.replies.Alike.{alike_self}
+use Rattle.law_token.proofs.replies.Turned.{settled_alike}
+use Rattle.law_token.proofs.replies.Unasked.{sayable_unasked}
 
 abbrev Below : List ℕ → Type 0
 Below [] = Unit {0}
@@ -47,8 +51,12 @@ pub station_below : (p : Params) (s : Station) (past : Past) → StandsForPast p
 station_below p s past stands =
     (stands.address, next_below s.address (members_of s.las.stage) stands.address (below_of (members_of s.las.stage) (λ b i. members-stations s.las past.claim past.items b stands.las i)))
 
--- also once it has read its marks and its timers
-pub settled_below : (p : Params) (s : Station) (marks : List Mark) (now : ℕ) (past : Past) → HasReply s → HasCycles s → StandsForPast p s past → ((settled p s marks now).address < 127) × (next_station (settled p s marks now) < 127)
+-- also once it has read its marks and its timers, whatever it keeps as a responder
+pub settled_below : (p : Params) (s : Station) (marks : List Mark) (now : ℕ) (past : Past) → HasReply s → HasCycles s → StandsForPast p (unasked s) past → ((settled p s marks now).address < 127) × (next_station (settled p s marks now) < 127)
 settled_below p s marks now past reply cycles stands =
-    station_below p (settled p s marks now) (past_after_timer p (now + 1) (after_marks p s marks) (past_after_marks p s marks past))
-    (stands-after_timer p (now + 1) (after_marks p s marks) (past_after_marks p s marks past) (reply-after_marks p s marks (reply, cycles)).1 (stands-after_marks p s marks past (reply, cycles) stands))
+    let u = unasked s in
+    let has = sayable_unasked s (reply, cycles) in
+    let same = settled_alike u.cycles.responder s.reply p s marks now (alike_self s.reply) in
+    subst (λ (z : Station). (z.address < 127) × (next_station z < 127)) same.is
+    (station_below p (settled p u marks now) (past_after_timer p (now + 1) (after_marks p u marks) (past_after_marks p u marks past))
+    (stands-after_timer p (now + 1) (after_marks p u marks) (past_after_marks p u marks past) (reply-after_marks p u marks has).1 (stands-after_marks p u marks past has stands)))

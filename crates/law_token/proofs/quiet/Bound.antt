@@ -55,16 +55,21 @@ runs_watch (e ∷ es) p w next are runs none k =
 is_on : (ph : Phase) → (is_offline ph ≡ true → ⊥) → IsOn ph
 is_on ph h = ⊎_elim (λ (e : ph ≡ Offline). absurd (h (ap is_offline e))) (λ (on : IsOn ph). on) (on_or_off ph)
 
--- a stretch of silence, where telegrams of others count so long after they were sent
-stretch : (p : Params) (specs : List TapSpec) (events : List Event) (new w : World) (tap m u reach : ℕ) (t : Tap) → LeavesTime p → HasRun p specs events new w → NoneLosesOrComesLate new events → IsMasterAt w tap t
+-- a stretch of silence in a watched world, where telegrams of others count so long after they were sent
+pub stretch_in : (p : Params) (w : World) (tap m u reach : ℕ) (t : Tap) → Watch p w → IsMasterAt w tap t
     → reach ≤ p.ttd → t.since ≤ m → m < u → u ≤ w.now → is_silent reach tap w.trace m u ≡ true → u ≤ m + (tto p t.spec.address + p.lag + (p.ttd - reach))
-stretch p specs events new w tap m u reach t fits run none is short since lt le silent =
-    let k = runs_watch events p new w run.are run.runs none (new_watches p specs new fits run.fit run.made) in
+stretch_in p w tap m u reach t k is short since lt le silent =
     let quiet = none_of (λ e. is_within m u (active_at reach tap e)) w.trace (not_false (list_any (λ e. is_within m u (active_at reach tap e)) w.trace) silent) in
     let short' : reach ≤ w.params.ttd = subst (λ (z : Params). reach ≤ z.ttd) (sym k.params) short in
     subst (λ (z : Params). u ≤ m + (tto z t.spec.address + z.lag + (z.ttd - reach))) k.params
     ((k.taps tap t is.here is.running is.master).recalls (is_on t.station.phase is.on) reach m u short' since lt le
     (each_map (λ e. is_within m u (active_at reach tap e) ≡ false) (IsApart reach tap m u) w.trace (λ e. apart_one reach tap m u e) quiet))
+
+-- and after a run
+stretch : (p : Params) (specs : List TapSpec) (events : List Event) (new w : World) (tap m u reach : ℕ) (t : Tap) → LeavesTime p → HasRun p specs events new w → NoneLosesOrComesLate new events → IsMasterAt w tap t
+    → reach ≤ p.ttd → t.since ≤ m → m < u → u ≤ w.now → is_silent reach tap w.trace m u ≡ true → u ≤ m + (tto p t.spec.address + p.lag + (p.ttd - reach))
+stretch p specs events new w tap m u reach t fits run none is short since lt le silent =
+    stretch_in p w tap m u reach t (runs_watch events p new w run.are run.runs none (new_watches p specs new fits run.fit run.made)) is short since lt le silent
 
 -- ---- the bounds
 

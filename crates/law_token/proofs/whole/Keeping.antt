@@ -26,7 +26,7 @@ fits_valid p v = record {
 
 -- ---- a premise that is broken stays so
 
-follow_stays : (c : Course) (b : Broken) (e : Event) (r : Result (World × Reply) Fault) → c.broken ≡ Some b → (followed c e r).broken ≡ Some b
+pub follow_stays : (c : Course) (b : Broken) (e : Event) (r : Result (World × Reply) Fault) → c.broken ≡ Some b → (followed c e r).broken ≡ Some b
 follow_stays c b e (Ok next) h = ap (λ o. broken_or o next.0.now (broken_by c.world e next.0 (waited_by next.0 0 next.0.taps) (waited_by next.0 0 next.0.taps ++ c.waited))) h
 follow_stays c b e (Err fault) h = h
 

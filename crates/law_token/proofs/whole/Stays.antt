@@ -8,7 +8,7 @@ use Rattle.pb_timers.specs.Timers.{Params}
 use Rattle.pb_cycles.specs.RequestFields.{RequestFields}
 use Rattle.law_turn.specs.Laws.{Fits, IsRequest}
 use Rattle.law_turn.specs.Marks.{Mark}
-use Rattle.law_turn.specs.Pasts.{nothing, past_after_turn}
+use Rattle.law_turn.specs.Pasts.{nothing}
 use Rattle.law_turn.specs.Phases.{PassiveIdle, Listening}
 use Rattle.law_turn.specs.Stations.{list_for, pushed}
 use Rattle.law_turn.specs.Turns.{turn_of}
@@ -16,7 +16,7 @@ use Rattle.law_turn.proofs.Addresses.{turn-address}
 use Rattle.law_turn.proofs.Initiating.{reply-turn_of}
 use Rattle.law_turn.proofs.Keeping.{cycles-new, cycles-started, cycles-pushed}
 use Rattle.law_turn.proofs.Retrying.{left-started, left-turn_of}
-use Rattle.law_turn.proofs.Standing.{stands-turn_of, stands-started, stands-pushed}
+use Rattle.law_turn.proofs.Standing.{stands-started, stands-pushed}
 use Rattle.law_model.specs.Trace.{Hit, Entry, cut_at, begins_from, unheard_at}
 use Rattle.law_model.specs.Medium.{Tap, TapSpec, new_marks, entry_at}
 use Rattle.law_model.specs.World as world
@@ -27,11 +27,12 @@ use Rattle.law_model.proofs.Worlds.{unless-Ok}
 use Rattle.law_runs.specs.Judging.{Stands}
 use Rattle.law_runs.proofs.Ordered.{stands-new, stands-step}
 use Rattle.law_token.specs.Lists.{EachTap}
-use Rattle.law_token.specs.Stations.{IsActive, TapStays}
+use Rattle.law_token.specs.Stations.{IsActive, unasked, TapStays}
 use Rattle.law_token.specs.Invariant.{Settled}
 use Rattle.law_token.specs.Runs.{SameBus}
 use Rattle.law_token.proofs.bus.Lists.{at_set}
 use Rattle.law_token.proofs.turn.Inactive.{active_before}
+use Rattle.law_token.proofs.replies.Unasked.{stands_turned}
 use Rattle.law_token.proofs.whole.ReplyData.{turn-data}
 use Rattle.law_token.proofs.bus.Kept as spelled
 
@@ -195,7 +196,7 @@ stays_stable p highest = record {
     sayable = reply-turn_of p t.station t.marks now h.sayable;
     opened = left-turn_of p t.station t.marks now h.opened;
     ranked = λ a. h.ranked (active_before p t.station t.marks now a);
-    past = λ run. let g = h.past run in (past_after_turn p t.station t.marks now g.0, stands-turn_of p t.station t.marks now g.0 highest h.sayable g.1);
+    past = λ run. let g = h.past run in stands_turned p t.station t.marks now g.0 highest h.sayable g.1;
     spells = spelled.reply-turn_of p t.station t.marks now h.spells;
     stopped = λ off. absurd (not_true_false t.running run off);
     replies = turn-data p t.station t.marks now ∙ h.replies;
@@ -218,7 +219,7 @@ stays_stable p highest = record {
     sayable = (h.sayable.0, cycles-pushed t.station r h.sayable.1 is);
     opened = h.opened;
     ranked = h.ranked;
-    past = λ run. let g = h.past run in (g.0, stands-pushed p t.station r g.0 g.1);
+    past = λ run. let g = h.past run in (g.0, stands-pushed p (unasked t.station) r g.0 g.1);
     spells = (h.spells.0, record { here = h.spells.1.here; pending = h.spells.1.pending; unit = h.spells.1.unit; kept = h.spells.1.kept });
     stopped = h.stopped;
     replies = h.replies;
