@@ -9,3 +9,4 @@ pub mod InOrder
 pub mod Meant
 pub mod Fronts
 pub mod CutStreams
+pub mod Forgotten

@@ -8,3 +8,4 @@ pub mod Cutting
 pub mod Orders
 pub mod Examples
 pub mod Promises
+pub mod Known

@@ -28,6 +28,7 @@ mod states;
 mod stations;
 mod statistics;
 mod summaries;
+mod tallies;
 mod texts;
 mod traffic;
 mod words;

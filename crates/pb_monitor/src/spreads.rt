@@ -1,6 +1,7 @@
 //! The least, the mean and the greatest of some durations.
 
-ghost use Rattle.std.specs.Prelude.{◌≡◌, ◌+◌, ◌/◌, ◌≤◌, ◌<◌, ◌-◌, ◌^◌, max, min, if◌then◌else◌, ◌==◌};
+ghost use Rattle.std.specs.Prelude.{◌≡◌, ◌/◌, ◌<◌};
+ghost use Rattle.pb_monitor.specs.Known.{new_spread, spread_with};
 
 /// The least, the mean and the greatest of some durations, in bit times. Counts and sums saturate at 2^64 - 1.
 #[derive(Clone, Copy, Debug, Default, PartialEq, Eq)]
@@ -16,12 +17,21 @@ pub struct Spread {
 }
 
 impl Spread {
+    /// No duration.
+    pub(crate) fn none() -> Spread
+        ensures { result ≡ new_spread }
+    {
+        Spread {
+            count: 0,
+            total: 0,
+            least: 0,
+            greatest: 0,
+        }
+    }
+
     /// Adds a duration.
     pub fn add(&mut self, bits: u64)
-        ensures least { self.new.least ≡ (if self.old.count == 0 then bits else min self.old.least bits) }
-        ensures greatest { self.new.greatest ≡ max self.old.greatest bits }
-        ensures count { self.new.count ≡ min (self.old.count + 1) (2 ^ 64 - 1) }
-        ensures total { self.new.total ≡ min (self.old.total + bits) (2 ^ 64 - 1) }
+        ensures { self.new ≡ spread_with bits self.old }
     {
         self.least = if self.count == 0 {
             bits

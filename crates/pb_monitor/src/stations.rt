@@ -1,6 +1,10 @@
 //! What is counted for each station.
 
+ghost use Rattle.std.specs.Prelude.{◌≡◌};
+ghost use Rattle.pb_monitor.specs.Known.{one_more, one_if, asked, initiated, new_station, noted, received, replied, role_of, sent_token, took};
+
 use crate::spreads::Spread;
+use pb_telegram::{Fc, Head};
 
 /// What a station has shown itself to be.
 #[derive(Clone, Copy, Debug, Default, PartialEq, Eq)]
@@ -57,7 +61,9 @@ pub struct Station {
 
 impl Role {
     /// The role of a station type, 0 to 3.
-    pub(crate) fn of(station_type: u8) -> Role {
+    pub(crate) fn of(station_type: u8) -> Role
+        ensures { result ≡ role_of station_type }
+    {
         match station_type {
             0 => Role::Passive,
             1 => Role::MasterNotReady,
@@ -79,8 +85,34 @@ impl Role {
 }
 
 impl Station {
+    /// A station of which nothing was heard.
+    pub(crate) fn unheard() -> Station
+        ensures { result ≡ new_station }
+    {
+        Station {
+            telegrams: 0,
+            last_heard: None,
+            role: Role::Unknown,
+            tokens: 0,
+            claims: 0,
+            requests: 0,
+            polls: 0,
+            repeats: 0,
+            unanswered: 0,
+            damaged_answers: 0,
+            polled: 0,
+            tokens_not_taken: 0,
+            rotation: Spread::none(),
+            taking: Spread::none(),
+            replying: Spread::none(),
+            receipt: None,
+        }
+    }
+
     /// Notes a telegram of it that ended at a moment, if that is known.
-    pub(crate) fn note(&mut self, end: u64, is_timed: bool) {
+    pub(crate) fn note(&mut self, end: u64, is_timed: bool)
+        ensures { self.new ≡ noted is_timed end self.old }
+    {
         self.telegrams = one_more(self.telegrams);
         if is_timed {
             self.last_heard = Some(end);
@@ -88,15 +120,78 @@ impl Station {
     }
 
     /// Notes that it received the token at a moment.
-    pub(crate) fn receive(&mut self, moment: u64) {
+    pub(crate) fn receive(&mut self, moment: u64)
+        ensures { self.new ≡ received moment self.old }
+    {
         if let Some(before) = self.receipt {
             self.rotation.add(moment.saturating_sub(before));
         }
         self.receipt = Some(moment);
     }
+
+    /// It received the token that ended at a moment, and spoke first some bit times later.
+    pub(crate) fn take(&mut self, end: u64, bits: u64)
+        ensures { self.new ≡ took end bits self.old }
+    {
+        self.receive(end);
+        self.taking.add(bits);
+    }
+
+    /// It sent a token or a request that ended at a moment, perhaps the last one again.
+    pub(crate) fn initiate(&mut self, end: u64, is_timed: bool, is_repeat: bool)
+        ensures { self.new ≡ initiated is_timed is_repeat end self.old }
+    {
+        self.note(end, is_timed);
+        self.repeats = one_if(is_repeat, self.repeats);
+    }
+
+    /// It sent a token, perhaps to itself, perhaps the first of a claim.
+    pub(crate) fn send_token(&mut self, end: u64, is_timed: bool, to_itself: bool, is_claim: bool)
+        ensures { self.new ≡ sent_token to_itself is_claim is_timed end self.old }
+    {
+        self.tokens = one_more(self.tokens);
+        self.role = Role::MasterInRing;
+        if is_claim {
+            self.claims = one_more(self.claims);
+        } else if to_itself && is_timed {
+            self.receive(end);
+        }
+    }
+
+    /// It sent a request, perhaps for a status.
+    pub(crate) fn ask(&mut self, is_poll: bool)
+        ensures { self.new ≡ asked is_poll self.old }
+    {
+        self.requests = one_more(self.requests);
+        self.polls = one_if(is_poll, self.polls);
+    }
+
+    /// It sent a reply that ended at a moment, some bit times after the request.
+    pub(crate) fn reply(&mut self, end: u64, is_timed: bool, bits: u64, head: Option<Head>)
+        ensures { self.new ≡ replied is_timed end bits head self.old }
+    {
+        self.note(end, is_timed);
+        if is_timed {
+            self.replying.add(bits);
+        }
+        if self.role != Role::MasterInRing
+            && let Some(head) = head
+        {
+            self.role = Role::of(Fc(head.fc).station_type());
+        }
+    }
 }
 
 /// One more than a count.
-pub(crate) fn one_more(count: u64) -> u64 {
+pub(crate) fn one_more(count: u64) -> u64
+    ensures { result ≡ one_more count }
+{
     count.saturating_add(1)
+}
+
+/// One more than a count, where something is so.
+pub(crate) fn one_if(so: bool, count: u64) -> u64
+    ensures { result ≡ one_if so count }
+{
+    if so { one_more(count) } else { count }
 }

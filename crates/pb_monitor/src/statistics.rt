@@ -1,41 +1,45 @@
 //! What is known of a bus after a capture: counts for the bus and for each station, and the list of active stations.
 
-ghost use Rattle.std.specs.Prelude.{◌<◌};
+ghost use Rattle.std.specs.Prelude.{◌≡◌, option_map};
+ghost use Rattle.pb_telegram.specs.Heads.{head_of};
+ghost use Rattle.pb_monitor.specs.Known.{answers, damaged_open, is_awaited, is_in_slot, is_over, wants_answer};
 
 use crate::bursts::Burst;
 use crate::meanings::{InitiatorTelegram, Meaning, meaning_in};
 use crate::repeats::Repeats;
 use crate::states::live;
-use crate::stations::{Role, Station, one_more};
+use crate::stations::{Station, one_more};
+use crate::tallies::{ask, close, forget_receipts, initiate, reply, send_token, take_offer};
 use crate::traffic::Traffic;
 use pb_cycles::Asked;
 use pb_ring::Las;
 use pb_telegram::{Fc, Head, Telegram};
 use pb_timers::BusParams;
 use std::alloc::{AllocError, Global};
+use std::marker::Model;
 
 /// How many addresses a station may have, 0 to 126.
 pub(crate) const STATIONS: usize = 127;
 
 /// A token to another station, which nobody has taken yet.
 #[derive(Clone, Copy, Debug)]
-struct Offer {
-    to: u8,
-    end: u64,
+pub(crate) struct Offer {
+    pub to: u8,
+    pub end: u64,
 }
 
 /// A request that wants an answer.
 #[derive(Clone, Copy, Debug)]
-struct Open {
-    source: u8,
-    to: u8,
-    end: u64,
-    answer: Answer,
+pub(crate) struct Open {
+    pub source: u8,
+    pub to: u8,
+    pub end: u64,
+    pub answer: Answer,
 }
 
 /// What came after a request.
 #[derive(Clone, Copy, Debug, PartialEq, Eq)]
-enum Answer {
+pub(crate) enum Answer {
     /// Nothing yet.
     Awaited,
     /// Its answer.
@@ -46,9 +50,9 @@ enum Answer {
 
 /// The times of a bus that statistics need.
 #[derive(Clone, Copy, Debug)]
-struct Limits {
-    tsl: u64,
-    live: u64,
+pub(crate) struct Limits {
+    pub tsl: u64,
+    pub live: u64,
 }
 
 /// What is known of a bus after some bursts: counts for the bus and for each station, and the list of active stations,
@@ -61,14 +65,38 @@ pub struct Statistics {
     ring: Las,
     repeats: Repeats,
     offer: Option<Offer>,
-    open: Option<Open>,
+    request: Option<Open>,
     /// The end of the last burst, if nothing was missed since.
     quiet: Option<u64>,
     /// Whether the moments of the last burst are known.
     is_timed: bool,
 }
 
+impl Model for Statistics {
+    ghost use Rattle.std.specs.Prelude.{◌≡◌, length};
+    ghost use Rattle.pb_monitor.specs.Known.{Known};
+
+    ghost Value = { Known };
+
+    ghost view = { λ s. record {
+      limits = s.limits;
+      traffic = s.traffic;
+      stations = s.stations.items;
+      ring = s.ring;
+      last = s.repeats;
+      offer = s.offer;
+      request = s.request;
+      quiet = s.quiet;
+      timed = s.is_timed;
+    } };
+}
+
 impl Statistics {
+    ghost use Rattle.std.specs.Prelude.{◌≡◌, ◌<◌, ◌&&◌, IfOk, Some, None, slice_get};
+    ghost use Rattle.pb_ring.specs.AddressSets.{is_member};
+    ghost use Rattle.pb_ring.specs.Las.{is_complete, members_of};
+    ghost use Rattle.pb_monitor.specs.Known.{alarmed, answered, closed, comes_after_slot, forgotten, heard, heard_damage, heard_head, heard_initiator, heard_telegram, heard_untimed, new_known, refused, without_telegrams};
+
     /// No burst yet. Without parameters of the bus, no silence counts as long. `slack` is how wrong the difference of two
     /// moments may be, in bit times.
     ///
@@ -77,83 +105,95 @@ impl Statistics {
         alloc: Global,
         params: Option<&BusParams>,
         slack: u32,
-    ) -> Result<Statistics, AllocError> {
+    ) -> Result<Statistics, AllocError>
+        ensures { IfOk result (λ s. s ≡ new_known (option_map (λ p. p.now) params.entry) slack) }
+    {
         let mut stations = Vec::new(alloc);
         for _address in 0..STATIONS {
-            stations.push(Station::default())?;
+            stations.push(Station::unheard())?;
         }
         Ok(Statistics {
             limits: params.map(|params| Limits {
                 tsl: u64::from(params.tsl()),
                 live: live(params, slack),
             }),
-            traffic: Traffic::default(),
+            traffic: Traffic::none(),
             stations,
             ring: Las::listening(),
             repeats: Repeats::new(),
             offer: None,
-            open: None,
+            request: None,
             quiet: None,
             is_timed: false,
         })
     }
 
     /// What is counted for the bus.
-    pub fn traffic(&self) -> &Traffic {
+    pub fn traffic(&self) -> &Traffic
+        ensures { result.now ≡ self.now.traffic }
+    {
         &self.traffic
     }
 
     /// What is counted for a station; `None` if the address is over 126.
-    pub fn station(&self, address: u8) -> Option<&Station> {
+    pub fn station(&self, address: u8) -> Option<&Station>
+        ensures { option_map (λ s. s.now) result ≡ slice_get self.now.stations address }
+    {
         self.stations.get(usize::from(address))
     }
 
     /// Whether the list of active stations is complete: two equal rotations of the token were heard.
-    pub fn is_ring_known(&self) -> bool {
+    pub fn is_ring_known(&self) -> bool
+        ensures { result ≡ is_complete self.now.ring.stage }
+    {
         self.ring.complete()
     }
 
     /// Whether a station, 0 to 126, is in the list of active stations.
     pub fn is_active(&self, address: u8) -> bool
         requires { address < 127 }
+        ensures { result ≡ is_member (members_of self.now.ring.stage) address }
     {
         self.ring.contains(address)
     }
 
     /// Counts an alarm.
-    pub(crate) fn raise(&mut self) {
+    pub(crate) fn raise(&mut self)
+        ensures { self.new ≡ alarmed self.old }
+    {
         self.traffic.alarms = one_more(self.traffic.alarms);
     }
 
     /// Counts a refusal of input, after which nothing is known of what came before.
-    pub(crate) fn refuse(&mut self) {
+    pub(crate) fn refuse(&mut self)
+        ensures { self.new ≡ refused self.old }
+    {
         self.traffic.refused = one_more(self.traffic.refused);
         self.forget();
     }
 
     /// Forgets what came before: something was missed.
-    pub(crate) fn forget(&mut self) {
+    pub(crate) fn forget(&mut self)
+        ensures { self.new ≡ forgotten self.old }
+    {
         self.quiet = None;
         self.forget_telegrams();
     }
 
     /// Forgets the last telegrams, and when stations received the token.
-    fn forget_telegrams(&mut self) {
-        self.open = None;
+    fn forget_telegrams(&mut self)
+        ensures { self.new ≡ without_telegrams self.old }
+    {
+        self.request = None;
         self.offer = None;
         self.repeats.forget();
-        self.forget_receipts();
-    }
-
-    /// Forgets when stations received the token.
-    fn forget_receipts(&mut self) {
-        for station in &mut self.stations {
-            station.receipt = None;
-        }
+        forget_receipts(&mut self.stations);
     }
 
     /// Hears the next burst.
-    pub fn hear(&mut self, burst: &Burst) {
+    pub fn hear(&mut self, burst: &Burst)
+        ensures { self.new ≡ heard burst.now self.old }
+    {
         let before = self.quiet;
         self.is_timed = true;
         self.traffic.note(burst, before);
@@ -162,7 +202,9 @@ impl Statistics {
     }
 
     /// Hears the next burst, of which no moments are known: those that it has mean nothing.
-    pub(crate) fn hear_untimed(&mut self, burst: &Burst) {
+    pub(crate) fn hear_untimed(&mut self, burst: &Burst)
+        ensures { self.new ≡ heard_untimed burst.now self.old }
+    {
         self.is_timed = false;
         self.quiet = None;
         self.traffic.count();
@@ -170,12 +212,14 @@ impl Statistics {
     }
 
     /// Counts what a burst says.
-    fn hear_telegram(&mut self, burst: &Burst, before: Option<u64>) {
+    fn hear_telegram(&mut self, burst: &Burst, before: Option<u64>)
+        ensures { self.new ≡ heard_telegram before burst.now.begin burst.now.end burst.now.telegram self.old }
+    {
         match &burst.telegram {
             Err(_) => self.hear_damage(burst.begin, before),
             Ok(telegram) => match meaning_in(&burst.telegram) {
                 Meaning::Initiator(said) => {
-                    let is_claim = said.is_claim && self.is_claim(burst.begin, before);
+                    let is_claim = said.is_claim && self.comes_after_slot(burst.begin, before);
                     self.hear_initiator(burst, telegram, said, is_claim);
                 }
                 Meaning::Reply | Meaning::NoTelegram => self.hear_reply(burst, telegram),
@@ -183,8 +227,10 @@ impl Statistics {
         }
     }
 
-    /// Whether a token to itself that begins at a moment is a first claim: it comes after a silence of more than a slot.
-    fn is_claim(&self, begin: u64, before: Option<u64>) -> bool {
+    /// Whether a moment comes after a silence of more than a slot, or is the first that is known.
+    fn comes_after_slot(&self, begin: u64, before: Option<u64>) -> bool
+        ensures { result ≡ comes_after_slot self.now.limits self.now.timed before begin }
+    {
         let Some(limits) = self.limits else {
             return false;
         };
@@ -195,27 +241,20 @@ impl Statistics {
     }
 
     /// Counts a burst without a telegram by its place.
-    fn hear_damage(&mut self, begin: u64, before: Option<u64>) {
+    fn hear_damage(&mut self, begin: u64, before: Option<u64>)
+        ensures { self.new ≡ heard_damage before begin self.old }
+    {
         let damaged = &mut self.traffic.damaged;
         if is_over(begin, before, self.limits) {
             damaged.after_loss = one_more(damaged.after_loss);
-        } else if is_awaited(self.open) {
+        } else if is_awaited(self.request) {
             damaged.replying = one_more(damaged.replying);
         } else if is_in_slot(begin, self.offer, self.limits) {
             damaged.taking = one_more(damaged.taking);
         } else {
             damaged.other = one_more(damaged.other);
         }
-        if let Some(open) = self.open
-            && open.answer == Answer::Awaited
-        {
-            self.open = Some(Open {
-                source: open.source,
-                to: open.to,
-                end: open.end,
-                answer: Answer::Damaged,
-            });
-        }
+        self.request = damaged_open(self.request);
         self.close();
         self.forget_telegrams();
     }
@@ -227,80 +266,49 @@ impl Statistics {
         telegram: &Telegram,
         said: InitiatorTelegram,
         is_claim: bool,
-    ) {
+    )
+        ensures { self.new
+            ≡ heard_initiator burst.now.begin burst.now.end telegram.now said is_claim self.old }
+    {
         self.close();
         let is_repeat = self.repeats.hear(telegram) && !said.is_claim;
-        self.take_offer(burst.begin, said, is_repeat);
-        self.offer = said.offered.map(|to| Offer { to, end: burst.end });
-        if let Some(station) = self.stations.get_mut(usize::from(said.source)) {
-            station.note(burst.end, self.is_timed);
-            if is_repeat {
-                station.repeats = one_more(station.repeats);
-            }
-        }
+        let (begin, end, is_timed) = (burst.begin, burst.end, self.is_timed);
+        take_offer(
+            &mut self.stations,
+            self.offer,
+            begin,
+            said,
+            is_repeat,
+            is_timed,
+        );
+        self.offer = said.offered.map(|to| Offer { to, end });
+        initiate(&mut self.stations, said.source, end, is_timed, is_repeat);
         match telegram {
             Telegram::Token(token) => {
                 self.ring.hear(token.sa, token.da);
-                self.hear_token(burst.end, said, is_claim);
-            }
-            _ => {
-                if let Some(head) = telegram.head() {
-                    self.hear_request(burst.end, &head);
+                if is_claim {
+                    forget_receipts(&mut self.stations);
                 }
+                send_token(&mut self.stations, said, end, is_timed, is_claim);
             }
-        }
-    }
-
-    /// Notes who took the token that was offered, or that it was sent again.
-    fn take_offer(&mut self, begin: u64, said: InitiatorTelegram, is_repeat: bool) {
-        let Some(offer) = self.offer else {
-            return;
-        };
-        let Some(station) = self.stations.get_mut(usize::from(offer.to)) else {
-            return;
-        };
-        if offer.to == said.source {
-            if !said.is_claim && self.is_timed {
-                station.receive(offer.end);
-                station.taking.add(begin.saturating_sub(offer.end));
-            }
-        } else if is_repeat {
-            station.tokens_not_taken = one_more(station.tokens_not_taken);
-        }
-    }
-
-    /// Counts a token that ended at a moment.
-    fn hear_token(&mut self, end: u64, said: InitiatorTelegram, is_claim: bool) {
-        if is_claim {
-            self.forget_receipts();
-        }
-        if let Some(station) = self.stations.get_mut(usize::from(said.source)) {
-            station.tokens = one_more(station.tokens);
-            station.role = Role::MasterInRing;
-            if is_claim {
-                station.claims = one_more(station.claims);
-            } else if said.is_claim && self.is_timed {
-                station.receive(end);
+            Telegram::Short(_) | Telegram::Var(_) | Telegram::Fixed8(_) | Telegram::Ack => {
+                self.hear_head(telegram.head(), end)
             }
         }
     }
 
     /// Counts a request that ended at a moment.
-    fn hear_request(&mut self, end: u64, head: &Head) {
+    fn hear_head(&mut self, head: Option<Head>, end: u64)
+        ensures { self.new ≡ heard_head head end self.old }
+    {
+        let Some(head) = head else {
+            return;
+        };
         let (source, to) = (head.sa % 128, head.da % 128);
         let asked = Asked::by(Fc(head.fc).code());
-        let is_poll = asked == Asked::Status;
-        if let Some(station) = self.stations.get_mut(usize::from(source)) {
-            station.requests = one_more(station.requests);
-            if is_poll {
-                station.polls = one_more(station.polls);
-            }
-        }
-        if is_poll && let Some(station) = self.stations.get_mut(usize::from(to)) {
-            station.polled = one_more(station.polled);
-        }
+        ask(&mut self.stations, source, to, asked == Asked::Status);
         if is_answered(asked) {
-            self.open = Some(Open {
+            self.request = Some(Open {
                 source,
                 to,
                 end,
@@ -310,51 +318,65 @@ impl Statistics {
     }
 
     /// Hears a reply or an acknowledgement.
-    fn hear_reply(&mut self, burst: &Burst, telegram: &Telegram) {
-        let Some(open) = self.open else {
+    fn hear_reply(&mut self, burst: &Burst, telegram: &Telegram)
+        ensures { self.new
+            ≡ answered burst.now.begin burst.now.end (head_of telegram.now) self.old.request self.old }
+    {
+        let Some(request) = self.request else {
             return;
         };
-        if open.answer != Answer::Awaited || !answers(open, telegram) {
+        let head = telegram.head();
+        if request.answer != Answer::Awaited || !answers(request, head) {
             return;
         }
-        self.open = Some(Open {
-            source: open.source,
-            to: open.to,
-            end: open.end,
+        self.request = Some(Open {
+            source: request.source,
+            to: request.to,
+            end: request.end,
             answer: Answer::Good,
         });
-        let Some(station) = self.stations.get_mut(usize::from(open.to)) else {
-            return;
-        };
-        station.note(burst.end, self.is_timed);
-        if self.is_timed {
-            station.replying.add(burst.begin.saturating_sub(open.end));
-        }
-        if let Some(head) = telegram.head()
-            && station.role != Role::MasterInRing
-        {
-            station.role = Role::of(Fc(head.fc).station_type());
-        }
+        reply(
+            &mut self.stations,
+            request,
+            burst.begin,
+            burst.end,
+            self.is_timed,
+            head,
+        );
     }
 
-    /// The request that is open gets no more answer.
-    pub(crate) fn close(&mut self) {
-        let Some(open) = self.open else {
-            return;
-        };
-        self.open = None;
-        if let Some(station) = self.stations.get_mut(usize::from(open.source)) {
-            match open.answer {
-                Answer::Awaited => station.unanswered = one_more(station.unanswered),
-                Answer::Damaged => station.damaged_answers = one_more(station.damaged_answers),
-                Answer::Good => {}
-            }
-        }
+    /// The open request gets no more answer.
+    pub(crate) fn close(&mut self)
+        ensures { self.new ≡ closed self.old }
+    {
+        close(&mut self.stations, self.request);
+        self.request = None;
     }
 }
 
+/// The open request after damage.
+fn damaged_open(request: Option<Open>) -> Option<Open>
+    ensures { result ≡ damaged_open request }
+{
+    let Some(request) = request else {
+        return None;
+    };
+    let answer = match request.answer {
+        Answer::Awaited => Answer::Damaged,
+        answer => answer,
+    };
+    Some(Open {
+        source: request.source,
+        to: request.to,
+        end: request.end,
+        answer,
+    })
+}
+
 /// Whether the silence before a moment is longer than any that a token in use leaves.
-fn is_over(begin: u64, before: Option<u64>, limits: Option<Limits>) -> bool {
+fn is_over(begin: u64, before: Option<u64>, limits: Option<Limits>) -> bool
+    ensures { result ≡ is_over limits before begin }
+{
     let Some(limits) = limits else {
         return false;
     };
@@ -365,15 +387,19 @@ fn is_over(begin: u64, before: Option<u64>, limits: Option<Limits>) -> bool {
 }
 
 /// Whether nothing has come yet after a request.
-fn is_awaited(open: Option<Open>) -> bool {
-    match open {
-        Some(open) => open.answer == Answer::Awaited,
+fn is_awaited(request: Option<Open>) -> bool
+    ensures { result ≡ is_awaited request }
+{
+    match request {
+        Some(request) => request.answer == Answer::Awaited,
         None => false,
     }
 }
 
 /// Whether a moment is in the slot of a token that nobody has taken.
-fn is_in_slot(begin: u64, offer: Option<Offer>, limits: Option<Limits>) -> bool {
+fn is_in_slot(begin: u64, offer: Option<Offer>, limits: Option<Limits>) -> bool
+    ensures { result ≡ is_in_slot limits offer begin }
+{
     let Some(limits) = limits else {
         return false;
     };
@@ -384,7 +410,9 @@ fn is_in_slot(begin: u64, offer: Option<Offer>, limits: Option<Limits>) -> bool 
 }
 
 /// Whether a station answers such a request.
-fn is_answered(asked: Asked) -> bool {
+fn is_answered(asked: Asked) -> bool
+    ensures { result ≡ wants_answer asked }
+{
     match asked {
         Asked::Send(service, _) => service.is_answered(),
         Asked::Status => true,
@@ -393,9 +421,11 @@ fn is_answered(asked: Asked) -> bool {
 }
 
 /// Whether a telegram is an answer to a request.
-fn answers(open: Open, telegram: &Telegram) -> bool {
-    match telegram.head() {
-        Some(head) => head.sa % 128 == open.to && head.da % 128 == open.source,
+fn answers(request: Open, head: Option<Head>) -> bool
+    ensures { result ≡ answers request head }
+{
+    match head {
+        Some(head) => head.sa % 128 == request.to && head.da % 128 == request.source,
         None => true,
     }
 }

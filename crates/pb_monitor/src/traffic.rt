@@ -1,5 +1,8 @@
 //! What is counted for the bus.
 
+ghost use Rattle.std.specs.Prelude.{◌≡◌, ◌-◌, ◌*◌, ◌/◌, min};
+ghost use Rattle.pb_monitor.specs.Known.{damage_of, load_of, new_traffic, one_more, traffic_with};
+
 use crate::bursts::Burst;
 use crate::stations::one_more;
 
@@ -39,7 +42,9 @@ pub struct Damaged {
 
 impl Damaged {
     /// How many there are in all places.
-    pub fn total(&self) -> u64 {
+    pub fn total(&self) -> u64
+        ensures { result ≡ damage_of self.now }
+    {
         self.after_loss
             .saturating_add(self.taking)
             .saturating_add(self.replying)
@@ -48,8 +53,32 @@ impl Damaged {
 }
 
 impl Traffic {
+    /// No burst yet.
+    pub(crate) fn none() -> Traffic
+        ensures { result ≡ new_traffic }
+    {
+        let damaged = Damaged {
+            after_loss: 0,
+            taking: 0,
+            replying: 0,
+            other: 0,
+        };
+        Traffic {
+            first: None,
+            last: None,
+            busy: 0,
+            bursts: 0,
+            damaged,
+            longest_silence: 0,
+            alarms: 0,
+            refused: 0,
+        }
+    }
+
     /// Counts a burst. `before` is the end of the one before it, if nothing was missed between them.
-    pub(crate) fn note(&mut self, burst: &Burst, before: Option<u64>) {
+    pub(crate) fn note(&mut self, burst: &Burst, before: Option<u64>)
+        ensures { self.new ≡ traffic_with before burst.now.begin burst.now.end self.old }
+    {
         self.count();
         self.busy = self
             .busy
@@ -65,12 +94,16 @@ impl Traffic {
     }
 
     /// Counts a burst without moments.
-    pub(crate) fn count(&mut self) {
+    pub(crate) fn count(&mut self)
+        ensures { self.new ≡ record self.old { bursts = one_more self.old.bursts } }
+    {
         self.bursts = one_more(self.bursts);
     }
 
     /// The load of the bus in tenths of a percent, 0 to 1000, from the first burst to the end of the last.
-    pub fn load(&self) -> u64 {
+    pub fn load(&self) -> u64
+        ensures { result ≡ load_of self.now.busy self.now.first self.now.last }
+    {
         let Some(first) = self.first else {
             return 0;
         };

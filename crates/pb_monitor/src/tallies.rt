@@ -1,0 +1,130 @@
+//! What telegrams count for all stations.
+
+ghost use Rattle.std.specs.Prelude.{◌≡◌, ◌-◌, map};
+ghost use Rattle.pb_monitor.specs.Known.{changed_at, closing, initiated, polled_by, asked, replied, sent_token, taken, without_receipt};
+
+use crate::meanings::InitiatorTelegram;
+use crate::stations::{Station, one_more};
+use crate::statistics::{Answer, Offer, Open};
+use pb_telegram::Head;
+
+/// Notes who took a token that was offered, or that it was sent again.
+pub(crate) fn take_offer(
+    stations: &mut [Station],
+    offer: Option<Offer>,
+    begin: u64,
+    said: InitiatorTelegram,
+    is_repeat: bool,
+    is_timed: bool,
+)
+    ensures { stations.new ≡ taken offer begin said is_repeat is_timed stations.old }
+{
+    let Some(offer) = offer else {
+        return;
+    };
+    let place = usize::from(offer.to);
+    if place >= stations.len() {
+        return;
+    }
+    if offer.to == said.source {
+        if !said.is_claim && is_timed {
+            stations[place].take(offer.end, begin.saturating_sub(offer.end));
+        }
+    } else if is_repeat {
+        stations[place].tokens_not_taken = one_more(stations[place].tokens_not_taken);
+    }
+}
+
+/// Counts a token or a request of a station.
+pub(crate) fn initiate(
+    stations: &mut [Station],
+    source: u8,
+    end: u64,
+    is_timed: bool,
+    is_repeat: bool,
+)
+    ensures { stations.new ≡ changed_at source (initiated is_timed is_repeat end) stations.old }
+{
+    let place = usize::from(source);
+    if place < stations.len() {
+        stations[place].initiate(end, is_timed, is_repeat);
+    }
+}
+
+/// Counts a token.
+pub(crate) fn send_token(
+    stations: &mut [Station],
+    said: InitiatorTelegram,
+    end: u64,
+    is_timed: bool,
+    is_claim: bool,
+)
+    ensures { stations.new
+        ≡ changed_at said.source (sent_token said.is_claim is_claim is_timed end) stations.old }
+{
+    let place = usize::from(said.source);
+    if place < stations.len() {
+        stations[place].send_token(end, is_timed, said.is_claim, is_claim);
+    }
+}
+
+/// Counts a request from one station to another.
+pub(crate) fn ask(stations: &mut [Station], source: u8, to: u8, is_poll: bool)
+    ensures { stations.new ≡ polled_by is_poll to (changed_at source (asked is_poll) stations.old) }
+{
+    let place = usize::from(source);
+    if place < stations.len() {
+        stations[place].ask(is_poll);
+    }
+    let place = usize::from(to);
+    if is_poll && place < stations.len() {
+        stations[place].polled = one_more(stations[place].polled);
+    }
+}
+
+/// Counts a reply.
+pub(crate) fn reply(
+    stations: &mut [Station],
+    request: Open,
+    begin: u64,
+    end: u64,
+    is_timed: bool,
+    head: Option<Head>,
+)
+    ensures { stations.new
+        ≡ changed_at request.to (replied is_timed end (begin - request.end) head) stations.old }
+{
+    let place = usize::from(request.to);
+    if place < stations.len() {
+        stations[place].reply(end, is_timed, begin.saturating_sub(request.end), head);
+    }
+}
+
+/// Counts what became of a request that gets no more answer.
+pub(crate) fn close(stations: &mut [Station], request: Option<Open>)
+    ensures { stations.new ≡ closing request stations.old }
+{
+    let Some(request) = request else {
+        return;
+    };
+    let place = usize::from(request.source);
+    if place >= stations.len() {
+        return;
+    }
+    match request.answer {
+        Answer::Awaited => stations[place].unanswered = one_more(stations[place].unanswered),
+        Answer::Damaged => {
+            stations[place].damaged_answers = one_more(stations[place].damaged_answers)
+        }
+        Answer::Good => {}
+    }
+}
+
+/// Forgets when stations received the token.
+pub(crate) fn forget_receipts(stations: &mut [Station])
+    ensures { stations.new ≡ map without_receipt stations.old }
+{
+    for station in stations.iter_mut() {
+        station.receipt = None;
+    }
+}
