@@ -30,6 +30,7 @@ def build_over(tree):
     words = ["nice", "-n", "19", *tree.check("pbfdl")]
     words[words.index("check")] = "build"
     words += ["--crate-type", "staticlib", "--toolchain", repository.KIT / "toolchain", "--backend", "llvm", "-o", LIBRARY]
+    LIBRARY.parent.mkdir(exist_ok=True)
     built = subprocess.run(words, cwd=tree.folder("pbfdl"), stdout=subprocess.PIPE, stderr=subprocess.STDOUT, text=True, errors="replace")
     return built.stdout if built.returncode or not LIBRARY.exists() else ""
 
