@@ -9,10 +9,12 @@ ghost use Rattle.pb_cycles.specs.Queued.{Queued};
 ghost use Rattle.pb_transitions.specs.Cores.{station_of, station_with, Becomes, HasReceived};
 ghost use Rattle.pb_station.specs.Indications.{indications_of};
 ghost use Rattle.pb_station.specs.Halves.{has_come};
+ghost use Rattle.pb_station.specs.Mailboxes.{read_mail};
 ghost use Rattle.pb_station.specs.MarkViews.{mark_of, AllOver, AreOver};
 
 use crate::inboxes::{Inbox, Unread};
 use crate::indications::Indications;
+use crate::mailboxes::Mailbox;
 use crate::marks::Mark;
 use crate::reading::{after_marks, after_notes, after_notes_telling};
 use pb_timers::{BusParams, Moment};
@@ -69,6 +71,31 @@ pub(crate) fn take_turn_telling(
         waiting,
     } = core;
     settle_telling(phase, kept, params, inbox, now, told);
+    speak(phase, kept, waiting, params, now, out);
+}
+
+/// The same turn with the unread marks of a mailbox, which then has the requests that the station executes in it.
+pub(crate) fn take_turn_with(
+    core: &mut Core,
+    params: &BusParams,
+    mail: &mut Mailbox,
+    now: Moment,
+    out: &mut SendBuffer,
+)
+    requires clock { now ≤ last_turn }
+    requires over { AllOver now mail.old.marks }
+    requires received { HasReceived (station_of core.old) }
+    ensures turn { (station_of core.new, out.new)
+        ≡ turn_of params.now (station_of core.old) mail.old.marks now }
+    ensures received { HasReceived (station_of core.new) }
+    ensures mail { mail.new ≡ read_mail params.now (station_of core.old) mail.old }
+{
+    let Core {
+        phase,
+        kept,
+        waiting,
+    } = core;
+    settle_with(phase, kept, params, mail, now);
     speak(phase, kept, waiting, params, now, out);
 }
 
@@ -129,6 +156,13 @@ pub(crate) fn due_of(core: &Core, params: &BusParams, inbox: &Inbox) -> Option<M
     ensures { result ≡ due_of params.now (station_of core.now) inbox.now }
 {
     earlier(inbox.first_seen(), acts(core, params))
+}
+
+/// When the station has to take its turn, with the unread marks of a mailbox.
+pub(crate) fn due_with(core: &Core, params: &BusParams, mail: &Mailbox) -> Option<Moment>
+    ensures { result ≡ due_of params.now (station_of core.now) mail.now.marks }
+{
+    earlier(mail.first_seen(), acts(core, params))
 }
 
 /// Whether the station's turn, with the unread marks of an inbox, will have been due for more than `lag` bit times when
@@ -199,6 +233,25 @@ fn settle_telling(
 {
     told.clear();
     after_notes_telling(phase, kept, params, &inbox.unread(), now, told);
+    after_timer(phase, kept, params, after(now, 1));
+}
+
+/// The same with the unread marks of a mailbox, which then has the requests that the station executes.
+fn settle_with(
+    phase: &mut Phase,
+    kept: &mut Kept,
+    params: &BusParams,
+    mail: &mut Mailbox,
+    now: Moment,
+)
+    requires clock { now ≤ last_turn }
+    requires over { AllOver now mail.old.marks }
+    ensures read { Becomes (λ s. settled params.now s mail.old.marks now)
+        kept.old (phase_of phase.old) kept.new (phase_of phase.new) }
+    ensures mail { (queue : Queued)
+        → mail.new ≡ read_mail params.now (station_with kept.old queue (phase_of phase.old)) mail.old }
+{
+    mail.read(phase, kept, params, now);
     after_timer(phase, kept, params, after(now, 1));
 }
 
