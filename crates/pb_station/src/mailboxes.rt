@@ -215,12 +215,17 @@ impl Mailbox {
         ensures mail { (queue : Queued)
             → self.new ≡ read_mail params.now (station_with kept.old queue (phase_of phase.old)) self.old }
     {
+        let told = &mut self.told;
+        if self.notes.is_empty() {
+            told.clear();
+            return;
+        }
         let unread = Unread {
             notes: &self.notes,
             chars: &self.chars,
             octets: &self.octets,
         };
-        after_notes_into(phase, kept, params, &unread, now, &mut self.told);
+        after_notes_into(phase, kept, params, &unread, now, told);
         self.drop_marks();
     }
 }

@@ -7,6 +7,7 @@ ghost use Rattle.pb_tokenfsm.specs.Phases.{phase_of};
 ghost use Rattle.pb_transitions.specs.Clocks.{last_turn, is_past};
 ghost use Rattle.pb_cycles.specs.Queued.{Queued};
 ghost use Rattle.pb_transitions.specs.Cores.{station_of, station_with, Becomes, HasReceived};
+ghost use Rattle.pb_transitions.specs.Speeches.{spoken_with};
 ghost use Rattle.pb_station.specs.Indications.{indications_of};
 ghost use Rattle.pb_station.specs.Halves.{has_come};
 ghost use Rattle.pb_station.specs.Mailboxes.{read_mail};
@@ -20,7 +21,7 @@ use crate::reading::{after_marks, after_notes, after_notes_telling};
 use pb_timers::{BusParams, Moment};
 use pb_tokenfsm::Phase;
 use pb_transitions::{
-    Core, Kept, SendBuffer, after, after_timer, earlier, is_past, speak, speaks_at, timer,
+    Core, Kept, SendBuffer, Waiting, after, after_timer, earlier, is_past, speak, speaks_at, timer,
     would_say,
 };
 
@@ -96,7 +97,7 @@ pub(crate) fn take_turn_with(
         waiting,
     } = core;
     settle_with(phase, kept, params, mail, now);
-    speak(phase, kept, waiting, params, now, out);
+    speak_if_due(phase, kept, waiting, params, now, out);
 }
 
 /// The first half of a turn with a list of marks: the station reads them, and its timers between them and up to the
@@ -142,6 +143,30 @@ pub(crate) fn would_speak(core: &Core, params: &BusParams, inbox: &Inbox, now: M
     let mut phase = core.phase.copy();
     settle(&mut phase, &mut kept, params, inbox, now);
     would_say(&phase, &kept, now)
+}
+
+/// The station speaks at `now`, if its moment has come. That is tested here: `speak` is out of line, and most turns send
+/// nothing.
+#[inline(always)]
+fn speak_if_due(
+    phase: &mut Phase,
+    kept: &mut Kept,
+    waiting: &mut Waiting,
+    params: &BusParams,
+    now: Moment,
+    out: &mut SendBuffer,
+)
+    requires clock { now ≤ last_turn }
+    requires received { HasReceived (station_with kept.old waiting.old (phase_of phase.old)) }
+    ensures { let before = station_with kept.old waiting.old (phase_of phase.old) in
+        spoken_with kept.new waiting.new (phase_of phase.new) out.new
+        ≡ speech params.now before (speaks_at before) now }
+{
+    if has_come(speaks_at(phase, kept), now) {
+        speak(phase, kept, waiting, params, now, out);
+    } else {
+        out.clear();
+    }
 }
 
 /// When the station has to take its turn, with a list of unread marks.
