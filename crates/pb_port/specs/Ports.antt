@@ -14,6 +14,7 @@ use Rattle.pb_port.specs.declared.faults.PortFault.TheVariants.{TooLate, Backwar
 
 pub record PortView : Type 0 where
   pub station : StationView
+  pub room : ℕ  -- how many marks may be unread
   pub marks : List Mark  -- the unread ones
   pub clock : ℕ  -- the latest moment of a call
   pub past : ℕ  -- the latest of the marks' own moments, the turns and the start: no later mark may be before it
@@ -33,7 +34,7 @@ mark_faults p at seen characters =
     ∷ (nat_lt at p.past, Backwards)
     ∷ (nat_lt seen at, Ahead)
     ∷ (nat_lt 255 characters, TooLong)
-    ∷ (nat_le 64 (length p.marks), InboxFull)
+    ∷ (nat_le p.room (length p.marks), InboxFull)
     ∷ []
 
 -- of a request that is to wait
@@ -42,20 +43,25 @@ push_faults p r = (nat_le 16 (length (list_for p.station.station.cycles.queue r)
 
 -- ---- what a call does
 
--- the station doesn't run, and nothing was heard
-abbrev pub new_port : Params → ℕ → Bool → List ℕ → PortView
-new_port params address master reply = record {
+-- the station doesn't run, and nothing was heard; so many marks may be unread
+abbrev pub port_with_room : ℕ → Params → ℕ → Bool → List ℕ → PortView
+port_with_room room params address master reply = record {
   station = record { tap = 0; params = params; master = master; reply_data = reply; station = new_station params address reply };
+  room = room;
   marks = [];
   clock = 0;
   past = 0;
   indications = [];
 }
 
+abbrev pub new_port : Params → ℕ → Bool → List ℕ → PortView
+new_port = port_with_room 64
+
 -- the station starts at a moment, and nothing was heard
 abbrev pub started_port : PortView → ℕ → PortView
 started_port p now = record {
   station = record p.station { station = started p.station.params p.station.station p.station.master now };
+  room = p.room;
   marks = [];
   clock = now;
   past = now;
@@ -82,6 +88,7 @@ due_port p = due_of p.station.params p.station.station p.marks
 abbrev pub turned_port : PortView → ℕ → PortView
 turned_port p now = record {
   station = (turned p.station p.marks now).0;
+  room = p.room;
   marks = [];
   clock = now;
   past = now;

@@ -18,7 +18,7 @@ pub enum PortFault {
     /// An end brings more than 255 characters.
     #[error("TooLong")]
     TooLong,
-    /// 64 marks are unread.
+    /// As many marks are unread as the port has room for.
     #[error("InboxFull")]
     InboxFull,
     /// 16 requests of the priority wait.

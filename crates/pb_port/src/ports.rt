@@ -11,7 +11,7 @@ use arrayvec::ArrayVec;
 use pb_cycles::{Outcome, Request};
 use pb_faults::NoMemory;
 use pb_ring::Las;
-use pb_station::{Inbox, Indication, Indications, MARK_LIMIT, SendBuffer, Station};
+use pb_station::{Indication, MARK_LIMIT, Mailbox, SendBuffer, Station};
 use pb_telegram::RxChar;
 use pb_timers::{BusParams, Moment};
 use pb_tokenfsm::Phase;
@@ -31,15 +31,14 @@ const MOST_CHARACTERS: usize = 255;
 #[derive(Debug, Drop)]
 pub struct Port {
     station: Station,
-    inbox: Inbox,
+    /// The unread marks, and the requests of others that the station executed in its last turn.
+    mail: Mailbox,
     /// The latest moment of a call.
     clock: Moment,
     /// The latest of the marks' own moments, the turns and the start.
     past: Moment,
     /// What the station sent in its last turn: room that each turn uses again.
     sent: SendBuffer,
-    /// The requests of others that it executed in its last turn.
-    told: Indications,
 }
 
 /// A mark's own moment, and when it is delivered.
@@ -59,13 +58,14 @@ impl Model for Port {
 
     ghost view = { λ p. record {
       station = p.station;
-      marks = p.inbox;
+      room = p.mail.room;
+      marks = p.mail.marks;
       clock = p.clock;
       past = p.past;
-      indications = p.told;
+      indications = p.mail.told;
     } };
 
-    ghost invariant = { λ p. AllOver p.clock p.inbox × (p.clock ≤ last_turn) };
+    ghost invariant = { λ p. AllOver p.clock p.mail.marks × (p.clock ≤ last_turn) };
 }
 
 impl Port {
@@ -75,11 +75,11 @@ impl Port {
     ghost use Rattle.pb_telegram.specs.declared.chars.RxChar.TheVariants.{Good, Bad};
     ghost use Rattle.law_turn.specs.Marks as model;
     ghost use Rattle.pb_tokenfsm.specs.Phases.{phase_of};
-    ghost use Rattle.pb_port.specs.Ports.{new_port, started_port, stopped_port, pushed_port, told_port, turned_port, replying_port, said_by, due_port, clock_faults, mark_faults, push_faults, Answers, Sends};
+    ghost use Rattle.pb_port.specs.Ports.{new_port, port_with_room, started_port, stopped_port, pushed_port, told_port, turned_port, replying_port, said_by, due_port, clock_faults, mark_faults, push_faults, Answers, Sends};
     ghost use Rattle.pb_station.specs.Indications.{fields_of};
 
     /// A station that does not run, a master or a passive station, with an address, 0 to 126, the caller's condition,
-    /// and the data that it replies to a request for data.
+    /// and the data that it replies to a request for data. 64 marks may be unread.
     ///
     /// Fault: `NoMemory`. No other call takes memory.
     pub fn new(
@@ -92,13 +92,31 @@ impl Port {
         requires { address ≤ 126 }
         ensures { IfOk result (λ p. p ≡ new_port params address master reply.items) }
     {
+        Port::with_room(alloc, MARK_LIMIT, params, address, master, reply)
+    }
+
+    /// The same station with room for so many unread marks, 2 to 64, the caller's condition. A port takes about 1.1 KB
+    /// for each.
+    ///
+    /// Fault: `NoMemory`. No other call takes memory.
+    pub fn with_room(
+        alloc: Global,
+        room: usize,
+        params: BusParams,
+        address: u8,
+        master: bool,
+        reply: ArrayVec<u8, 246>,
+    ) -> Result<Port, NoMemory>
+        requires room { (2 ≤ room) × (room ≤ 64) }
+        requires station { address ≤ 126 }
+        ensures { IfOk result (λ p. p ≡ port_with_room room params address master reply.items) }
+    {
         Ok(Port {
             station: Station::new(alloc, 0, params, address, master, reply)?,
-            inbox: Inbox::new(alloc)?,
+            mail: Mailbox::new(alloc, room)?,
             clock: Moment::at(0),
             past: Moment::at(0),
             sent: SendBuffer::new(),
-            told: Indications::new(alloc)?,
         })
     }
 
@@ -110,8 +128,7 @@ impl Port {
         ensures { Answers self.old (clock_faults self.old now) (started_port self.old now) result self.new }
     {
         let now = self.moment(now)?;
-        self.inbox.clear();
-        self.told.clear();
+        self.mail.clear();
         self.station.start(now);
         self.clock = now;
         self.past = now;
@@ -124,7 +141,7 @@ impl Port {
         ensures { self.new ≡ stopped_port self.old }
     {
         self.station.stop();
-        self.inbox.clear();
+        self.mail.drop_marks();
     }
 
     /// A request waits behind the others of its priority. A start forgets it.
@@ -152,13 +169,13 @@ impl Port {
     ///
     /// Faults, the first that applies: `TooLate` where `seen` is past 2^61; `Backwards` where it is before an earlier
     /// call, or `at` is before an earlier mark's own moment, the last turn or the start; `Ahead` where `at` is after
-    /// `seen`; `InboxFull` where 64 marks are unread.
+    /// `seen`; `InboxFull` where there is no room for a mark more.
     pub fn begin(&mut self, at: u64, seen: u64) -> Result<(), PortFault>
         ensures { Answers self.old (mark_faults self.old at seen 0)
             (told_port self.old (model.Begin at seen)) result self.new }
     {
         let delivery = self.delivery(at, seen, 0)?;
-        self.inbox.push_begin(delivery.at, delivery.seen);
+        self.mail.push_begin(delivery.at, delivery.seen);
         self.clock = delivery.seen;
         self.past = delivery.at;
         Ok(())
@@ -174,7 +191,7 @@ impl Port {
             (told_port self.old (model.End at seen characters.now)) result self.new }
     {
         let delivery = self.delivery(at, seen, characters.len())?;
-        self.inbox.push_end(delivery.at, delivery.seen, characters);
+        self.mail.push_end(delivery.at, delivery.seen, characters);
         self.clock = delivery.seen;
         self.past = delivery.at;
         Ok(())
@@ -186,7 +203,7 @@ impl Port {
             (told_port self.old (model.End at seen (map Good octets.now))) result self.new }
     {
         let delivery = self.delivery(at, seen, octets.len())?;
-        self.inbox.push_good_end(delivery.at, delivery.seen, octets);
+        self.mail.push_good_end(delivery.at, delivery.seen, octets);
         self.clock = delivery.seen;
         self.past = delivery.at;
         Ok(())
@@ -201,7 +218,7 @@ impl Port {
             (told_port self.old (model.End at seen (Bad ∷ []))) result self.new }
     {
         let delivery = self.delivery(at, seen, 1)?;
-        self.inbox.push_noise(delivery.at, delivery.seen);
+        self.mail.push_noise(delivery.at, delivery.seen);
         self.clock = delivery.seen;
         self.past = delivery.at;
         Ok(())
@@ -213,7 +230,7 @@ impl Port {
     pub fn due(&self) -> Option<u64>
         ensures { result ≡ due_port self.now }
     {
-        self.station.due(&self.inbox).map(Moment::get)
+        self.station.due_with(&self.mail).map(Moment::get)
     }
 
     /// The station takes its turn at a moment: it reads its unread marks and the timers between them in order of time,
@@ -233,8 +250,7 @@ impl Port {
     {
         let now = self.moment(now)?;
         self.station
-            .take_turn_telling(&self.inbox, now, &mut self.sent, &mut self.told);
-        self.inbox.clear();
+            .take_turn_with(&mut self.mail, now, &mut self.sent);
         self.clock = now;
         self.past = now;
         Ok(copy_sent(&self.sent, out))
@@ -245,7 +261,7 @@ impl Port {
     pub fn indications(&self) -> &[Indication]
         ensures { map fields_of result.now ≡ self.entry.now.indications }
     {
-        self.told.as_slice()
+        self.mail.told()
     }
 
     /// The phase that the station is in.
@@ -299,7 +315,7 @@ impl Port {
             (λ fault. first_fault (mark_faults self.now at seen characters) ≡ Some fault) }
         ensures moments { IfOk result (λ d. (d.at ≡ at) × (d.seen ≡ seen)
             × (self.now.clock ≤ seen) × (seen ≤ last_turn) × (at ≤ seen)) }
-        ensures fits { IfOk result (λ _. (characters ≤ 255) × (length self.now.marks < 64)) }
+        ensures fits { IfOk result (λ _. (characters ≤ 255) × (length self.now.marks < self.now.room)) }
     {
         let seen = self.moment(seen)?;
         if at < self.past.get() {
@@ -311,7 +327,7 @@ impl Port {
         if characters > MOST_CHARACTERS {
             return Err(PortFault::TooLong);
         }
-        if self.inbox.len() >= MARK_LIMIT {
+        if self.mail.is_full() {
             return Err(PortFault::InboxFull);
         }
         Ok(Delivery {
@@ -321,12 +337,19 @@ impl Port {
     }
 }
 
-/// Copies what was sent, and answers how many octets that is. There is room for 255, the caller's condition.
+/// Copies what was sent, and answers how many octets that is: a token, which is sent most, without a call of memcpy. There
+/// is room for 255, the caller's condition.
 fn copy_sent(sent: &SendBuffer, out: &mut [u8]) -> usize
     requires { 255 ≤ length out.old }
     ensures { Sends sent.now result out.new }
 {
     match sent.octets() {
+        Some([first, second, third]) => {
+            out[0] = *first;
+            out[1] = *second;
+            out[2] = *third;
+            3
+        }
         Some(octets) => {
             out[..octets.len()].copy_from_slice(octets);
             octets.len()

@@ -1,4 +1,5 @@
 pub mod Indicated
+pub mod Mail
 pub mod MarkByMark
 pub mod Noted
 pub mod Overdue

@@ -9,7 +9,7 @@ use Rattle.pb_station.specs.Decisions.{turned}
 use Rattle.pb_station.specs.Halves.{at_clock, has_come, spoken}
 use Rattle.pb_station.specs.Stations.{StationView}
 
-silent_speech : (p : Params) (s : Station) (o : Option ℕ) (now : ℕ) → has_come o now ≡ false → speech p s o now ≡ (s, None)
+pub silent_speech : (p : Params) (s : Station) (o : Option ℕ) (now : ℕ) → has_come o now ≡ false → speech p s o now ≡ (s, None)
 silent_speech p s None now h = refl
 silent_speech p s (Some moment) now h = ap (λ (b : Bool). if b then phase_says p s s.phase now else (s, None)) h
 

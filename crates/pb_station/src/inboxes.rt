@@ -216,7 +216,7 @@ impl Inbox {
 }
 
 /// When the first of some marks was delivered; `None` if there is none.
-fn first_seen(notes: &[Note]) -> Option<Moment>
+pub(crate) fn first_seen(notes: &[Note]) -> Option<Moment>
     ensures { (chars : List RxChar) (octets : List ℕ)
         → result ≡ first_seen (marks_in notes.now chars octets) }
 {
@@ -227,7 +227,7 @@ fn first_seen(notes: &[Note]) -> Option<Moment>
 }
 
 /// Appends what a mark brings, within the reserved memory.
-fn push_all<T: Copy>(brought: &mut Vec<T>, more: &[T])
+pub(crate) fn push_all<T: Copy>(brought: &mut Vec<T>, more: &[T])
     requires { length brought.old.items + length more.now ≤ vec_capacity brought.old }
     ensures items { brought.new.items ≡ brought.old.items ++ more.now }
     ensures room { vec_capacity brought.old ≤ vec_capacity brought.new }

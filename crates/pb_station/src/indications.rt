@@ -1,6 +1,7 @@
 //! The requests of others that a station executes in a turn.
 
 ghost use Rattle.std.specs.Prelude.{◌≡◌, ◌≤◌, ◌<◌, ◌+◌, ◌++◌, ◌%◌, [], length, map, take, option_map};
+ghost use Rattle.std.specs.Vec.{vec_capacity};
 ghost use Rattle.pb_cycles.specs.Requests.{asked_by};
 ghost use Rattle.pb_station.specs.Indications.{asked_in, executed_in, fields_of, request_in, with_front};
 ghost use Rattle.pb_station.specs.MarkViews.{brought};
@@ -121,6 +122,48 @@ fn tell_request(told: &mut Indications, note: &Note, chars: &[RxChar], octets: &
 {
     if let Some(indication) = request_of(&telegram_of(note, chars, octets)) {
         told.push(indication);
+    }
+}
+
+/// The same in a list, within its reserved memory.
+pub(crate) fn tell_into(
+    told: &mut Vec<Indication>,
+    before: u64,
+    after: u64,
+    note: &Note,
+    chars: &[RxChar],
+    octets: &[u8],
+)
+    requires room { length told.old.items < vec_capacity told.old }
+    requires chars { chars_of note.now ≤ length chars.now }
+    requires octets { octets_of note.now ≤ length octets.now }
+    ensures told { let mark = mark_with note.now (take (chars_of note.now) chars.now)
+        (take (octets_of note.now) octets.now) in
+        map fields_of told.new.items
+        ≡ map fields_of told.old.items ++ with_front (executed_in before after mark) [] }
+    ensures few { length told.new.items ≤ length told.old.items + 1 }
+    ensures room { vec_capacity told.new ≡ vec_capacity told.old }
+{
+    if before != after {
+        push_request(told, note, chars, octets);
+    }
+}
+
+/// Appends the request in a mark to a list. Kept out of line for the same reason.
+#[inline(never)]
+fn push_request(told: &mut Vec<Indication>, note: &Note, chars: &[RxChar], octets: &[u8])
+    requires room { length told.old.items < vec_capacity told.old }
+    requires chars { chars_of note.now ≤ length chars.now }
+    requires octets { octets_of note.now ≤ length octets.now }
+    ensures told { let mark = mark_with note.now (take (chars_of note.now) chars.now)
+        (take (octets_of note.now) octets.now) in
+        map fields_of told.new.items
+        ≡ map fields_of told.old.items ++ with_front (request_in (arrival_of (brought mark))) [] }
+    ensures few { length told.new.items ≤ length told.old.items + 1 }
+    ensures room { vec_capacity told.new ≡ vec_capacity told.old }
+{
+    if let Some(indication) = request_of(&telegram_of(note, chars, octets)) {
+        told.push_reserved(indication);
     }
 }
 

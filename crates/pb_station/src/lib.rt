@@ -8,6 +8,7 @@
 mod decisions;
 mod inboxes;
 mod indications;
+mod mailboxes;
 mod marks;
 mod notes;
 mod reading;
@@ -18,6 +19,7 @@ mod turns;
 pub use decisions::{Decided, Decision, Glance, decide, decide_in, due};
 pub use inboxes::{Inbox, MARK_LIMIT};
 pub use indications::{Indication, Indications};
+pub use mailboxes::Mailbox;
 pub use marks::Mark;
 pub use pb_faults::NoMemory;
 pub use pb_transitions::SendBuffer;

@@ -1,6 +1,7 @@
 //! How a station reads its unread marks.
 
 ghost use Rattle.std.specs.Prelude.{◌≡◌, ◌≤◌, ℕ, [], ◌∷◌, length, map, take, drop};
+ghost use Rattle.std.specs.Vec.{vec_capacity};
 ghost use Rattle.pb_timers.specs.Timers.{Params};
 ghost use Rattle.law_turn.specs.Arrivals.{Token, arrival_of};
 ghost use Rattle.law_turn.specs.Hearing.{after_mark, ended};
@@ -11,13 +12,13 @@ ghost use Rattle.pb_tokenfsm.specs.Phases.{phase_of};
 ghost use Rattle.pb_transitions.specs.Clocks.{last_turn};
 ghost use Rattle.pb_transitions.specs.Cores.{Becomes, station_with};
 ghost use Rattle.pb_cycles.specs.Queued.{Queued};
-ghost use Rattle.pb_station.specs.Indications.{indications_of};
+ghost use Rattle.pb_station.specs.Indications.{fields_of, indications_of};
 ghost use Rattle.pb_station.specs.MarkViews.{mark_of, AreOver, AllOver};
 ghost use Rattle.pb_station.specs.Notes.{chars_of, octets_of, mark_with, marks_in, AreOf};
 ghost use Rattle.pb_telegram.specs.declared.chars.RxChar.TheVariants.{Good, Bad};
 
 use crate::inboxes::Unread;
-use crate::indications::{Indications, tell};
+use crate::indications::{Indication, Indications, tell, tell_into};
 use crate::marks::Mark;
 use crate::notes::Note;
 use pb_telegram::RxChar;
@@ -92,6 +93,45 @@ pub(crate) fn after_notes_telling(
         let behind = after_note(phase, kept, params, note, left.chars, left.octets);
         let after = kept.cycles.responder.executed();
         tell(told, before, after, note, left.chars, left.octets);
+        left = behind;
+    }
+}
+
+/// The same, and replaces the content of a list by the requests. It has memory for as many as there are marks.
+pub(crate) fn after_notes_into(
+    phase: &mut Phase,
+    kept: &mut Kept,
+    params: &BusParams,
+    unread: &Unread<'_>,
+    now: Moment,
+    told: &mut Vec<Indication>,
+)
+    requires clock { now ≤ last_turn }
+    requires over { AllOver now (marks_in unread.now.notes.now unread.now.chars.now unread.now.octets.now) }
+    requires of { AreOf unread.now.notes.now unread.now.chars.now unread.now.octets.now }
+    requires few { length unread.now.notes.now ≤ vec_capacity told.old }
+    ensures read { let u = unread.now in
+        Becomes (λ s. after_marks params.now s (marks_in u.notes.now u.chars.now u.octets.now))
+        kept.old (phase_of phase.old) kept.new (phase_of phase.new) }
+    ensures told { let u = unread.now in
+        (queue : Queued) → map fields_of told.new.items
+        ≡ indications_of params.now (station_with kept.old queue (phase_of phase.old))
+        (marks_in u.notes.now u.chars.now u.octets.now) }
+    ensures room { vec_capacity told.new ≡ vec_capacity told.old }
+{
+    let Unread {
+        notes,
+        chars,
+        octets,
+    } = *unread;
+    told.clear();
+    let mut left = Left { chars, octets };
+    for note in notes {
+        after_timer(phase, kept, params, note.moment());
+        let before = kept.cycles.responder.executed();
+        let behind = after_note(phase, kept, params, note, left.chars, left.octets);
+        let after = kept.cycles.responder.executed();
+        tell_into(told, before, after, note, left.chars, left.octets);
         left = behind;
     }
 }

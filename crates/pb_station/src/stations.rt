@@ -9,9 +9,11 @@ ghost use Rattle.pb_tokenfsm.specs.Phases.{phase_of};
 
 use crate::inboxes::Inbox;
 use crate::indications::Indications;
+use crate::mailboxes::Mailbox;
 use crate::marks::Mark;
 use crate::turns::{
-    due_of, due_on, is_overdue, read_on, speak_on, take_turn, take_turn_telling, would_speak,
+    due_of, due_on, due_with, is_overdue, read_on, speak_on, take_turn, take_turn_telling,
+    take_turn_with, would_speak,
 };
 use arrayvec::ArrayVec;
 use pb_cycles::{Outcome, Queue, Request};
@@ -79,6 +81,7 @@ impl Station {
     ghost use Rattle.pb_station.specs.Decisions.{turned};
     ghost use Rattle.pb_station.specs.Halves.{at_clock, has_come, spoken};
     ghost use Rattle.pb_station.specs.Indications.{indications_of};
+    ghost use Rattle.pb_station.specs.Mailboxes.{read_mail};
     ghost use Rattle.pb_station.specs.Stations.{with_reply};
     ghost use Rattle.pb_station.specs.MarkViews.{mark_of, AllOver, AreOver};
 
@@ -349,6 +352,18 @@ impl Station {
         take_turn_telling(core, params, inbox, now, out, told);
     }
 
+    /// Takes the same turn with the unread marks of a mailbox, which are removed. The mailbox then has the requests of
+    /// others that the station executes in the turn, in order: those by which [`executed`](Station::executed) grows.
+    pub fn take_turn_with(&mut self, mail: &mut Mailbox, now: Moment, out: &mut SendBuffer)
+        requires clock { now ≤ last_turn }
+        requires over { AllOver now mail.old.marks }
+        ensures turn { (self.new, out.new) ≡ turned self.old mail.old.marks now }
+        ensures mail { mail.new ≡ read_mail self.old.params self.old.station mail.old }
+    {
+        let Parts { params, core, .. } = &mut *self.parts;
+        take_turn_with(core, params, mail, now, out);
+    }
+
     /// Takes the same turn with a list of marks.
     #[tactic(auto, using(crate::proofs::Silence::silent_turn))]
     #[inline(always)]
@@ -401,6 +416,14 @@ impl Station {
         ensures { result ≡ turn.due_of self.now.params self.now.station inbox.now }
     {
         due_of(&self.parts.core, &self.parts.params, inbox)
+    }
+
+    /// When the station has to take its turn, with the unread marks of a mailbox: what [`due`](crate::due) returns for
+    /// them.
+    pub fn due_with(&self, mail: &Mailbox) -> Option<Moment>
+        ensures { result ≡ turn.due_of self.now.params self.now.station mail.now.marks }
+    {
+        due_with(&self.parts.core, &self.parts.params, mail)
     }
 
     /// Whether the station's turn, with the unread marks of an inbox, will have been due for more than `lag` bit times

@@ -7,18 +7,21 @@ ghost use Rattle.pb_tokenfsm.specs.Phases.{phase_of};
 ghost use Rattle.pb_transitions.specs.Clocks.{last_turn, is_past};
 ghost use Rattle.pb_cycles.specs.Queued.{Queued};
 ghost use Rattle.pb_transitions.specs.Cores.{station_of, station_with, Becomes, HasReceived};
+ghost use Rattle.pb_transitions.specs.Speeches.{spoken_with};
 ghost use Rattle.pb_station.specs.Indications.{indications_of};
 ghost use Rattle.pb_station.specs.Halves.{has_come};
+ghost use Rattle.pb_station.specs.Mailboxes.{read_mail};
 ghost use Rattle.pb_station.specs.MarkViews.{mark_of, AllOver, AreOver};
 
 use crate::inboxes::{Inbox, Unread};
 use crate::indications::Indications;
+use crate::mailboxes::Mailbox;
 use crate::marks::Mark;
 use crate::reading::{after_marks, after_notes, after_notes_telling};
 use pb_timers::{BusParams, Moment};
 use pb_tokenfsm::Phase;
 use pb_transitions::{
-    Core, Kept, SendBuffer, after, after_timer, earlier, is_past, speak, speaks_at, timer,
+    Core, Kept, SendBuffer, Waiting, after, after_timer, earlier, is_past, speak, speaks_at, timer,
     would_say,
 };
 
@@ -72,6 +75,31 @@ pub(crate) fn take_turn_telling(
     speak(phase, kept, waiting, params, now, out);
 }
 
+/// The same turn with the unread marks of a mailbox, which then has the requests that the station executes in it.
+pub(crate) fn take_turn_with(
+    core: &mut Core,
+    params: &BusParams,
+    mail: &mut Mailbox,
+    now: Moment,
+    out: &mut SendBuffer,
+)
+    requires clock { now ≤ last_turn }
+    requires over { AllOver now mail.old.marks }
+    requires received { HasReceived (station_of core.old) }
+    ensures turn { (station_of core.new, out.new)
+        ≡ turn_of params.now (station_of core.old) mail.old.marks now }
+    ensures received { HasReceived (station_of core.new) }
+    ensures mail { mail.new ≡ read_mail params.now (station_of core.old) mail.old }
+{
+    let Core {
+        phase,
+        kept,
+        waiting,
+    } = core;
+    settle_with(phase, kept, params, mail, now);
+    speak_if_due(phase, kept, waiting, params, now, out);
+}
+
 /// The first half of a turn with a list of marks: the station reads them, and its timers between them and up to the
 /// clock. Returns whether its speaking moment has come.
 pub(crate) fn read_on(core: &mut Core, params: &BusParams, marks: &[Mark], now: Moment) -> bool
@@ -117,6 +145,30 @@ pub(crate) fn would_speak(core: &Core, params: &BusParams, inbox: &Inbox, now: M
     would_say(&phase, &kept, now)
 }
 
+/// The station speaks at `now`, if its moment has come. That is tested here: `speak` is out of line, and most turns send
+/// nothing.
+#[inline(always)]
+fn speak_if_due(
+    phase: &mut Phase,
+    kept: &mut Kept,
+    waiting: &mut Waiting,
+    params: &BusParams,
+    now: Moment,
+    out: &mut SendBuffer,
+)
+    requires clock { now ≤ last_turn }
+    requires received { HasReceived (station_with kept.old waiting.old (phase_of phase.old)) }
+    ensures { let before = station_with kept.old waiting.old (phase_of phase.old) in
+        spoken_with kept.new waiting.new (phase_of phase.new) out.new
+        ≡ speech params.now before (speaks_at before) now }
+{
+    if has_come(speaks_at(phase, kept), now) {
+        speak(phase, kept, waiting, params, now, out);
+    } else {
+        out.clear();
+    }
+}
+
 /// When the station has to take its turn, with a list of unread marks.
 pub(crate) fn due_on(core: &Core, params: &BusParams, marks: &[Mark]) -> Option<Moment>
     ensures { result ≡ due_of params.now (station_of core.now) (map mark_of marks.now) }
@@ -129,6 +181,13 @@ pub(crate) fn due_of(core: &Core, params: &BusParams, inbox: &Inbox) -> Option<M
     ensures { result ≡ due_of params.now (station_of core.now) inbox.now }
 {
     earlier(inbox.first_seen(), acts(core, params))
+}
+
+/// When the station has to take its turn, with the unread marks of a mailbox.
+pub(crate) fn due_with(core: &Core, params: &BusParams, mail: &Mailbox) -> Option<Moment>
+    ensures { result ≡ due_of params.now (station_of core.now) mail.now.marks }
+{
+    earlier(mail.first_seen(), acts(core, params))
 }
 
 /// Whether the station's turn, with the unread marks of an inbox, will have been due for more than `lag` bit times when
@@ -199,6 +258,25 @@ fn settle_telling(
 {
     told.clear();
     after_notes_telling(phase, kept, params, &inbox.unread(), now, told);
+    after_timer(phase, kept, params, after(now, 1));
+}
+
+/// The same with the unread marks of a mailbox, which then has the requests that the station executes.
+fn settle_with(
+    phase: &mut Phase,
+    kept: &mut Kept,
+    params: &BusParams,
+    mail: &mut Mailbox,
+    now: Moment,
+)
+    requires clock { now ≤ last_turn }
+    requires over { AllOver now mail.old.marks }
+    ensures read { Becomes (λ s. settled params.now s mail.old.marks now)
+        kept.old (phase_of phase.old) kept.new (phase_of phase.new) }
+    ensures mail { (queue : Queued)
+        → mail.new ≡ read_mail params.now (station_with kept.old queue (phase_of phase.old)) mail.old }
+{
+    mail.read(phase, kept, params, now);
     after_timer(phase, kept, params, after(now, 1));
 }
 
