@@ -10,12 +10,12 @@
  * Every function but fdl_port_free, fdl_bus_free and fdl_monitor_free answers a code: FDL_OK, or the first fault that applies, in the
  * order in which its comment names them. A call that answers another code than FDL_OK changes nothing, except where its comment says so.
  *
- * Ownership. An fdl_port is memory of the caller; fdl_port_new makes the station that it points to, and fdl_port_free
- * frees it. The same holds of an fdl_bus with fdl_bus_new and fdl_bus_free, and of an fdl_monitor. Arrays are read or written during the call alone; no pointer to them is kept.
+ * Ownership. An fdl_port is memory of the caller; fdl_port_new or fdl_port_new_with_room makes the station that it points to, and
+ * fdl_port_free frees it. The same holds of an fdl_bus with fdl_bus_new and fdl_bus_free, and of an fdl_monitor. Arrays are read or written during the call alone; no pointer to them is kept.
  *
  * Threads. One call at a time for a port, a bus or a monitor. Different ones share nothing, but each stays on the thread that made it.
  * No call from a signal handler. No function blocks, calls back, or writes to a file. Of the functions for ports only
- * fdl_port_new takes memory and only fdl_port_free gives it back; those that may take memory for a bus or a monitor name FDL_NO_MEMORY.
+ * fdl_port_new and fdl_port_new_with_room take memory and only fdl_port_free gives it back; those that may take memory for a bus or a monitor name FDL_NO_MEMORY.
  *
  * The caller owes, and nothing checks: no pointer is NULL, also with a length of 0; an array has as many elements as
  * is said; a bool is 0 or 1; an fdl_port begins as FDL_PORT_EMPTY, an fdl_bus as FDL_BUS_EMPTY, an fdl_monitor as FDL_MONITOR_EMPTY,
@@ -67,7 +67,7 @@ enum fdl_code {
                                    an earlier mark's, the last turn's or the start's */
     FDL_AHEAD = 43,             /* a mark's own moment is after that of the call */
     FDL_TOO_LONG = 44,          /* an end brings more than 255 characters */
-    FDL_INBOX_FULL = 45,        /* 64 marks are unread */
+    FDL_INBOX_FULL = 45,        /* as many marks are unread as the port has room for */
     FDL_QUEUE_FULL = 46,        /* 16 requests of the priority wait */
 
     /* Why the border refuses a call. */
@@ -80,6 +80,7 @@ enum fdl_code {
     FDL_BAD_KIND = 67,          /* there is no such kind of telegram */
     FDL_NO_ROOM = 68,           /* the array is too short */
     FDL_NO_INDICATION = 69,     /* the last turn executed no such request */
+    FDL_BAD_ROOM = 70,          /* the room of a port is not 2 to 64 */
 
     /* Why a bus refuses a call. The functions for a bus use some of the codes above too. FDL_INBOX_FULL: a tap would have
      * more than 64 unread marks. FDL_BACKWARDS: a moment is before the clock. */
@@ -146,6 +147,7 @@ static inline const char *fdl_code_text(uint32_t code)
     case FDL_BAD_KIND: return "bad kind";
     case FDL_NO_ROOM: return "no room";
     case FDL_NO_INDICATION: return "no indication";
+    case FDL_BAD_ROOM: return "bad room";
     case FDL_NO_TAPS: return "no taps";
     case FDL_TOO_MANY_TAPS: return "too many taps";
     case FDL_NO_BUS: return "no bus";
@@ -302,11 +304,17 @@ struct fdl_indication {
 };
 
 /* Makes a station that doesn't run, at an empty port: a master or a passive station, and the count octets, at most 246,
- * that it replies to a request for data. It takes memory, about 80 KB; no later call does.
+ * that it replies to a request for data. 64 marks may be unread. It takes memory, about 80 KB; no later call does.
  * Codes: FDL_PORT_IN_USE; a fault of the parameters; FDL_BAD_STATION for a master's address over params->hsa, or another's
  * over 126; FDL_LONG_DATA; FDL_NO_MEMORY. */
 uint32_t fdl_port_new(struct fdl_port *port, const struct fdl_params *params, uint8_t address, bool master,
                       const uint8_t *reply, size_t count);
+
+/* The same with room for so many unread marks, 2 to 64. It takes about 11 KB, and 1.1 KB for each mark; no later call
+ * takes memory.
+ * Codes: FDL_PORT_IN_USE; FDL_BAD_ROOM; then those of fdl_port_new. */
+uint32_t fdl_port_new_with_room(struct fdl_port *port, size_t room, const struct fdl_params *params, uint8_t address, bool master,
+                                const uint8_t *reply, size_t count);
 
 /* Frees the station of a port, which is empty then. An empty port stays so. */
 void fdl_port_free(struct fdl_port *port);

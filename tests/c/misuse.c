@@ -89,6 +89,29 @@ static void on_a_new_port(void)
     fdl_port_free(&port);
 }
 
+static void on_room_for_marks(void)
+{
+    struct fdl_port port = FDL_PORT_EMPTY;
+    size_t count;
+    WANT(FDL_BAD_ROOM, fdl_port_new_with_room(&port, 1, &(struct fdl_params){0}, 6, true, octets, 247));
+    WANT(FDL_BAD_ROOM, fdl_port_new_with_room(&port, 65, &usual, 1, true, octets, 0));
+    WANT(FDL_PARAM_SLOT, fdl_port_new_with_room(&port, 2, &(struct fdl_params){0}, 6, true, octets, 247));
+    WANT(FDL_BAD_STATION, fdl_port_new_with_room(&port, 2, &usual, 6, true, octets, 247));
+    WANT(FDL_LONG_DATA, fdl_port_new_with_room(&port, 64, &usual, 1, true, octets, 247));
+    want(1, port.at == NULL, "a refused port is empty");
+    WANT(FDL_OK, fdl_port_new_with_room(&port, 2, &usual, 1, true, octets, 246));
+    WANT(FDL_PORT_IN_USE, fdl_port_new_with_room(&port, 1, &usual, 1, true, octets, 0));
+    WANT(FDL_OK, fdl_port_start(&port, 100));
+    for (int i = 0; i < 2; i++) {
+        WANT(FDL_OK, fdl_port_end(&port, 100, 100, characters, 255));
+        WANT(FDL_OK, fdl_port_end_good(&port, 100, 100, octets, 255));
+        WANT(FDL_INBOX_FULL, fdl_port_begin(&port, 100, 100));
+        WANT(FDL_TOO_LONG, fdl_port_end(&port, 100, 100, characters, 256));
+        WANT(FDL_OK, fdl_port_turn(&port, 100, octets, 255, &count));
+    }
+    fdl_port_free(&port);
+}
+
 static void on_a_port(void)
 {
     struct fdl_port port = FDL_PORT_EMPTY;
@@ -234,12 +257,14 @@ static void on_receivers(void)
     WANT(FDL_TOO_LONG, fdl_receive(&receiver, 0));
 }
 
-static void with_memory_refused(void)
+/* Each allocation of a port with some room is refused in turn; with none, of fdl_port_new. */
+static void with_memory_refused(size_t room)
 {
     struct fdl_port port = FDL_PORT_EMPTY;
     for (granted = 0;; granted++) {
         const long allowed = granted;
-        const uint32_t code = fdl_port_new(&port, &usual, 1, true, octets, 0);
+        const uint32_t code = room ? fdl_port_new_with_room(&port, room, &usual, 1, true, octets, 0)
+                                   : fdl_port_new(&port, &usual, 1, true, octets, 0);
         granted = allowed;
         if (code == FDL_OK)
             break;
@@ -570,11 +595,13 @@ int main(void)
 {
     on_an_empty_port();
     on_a_new_port();
+    on_room_for_marks();
     on_a_port();
     on_data_in_and_out();
     on_telegrams();
     on_receivers();
-    with_memory_refused();
+    with_memory_refused(0);
+    with_memory_refused(2);
     on_an_empty_bus();
     on_a_new_bus();
     on_events();

@@ -1,5 +1,6 @@
 """A port of the library for C beside each station of the event lists of tests/events: it is told what its tap hears, and has to
-say in each turn what the list says, and to end in the phase, and with the next turn, that the list says.
+say in each turn what the list says, and to end in the phase, and with the next turn, that the list says. Each list is played
+with room for 64 unread marks, and again with room for as many as there were.
 
     python3 shadow.py LIBRARY
 
@@ -26,6 +27,8 @@ NEVER = 2**64 - 1
 REQUESTS = {3: (0, False), 4: (1, False), 5: (0, True), 6: (1, True), 12: (2, False), 13: (2, True)}
 PHASES = "Offline PassiveIdle Listening Idle Claim Use AwaitData AwaitStatus Pass Checking".split()
 SERVICES = "sda sdn srd".split()
+MARKS = "begin noise end end_good".split()
+LEAST_ROOM, MOST_ROOM = 2, 64
 
 
 class Params(ctypes.Structure):
@@ -53,6 +56,8 @@ class Port(ctypes.Structure):
     def __init__(self):
         super().__init__()
         self.heard = []
+        # How many marks are unread, and the most so far.
+        self.unread = self.most = 0
 
     def __del__(self):
         library.fdl_port_free(byref(self))
@@ -60,6 +65,11 @@ class Port(ctypes.Structure):
     def call(self, name, *words):
         code = getattr(library, f"fdl_port_{name}")(byref(self), *words)
         assert code == 0, f"{name} has code {code}"
+        if name in MARKS:
+            self.unread += 1
+            self.most = max(self.most, self.unread)
+        elif name in ("start", "stop", "turn"):
+            self.unread = 0
 
     def end(self, at, seen, characters):
         """The end of a burst, by the shortest call."""
@@ -132,18 +142,25 @@ class Noise:
 
 
 class Tap:
-    def __init__(self, spec, params):
+    def __init__(self, spec, params, room):
         self.port, self.running, self.since, self.amid = Port(), False, 0, False
         reply = bytes.fromhex(spec["reply"])
-        master = c_bool(spec["kind"] == "master")
-        self.port.call("new", byref(params), c_uint8(spec["address"]), master, reply, c_size_t(len(reply)))
+        words = byref(params), c_uint8(spec["address"]), c_bool(spec["kind"] == "master"), reply, c_size_t(len(reply))
+        if room == MOST_ROOM:
+            self.port.call("new", *words)
+        else:
+            self.port.call("new_with_room", c_size_t(room), *words)
+
+    def least_room(self):
+        """The least room for the marks that were unread at once."""
+        return max(LEAST_ROOM, self.port.most)
 
 
 class Bus:
-    def __init__(self, given):
+    def __init__(self, given, rooms):
         self.delay, self.now, self.trace = given["bus"]["ttd"], 0, []
         params = Params(**given["bus"])
-        self.taps = [Tap(spec, params) for spec in given["taps"]]
+        self.taps = [Tap(spec, params, room) for spec, room in zip(given["taps"], rooms)]
 
     # ---- what a tap senses
 
@@ -250,12 +267,12 @@ class Bus:
         return b""
 
 
-def play(given, counts):
-    """Plays a list's accepted events, and compares what is said and what becomes of each station."""
+def play(given, counts, rooms):
+    """Plays a list's accepted events, compares what is said and what becomes of each station, and returns the least rooms."""
     expect = given["expect"]
     if len(expect) == 1:
-        return
-    bus = Bus(given)
+        return rooms
+    bus = Bus(given, rooms)
     counts["ports"] += len(bus.taps)
     for number, (event, line) in enumerate(zip(given["events"], expect)):
         if " fault " in line:
@@ -269,13 +286,16 @@ def play(given, counts):
         due = tap.port.due() if tap.running else NEVER
         said = f"tap {place}: {tap.port.phase()}, due {due}" if due != NEVER else f"tap {place}: {tap.port.phase()}, not due"
         assert said == line or (due == NEVER and line.startswith(f"tap {place}: {tap.port.phase()}")), f"{said!r}, not {line!r}"
+    return [tap.least_room() for tap in bus.taps]
 
 
 def main():
     counts, differ, lists = {"ports": 0, "turns": 0}, 0, cases.event_lists()
     for name, text in lists.items():
         try:
-            play(json.loads(text), counts)
+            given = json.loads(text)
+            rooms = play(given, counts, [MOST_ROOM] * len(given["taps"]))
+            play(given, counts, rooms)
         except AssertionError as fault:
             differ += 1
             print(f"{name}: {fault}")

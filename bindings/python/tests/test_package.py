@@ -26,7 +26,7 @@ class Faults(unittest.TestCase):
             self.assertTrue(str(fault()))
             self.assertIs(getattr(pbfdl, fault.__name__), fault)
             self.assertIsInstance(pickle.loads(pickle.dumps(fault())), fault)
-        self.assertEqual(len(pbfdl.faults.BY_CODE), 54)
+        self.assertEqual(len(pbfdl.faults.BY_CODE), 55)
         self.assertIn("999", str(pbfdl.faults.fault_of(999)))
 
     def test_they_have_groups(self):
@@ -126,6 +126,9 @@ class Stations(unittest.TestCase):
             (6, {}, pbfdl.BadStation),
             (127, {"master": False}, pbfdl.BadStation),
             (1, {"reply": bytes(247)}, pbfdl.LongData),
+            (6, {"room": 1}, pbfdl.BadRoom),
+            (1, {"room": 65}, pbfdl.BadRoom),
+            (1, {"room": -1}, ValueError),
             (300, {}, ValueError),
         ):
             with self.assertRaises(fault):
@@ -159,6 +162,17 @@ class Stations(unittest.TestCase):
             station.end(100, [0x10, pbfdl.DAMAGED])
         with self.assertRaises(pbfdl.InboxFull):
             station.noise(100)
+
+    def test_room_for_marks(self):
+        station = Station(PARAMS, 1, room=2)
+        station.start(100)
+        for _ in range(2):
+            station.begin(100)
+            station.noise(100)
+            with self.assertRaisesRegex(pbfdl.InboxFull, "2 marks are unread"):
+                station.begin(100)
+            self.assertEqual(station.turn(100), b"")
+        self.assertEqual((station.room, Station(PARAMS, 1).room), (2, 64))
 
     def test_requests_wait(self):
         station = Station(PARAMS, 1)

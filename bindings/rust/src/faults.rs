@@ -71,7 +71,7 @@ faults! {
     Backwards = 42, "the moment is before the clock, or before one that was named earlier";
     Ahead = 43, "the moment of a begin or an end is after that of the call";
     TooLong = 44, "there are more than 255 characters";
-    InboxFull = 45, "64 marks are unread: take the turn, then repeat the mark";
+    InboxFull = 45, "as many marks are unread as there is room for: take the turn, then repeat the mark";
     QueueFull = 46, "16 requests of the priority wait: let the bus run, then queue again";
     NoPort = 61, "the port is empty";
     PortInUse = 62, "the port is not empty";
@@ -82,6 +82,7 @@ faults! {
     BadKind = 67, "there is no such kind of telegram";
     NoRoom = 68, "the array is too short";
     NoIndication = 69, "the last turn executed no such request";
+    BadRoom = 70, "the room of a station is not 2 to 64 marks";
     NoTaps = 71, "there is no tap";
     TooManyTaps = 72, "there are more than 127 taps";
     NoBus = 73, "the bus is empty";

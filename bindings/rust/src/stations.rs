@@ -13,6 +13,8 @@ use crate::sys;
 pub const LAST_MOMENT: u64 = 1 << 61;
 /// The last address of a station.
 pub const LAST_ADDRESS: u8 = 126;
+/// How many unread marks a station has room for, where nothing else is said.
+const MOST_ROOM: usize = 64;
 /// The address of all stations, for a request by [`Service::Sdn`].
 pub const ALL_STATIONS: u8 = 127;
 
@@ -161,27 +163,45 @@ pub struct Station {
 }
 
 impl Station {
-    /// A master, and what it replies to a request for data, at most 246 octets. It takes about 80 KB; no later call takes memory of
-    /// the library.
+    /// A master, and what it replies to a request for data, at most 246 octets. It has room for 64 unread marks, and takes about
+    /// 80 KB; no later call takes memory of the library.
     ///
     /// # Errors
     /// The first fault of the parameters; `BadStation` for an address over `params.hsa`; `LongData`; `NoMemory`.
     pub fn master(params: &Params, address: u8, reply: &[u8]) -> Result<Station, Fault> {
-        Station::new(params, address, true, reply)
+        Station::new(MOST_ROOM, params, address, true, reply)
     }
 
-    /// A passive station, and what it replies to a request for data, at most 246 octets.
+    /// A passive station, and what it replies to a request for data, at most 246 octets. Its room is that of
+    /// [`master`](Station::master).
     ///
     /// # Errors
     /// The first fault of the parameters; `BadStation` for an address over 126; `LongData`; `NoMemory`.
     pub fn passive(params: &Params, address: u8, reply: &[u8]) -> Result<Station, Fault> {
-        Station::new(params, address, false, reply)
+        Station::new(MOST_ROOM, params, address, false, reply)
     }
 
-    fn new(params: &Params, address: u8, master: bool, reply: &[u8]) -> Result<Station, Fault> {
+    /// A master with room for so many unread marks, 2 to 64. It takes about 11 KB, and 1.1 KB for each mark.
+    ///
+    /// # Errors
+    /// `BadRoom`, and then those of [`master`](Station::master).
+    pub fn master_with_room(room: usize, params: &Params, address: u8, reply: &[u8]) -> Result<Station, Fault> {
+        Station::new(room, params, address, true, reply)
+    }
+
+    /// A passive station with room for so many unread marks, 2 to 64. It takes as much as such a master.
+    ///
+    /// # Errors
+    /// `BadRoom`, and then those of [`passive`](Station::passive).
+    pub fn passive_with_room(room: usize, params: &Params, address: u8, reply: &[u8]) -> Result<Station, Fault> {
+        Station::new(room, params, address, false, reply)
+    }
+
+    fn new(room: usize, params: &Params, address: u8, master: bool, reply: &[u8]) -> Result<Station, Fault> {
         let station = Station { port: UnsafeCell::new(sys::fdl_port { at: ptr::null_mut() }) };
+        let (at, count) = (reply.as_ptr(), reply.len());
         // SAFETY: the port is empty, and the array has as many octets as is said.
-        check(unsafe { sys::fdl_port_new(station.port(), params, address, master, reply.as_ptr(), reply.len()) })?;
+        check(unsafe { sys::fdl_port_new_with_room(station.port(), room, params, address, master, at, count) })?;
         Ok(station)
     }
 
@@ -218,7 +238,7 @@ impl Station {
     ///
     /// # Errors
     /// `TooLate`; `Backwards` where `seen` is before an earlier call, or `at` before an earlier mark's own moment, the last turn or
-    /// the start; `Ahead` where `at` is after `seen`; `InboxFull` (64 marks are unread).
+    /// the start; `Ahead` where `at` is after `seen`; `InboxFull` (there is no room for a mark more).
     pub fn begin(&mut self, at: u64, seen: u64) -> Result<(), Fault> {
         check(unsafe { sys::fdl_port_begin(self.port(), at, seen) })
     }

@@ -184,6 +184,15 @@ extern "C" {
         reply: *const u8,
         count: usize,
     ) -> u32;
+    pub fn fdl_port_new_with_room(
+        port: *mut fdl_port,
+        room: usize,
+        params: *const fdl_params,
+        address: u8,
+        master: bool,
+        reply: *const u8,
+        count: usize,
+    ) -> u32;
     pub fn fdl_port_free(port: *mut fdl_port);
     pub fn fdl_port_start(port: *mut fdl_port, now: u64) -> u32;
     pub fn fdl_port_stop(port: *mut fdl_port) -> u32;

@@ -19,7 +19,7 @@ fn ring() -> Bus {
 fn faults_have_codes_and_texts() {
     assert_eq!(Fault::from_code(0), None);
     let known: Vec<Fault> = (1..=100).filter_map(Fault::from_code).filter(|it| !matches!(it, Fault::Unknown(_))).collect();
-    assert_eq!(known.len(), 54);
+    assert_eq!(known.len(), 55);
     assert!(known.iter().all(|it| Fault::from_code(it.code()) == Some(*it)));
     assert_eq!(Fault::QueueFull.to_string(), "16 requests of the priority wait: let the bus run, then queue again");
     assert_eq!(Fault::from_code(999).unwrap().to_string(), "unknown code 999");
@@ -78,6 +78,8 @@ fn a_station_refuses_by_name() {
     assert_eq!(Station::master(&PARAMS, 6, &[]).err(), Some(Fault::BadStation));
     assert_eq!(Station::passive(&PARAMS, 127, &[]).err(), Some(Fault::BadStation));
     assert_eq!(Station::passive(&PARAMS, 1, &[0; 247]).err(), Some(Fault::LongData));
+    assert_eq!(Station::master_with_room(1, &PARAMS, 6, &[]).err(), Some(Fault::BadRoom));
+    assert_eq!(Station::passive_with_room(65, &PARAMS, 1, &[]).err(), Some(Fault::BadRoom));
     let mut station = Station::master(&PARAMS, 1, &[]).unwrap();
     assert_eq!((station.due(), station.phase()), (None, Phase::Offline));
     station.start(100).unwrap();
@@ -96,6 +98,18 @@ fn a_station_refuses_by_name() {
         station.end_with(100, 100, &[0x10, DAMAGED]).unwrap();
     }
     assert_eq!(station.noise(100, 100), Err(Fault::InboxFull));
+}
+
+#[test]
+fn a_station_has_room_for_two_marks() {
+    let mut station = Station::master_with_room(2, &PARAMS, 1, &[]).unwrap();
+    station.start(100).unwrap();
+    for _ in 0..2 {
+        station.begin(100, 100).unwrap();
+        station.noise(100, 100).unwrap();
+        assert_eq!(station.begin(100, 100), Err(Fault::InboxFull));
+        assert_eq!(station.turn(100).unwrap(), []);
+    }
 }
 
 #[test]

@@ -1,5 +1,5 @@
 -- What a call at a port answers and leaves.
-use Rattle.std.specs.Prelude.{◌≡◌, ℕ, Bool, true, not, if◌then◌else◌, nat_lt, ◌==◌, List, [], ◌∷◌, Option, Some, None, is_some}
+use Rattle.std.specs.Prelude.{◌≡◌, ℕ, Bool, true, not, ◌||◌, if◌then◌else◌, nat_lt, ◌==◌, List, [], ◌∷◌, Option, Some, None, is_some}
 use Rattle.pb_faults.specs.FirstFault.{first_fault}
 use Rattle.pb_telegram.specs.declared.chars.RxChar.{RxChar}
 use Rattle.pb_telegram.specs.declared.chars.RxChar.TheVariants.{Good, Bad}
@@ -60,14 +60,25 @@ character_of word = if nat_lt word 256 then Good word else Bad
 abbrev pub service_of : ℕ → Option Service
 service_of number = if number == 0 then Some Sda else if number == 1 then Some Sdn else if number == 2 then Some Srd else None
 
--- why a new port is refused, memory apart: the codes in their order, of a handle, parameters, an address and data of some length
-abbrev pub new_codes : Option PortView → Params → Bool → ℕ → ℕ → List (Bool × ℕ)
-new_codes there p master address octets =
-    (is_some there, 62)
-    ∷ (not (params_code p == 0), params_code p)
+-- the room of a new port: 2 to 64 unread marks
+abbrev pub is_bad_room : ℕ → Bool
+is_bad_room room = nat_lt room 2 || nat_lt 64 room
+
+-- why a new station is refused: the codes in their order, of parameters, an address and data of some length
+abbrev pub station_codes : Params → Bool → ℕ → ℕ → List (Bool × ℕ)
+station_codes p master address octets =
+    (not (params_code p == 0), params_code p)
     ∷ (is_bad_station p master address, 64)
     ∷ (nat_lt 246 octets, 66)
     ∷ []
+
+-- why a new port is refused, memory apart: of its handle, and its station; where it has a room, of that too
+abbrev pub new_codes : Option PortView → Params → Bool → ℕ → ℕ → List (Bool × ℕ)
+new_codes there p master address octets = (is_some there, 62) ∷ station_codes p master address octets
+
+abbrev pub room_codes : Option PortView → ℕ → Params → Bool → ℕ → ℕ → List (Bool × ℕ)
+room_codes there room p master address octets =
+    (is_some there, 62) ∷ (is_bad_room room, 70) ∷ station_codes p master address octets
 
 -- why a request is refused, of an address, a service and data of some length
 abbrev pub request_codes : ℕ → Option Service → ℕ → List (Bool × ℕ)

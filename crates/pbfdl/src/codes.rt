@@ -37,6 +37,9 @@ pub(crate) const NO_ROOM: u32 = 68;
 /// The last turn executed no such request.
 pub(crate) const NO_INDICATION: u32 = 69;
 
+/// The room of a port is not 2 to 64.
+pub(crate) const BAD_ROOM: u32 = 70;
+
 /// More than 255 characters.
 pub(crate) const TOO_LONG: u32 = 44;
 

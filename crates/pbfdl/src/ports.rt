@@ -4,12 +4,12 @@ ghost use Rattle.std.specs.Prelude.{◌≡◌, ◌≢◌, ◌<◌, ◌≤◌, �
 ghost use Rattle.pb_faults.specs.FirstFault.{first_fault};
 ghost use Rattle.pb_telegram.specs.declared.chars.RxChar.TheVariants.{Good, Bad};
 ghost use Rattle.law_turn.specs.Marks as model;
-ghost use Rattle.pb_port.specs.Ports.{new_port, started_port, stopped_port, pushed_port, told_port, turned_port, replying_port, said_by, due_port, clock_faults, mark_faults, push_faults};
-ghost use Rattle.pbfdl.specs.Calls.{params_of, is_bad_station, character_of, service_of, new_codes, request_codes, request_fields, Answers, FindsNone};
+ghost use Rattle.pb_port.specs.Ports.{new_port, port_with_room, started_port, stopped_port, pushed_port, told_port, turned_port, replying_port, said_by, due_port, clock_faults, mark_faults, push_faults};
+ghost use Rattle.pbfdl.specs.Calls.{params_of, is_bad_station, character_of, service_of, is_bad_room, new_codes, room_codes, station_codes, request_codes, request_fields, Answers, FindsNone};
 
 use crate::codes::{
-    BAD_SERVICE, BAD_STATION, EMPTY_HANDLE, HANDLE_IN_USE, LONG_DATA, NO_MEMORY, NO_ROOM, TOO_LONG,
-    code_of, port_code,
+    BAD_ROOM, BAD_SERVICE, BAD_STATION, EMPTY_HANDLE, HANDLE_IN_USE, LONG_DATA, NO_MEMORY, NO_ROOM,
+    TOO_LONG, code_of, port_code,
 };
 use crate::params::{FdlParams, bus_params};
 use crate::receivers::characters_of;
@@ -25,12 +25,17 @@ const MOST_DATA: usize = 246;
 /// How many characters an end may bring, and how many octets a turn may send.
 const MOST_OCTETS: usize = 255;
 
+/// How many unread marks a port has room for: a begin and an end at least.
+const LEAST_ROOM: usize = 2;
+
+const MOST_ROOM: usize = 64;
+
 /// The moment that never comes.
 const NEVER: u64 = u64::MAX;
 
 /// Makes a station that does not run at an empty handle. Codes, in order: 62 where the handle isn't empty; 21 to 30, a
 /// fault of the parameters; 64 for a master's address over the highest of the bus, or another's over 126; 66 for more
-/// than 246 octets of data; 63 where memory was refused.
+/// than 246 octets of data; 63 where memory was refused. 64 marks may be unread.
 #[unsafe(no_mangle)]
 pub extern "C" fn fdl_port_new(
     alloc: Global,
@@ -47,17 +52,29 @@ pub extern "C" fn fdl_port_new(
         (first_fault (new_codes port.old.value (params_of params.now) master address (length unit.now)))
         ((result ≡ 0) ⊎ (result ≡ 63)) (λ code. result ≡ code) }
 {
-    if let Some(there) = port.take(alloc) {
-        port.put(there);
-        return HANDLE_IN_USE;
-    }
-    match new_station(alloc, params, address, master, unit) {
-        Ok(made) => {
-            port.put(made);
-            0
-        }
-        Err(code) => code,
-    }
+    put_new(alloc, port, MOST_ROOM, params, address, master, unit)
+}
+
+/// The same with room for so many unread marks. Codes, in order: 62; 70 for a room that is not 2 to 64; 21 to 30; 64; 66;
+/// 63.
+#[unsafe(no_mangle)]
+pub extern "C" fn fdl_port_new_with_room(
+    alloc: Global,
+    port: &mut Handle,
+    room: usize,
+    params: &FdlParams,
+    address: u8,
+    master: bool,
+    unit: &[u8],
+) -> u32
+    ensures made { result ≡ 0 → port.new.value
+        ≡ Some (port_with_room room (params_of params.now) address master unit.now) }
+    ensures kept { result ≢ 0 → port.new.value ≡ port.old.value }
+    ensures code { MatchOption (first_fault
+        (room_codes port.old.value room (params_of params.now) master address (length unit.now)))
+        ((result ≡ 0) ⊎ (result ≡ 63)) (λ code. result ≡ code) }
+{
+    put_new(alloc, port, room, params, address, master, unit)
 }
 
 /// Frees the port of a handle, which is empty then.
@@ -279,18 +296,54 @@ pub extern "C" fn fdl_port_turn(
     code
 }
 
+/// Makes a station with room for so many unread marks at an empty handle.
+fn put_new(
+    alloc: Global,
+    port: &mut Handle,
+    room: usize,
+    params: &FdlParams,
+    address: u8,
+    master: bool,
+    unit: &[u8],
+) -> u32
+    ensures made { result ≡ 0 → port.new.value
+        ≡ Some (port_with_room room (params_of params.now) address master unit.now) }
+    ensures kept { result ≢ 0 → port.new.value ≡ port.old.value }
+    ensures code { MatchOption (first_fault
+        (room_codes port.old.value room (params_of params.now) master address (length unit.now)))
+        ((result ≡ 0) ⊎ (result ≡ 63)) (λ code. result ≡ code) }
+{
+    if let Some(there) = port.take(alloc) {
+        port.put(there);
+        return HANDLE_IN_USE;
+    }
+    if is_bad_room(room) {
+        return BAD_ROOM;
+    }
+    match new_station(alloc, room, params, address, master, unit) {
+        Ok(made) => {
+            port.put(made);
+            0
+        }
+        Err(code) => code,
+    }
+}
+
 /// A new station in a box, or the code of the first fault.
 fn new_station(
     alloc: Global,
+    room: usize,
     params: &FdlParams,
     address: u8,
     master: bool,
     unit: &[u8],
 ) -> Result<Box<Port>, u32>
-    ensures made { IfOk result (λ b. (b.value ≡ new_port (params_of params.now) address master unit.now)
-        × (first_fault (new_codes None (params_of params.now) master address (length unit.now)) ≡ None)) }
+    requires { (2 ≤ room) × (room ≤ 64) }
+    ensures made { IfOk result
+        (λ b. (b.value ≡ port_with_room room (params_of params.now) address master unit.now)
+        × (first_fault (station_codes (params_of params.now) master address (length unit.now)) ≡ None)) }
     ensures fault { IfErr result (λ code. (code ≢ 0) × (MatchOption
-        (first_fault (new_codes None (params_of params.now) master address (length unit.now)))
+        (first_fault (station_codes (params_of params.now) master address (length unit.now)))
         (code ≡ 63) (λ first. code ≡ first))) }
 {
     let params = bus_params(params)?;
@@ -300,10 +353,18 @@ fn new_station(
     if unit.len() > MOST_DATA {
         return Err(LONG_DATA);
     }
-    let Ok(port) = Port::new(alloc, params, address, master, copy_octets(unit)) else {
+    let Ok(port) = Port::with_room(alloc, room, params, address, master, copy_octets(unit)) else {
         return Err(NO_MEMORY);
     };
     Box::new(alloc, port).map_err(|_| NO_MEMORY)
+}
+
+/// Whether a port can't have room for so many unread marks.
+fn is_bad_room(room: usize) -> bool
+    ensures value { result ≡ is_bad_room room }
+    ensures room { result ≡ false → (2 ≤ room) × (room ≤ 64) }
+{
+    room < LEAST_ROOM || room > MOST_ROOM
 }
 
 /// Whether a master's address is over the highest of the bus, or another's over 126.

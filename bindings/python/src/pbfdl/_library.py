@@ -118,6 +118,7 @@ _FUNCTIONS = {
     "fdl_receive": [POINTER(ReceiverStruct), c_uint16],
     "fdl_received": [POINTER(ReceiverStruct), POINTER(TelegramStruct)],
     "fdl_port_new": [_HANDLE, _PARAMS, c_uint8, c_bool, *_DATA],
+    "fdl_port_new_with_room": [_HANDLE, c_size_t, _PARAMS, c_uint8, c_bool, *_DATA],
     "fdl_port_start": [_HANDLE, c_uint64],
     "fdl_port_stop": [_HANDLE],
     "fdl_port_push": [_HANDLE, *_REQUEST],

@@ -48,6 +48,7 @@ __all__ = [
     "BadKind",
     "NoRoom",
     "NoIndication",
+    "BadRoom",
     "NoTaps",
     "TooManyTaps",
     "NoBus",
@@ -247,7 +248,7 @@ class TooLong(Fault):
 
 
 class InboxFull(Fault):
-    """64 marks are unread."""
+    """As many marks are unread as the station has room for."""
 
     code = 45
 
@@ -310,6 +311,12 @@ class NoIndication(Fault):
     """The last turn executed no such request."""
 
     code = 69
+
+
+class BadRoom(Fault):
+    """The room of a station is not 2 to 64 marks."""
+
+    code = 70
 
 
 class NoTaps(Fault):

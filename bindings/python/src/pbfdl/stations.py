@@ -21,11 +21,13 @@ from ._library import (
     octets_of,
     whole,
 )
-from .faults import Ahead, Backwards, BadService, BadStation, InboxFull, LongData, QueueFull, TooLate, TooLong
+from .faults import Ahead, Backwards, BadRoom, BadService, BadStation, InboxFull, LongData, QueueFull, TooLate, TooLong
 from .params import Params, checked
 
 LAST_MOMENT = 2**61
 """The last moment of a station, in bit times."""
+LEAST_ROOM, MOST_ROOM = 2, 64
+"""How many unread marks a station has room for."""
 LAST_ADDRESS = 126
 """The last address of a station."""
 ALL_STATIONS = 127
@@ -147,20 +149,27 @@ class Station(Handle):
 
     _free = "fdl_port_free"
 
-    def __init__(self, params: Params, address: int, *, master: bool = True, reply: bytes = b"") -> None:
+    def __init__(
+        self, params: Params, address: int, *, master: bool = True, reply: bytes = b"", room: int = MOST_ROOM
+    ) -> None:
         """A master, or a passive station, that replies to a request for data with `reply`, at most 246 octets.
 
-        It takes about 80 KB; no later call takes memory. Raises `BadStation` for a master's address over `params.hsa`, or
-        another's over 126; `LongData`; `NoMemory`.
+        It has room for so many unread marks, 2 to 64, and takes about 11 KB, and 1.1 KB for each; no later call takes memory.
+        Raises `BadRoom`; `BadStation` for a master's address over `params.hsa`, or another's over 126; `LongData`; `NoMemory`.
         """
         super().__init__()
         params = checked(params)
         allowed = station_addresses(params.hsa, bool(master))
         self._params, self._address, self._master = params, octet("address", address, allowed), bool(master)
         reply = octets_of("reply", reply)
-        words = byref(params._struct()), self._address, self._master, reply, len(reply)
-        texts = lambda: {BadStation: f"address is {address}; allowed: {allowed}", LongData: long_data("reply", reply)}
-        self._call("fdl_port_new", *words, texts=texts)
+        self._room = number("room", room, 2**64 - 1, f"{LEAST_ROOM} to {MOST_ROOM}")
+        words = self._room, byref(params._struct()), self._address, self._master, reply, len(reply)
+        texts = lambda: {
+            BadRoom: f"room is {room}; allowed: {LEAST_ROOM} to {MOST_ROOM}",
+            BadStation: f"address is {address}; allowed: {allowed}",
+            LongData: long_data("reply", reply),
+        }
+        self._call("fdl_port_new_with_room", *words, texts=texts)
 
     @property
     def params(self) -> Params:
@@ -176,6 +185,11 @@ class Station(Handle):
     def master(self) -> bool:
         """Whether it is a master."""
         return self._master
+
+    @property
+    def room(self) -> int:
+        """How many unread marks it has room for, 2 to 64."""
+        return self._room
 
     def start(self, now: int) -> None:
         """It starts: a master listens for the ring, a passive station waits for requests.
@@ -201,7 +215,7 @@ class Station(Handle):
         """Activity of others has begun on the line at the moment `at`, which is told at the moment `seen` (the same if None).
 
         Raises `TooLate`; `Backwards` where `seen` is before an earlier call, or `at` before an earlier mark's own moment, the
-        last turn or the start; `Ahead` where `at` is after `seen`; `InboxFull` (64 marks are unread).
+        last turn or the start; `Ahead` where `at` is after `seen`; `InboxFull` (there is no room for a mark more).
         """
         self._call("fdl_port_begin", *self._moments(at, seen), texts=self._mark_texts(at, seen))
 
@@ -236,15 +250,14 @@ class Station(Handle):
             Backwards: f"now is {now}, before a moment of an earlier call; allowed: that moment and later ones",
         }
 
-    @staticmethod
-    def _mark_texts(at: int, seen: Optional[int], count: int = 0) -> Texts:
+    def _mark_texts(self, at: int, seen: Optional[int], count: int = 0) -> Texts:
         told = at if seen is None else seen
         return lambda: {
             TooLate: f"seen is {told}; allowed: 0 to 2**61",
             Backwards: f"at is {at}, seen is {told}: one is before a moment of an earlier mark or call; allowed: later ones",
             Ahead: f"at is {at}; allowed: at most seen ({told})",
             TooLong: f"there are {count} characters; allowed: 0 to {TELEGRAM_MAX}",
-            InboxFull: "64 marks are unread: take the turn, then repeat this mark",
+            InboxFull: f"{self._room} marks are unread: take the turn, then repeat this mark",
         }
 
     @property

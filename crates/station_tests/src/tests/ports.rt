@@ -68,6 +68,21 @@ fn a_port_refuses_by_name(rt: HostRuntime) {
 }
 
 #[test]
+fn a_port_has_room_for_two_marks(rt: HostRuntime) {
+    let params = BusParams::new(100, 37, 60, 11, 0, 10_000, 10, 5, 1, 0).unwrap();
+    let port = Port::with_room(rt.alloc(), 2, params, 1, true, ArrayVec::new());
+    let mut port = port.expect(&rt, "memory");
+    let mut out = [0; 255];
+    port.start(100).expect(&rt, "start");
+    for _ in 0..2 {
+        port.begin(100, 100).expect(&rt, "begin");
+        port.end(100, 100, &[RxChar::Bad; 255]).expect(&rt, "end");
+        assert!(rt; port.begin(100, 100) == Err(PortFault::InboxFull));
+        assert!(rt; port.turn(100, &mut out) == Ok(0));
+    }
+}
+
+#[test]
 fn a_feed_makes_marks_of_characters(rt: HostRuntime) {
     let mut feed = Feed::new(false);
     assert!(rt; feed.character(11, RxChar::Good(0xdc)) == Err(FeedFault::NoStart));
