@@ -1,8 +1,9 @@
 //! A bus that a caller drives: by events, and by itself up to a moment.
 
-ghost use Rattle.std.specs.Prelude.{◌≡◌};
+ghost use Rattle.std.specs.Prelude.{◌≡◌, IsSome};
 ghost use Rattle.pb_taps.specs.Events.{event_of};
 ghost use Rattle.pb_world.specs.Driven.{Applies};
+ghost use Rattle.pb_world.specs.Premises.{time_in};
 ghost use Rattle.pb_world.specs.Watched.{IsWatched};
 
 use crate::buses::Bus;
@@ -126,18 +127,17 @@ pub(crate) fn apply(watched: &mut Watched, alloc: Global, event: &Event) -> Resu
     }
 }
 
-/// Applies a pass of time. The watch is restored if it is refused; only a pass changes the watch before it can be.
+/// Applies a pass of time, which is tested first: only a pass changes the watch before it can be refused, and the watch
+/// is too large to be copied for each. Kept out of line: else each turn pays for its frame.
+#[inline(never)]
 fn apply_pass(watched: &mut Watched, alloc: Global, event: &Event) -> Result<(), WorldFault>
-    requires { IsWatched watched.old }
+    requires watched { IsWatched watched.old }
+    requires pass { IsSome (time_in (event_of event.now)) }
     ensures applies { Applies watched.old (event_of event.now) result watched.new }
     ensures watched { IsWatched watched.new }
 {
-    let before = watched.watch;
-    match follow(&mut watched.watch, alloc, &mut watched.bus, event) {
-        Ok(()) => Ok(()),
-        Err(fault) => {
-            watched.watch = before;
-            Err(fault)
-        }
+    if let Some(fault) = watched.bus.refusal(event, false) {
+        return Err(fault);
     }
+    follow(&mut watched.watch, alloc, &mut watched.bus, event)
 }

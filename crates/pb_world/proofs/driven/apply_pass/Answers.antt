@@ -1,11 +1,41 @@
+use Rattle.std.proofs.Common.{◌≡◌, ◌∙◌, sym, Result, Ok, Err, None}
+use Rattle.std.specs.Prelude.{IfErr, IsSome, OnOk}
+use Rattle.law_model.specs.Laws.{IsEvent}
+use Rattle.law_model.specs.Step.{step}
+use Rattle.law_model.specs.World.{World, Event, Reply, Fault, Turn, Pass, Damage, Start, Stop, Queue, Noise, Unheard}
 use Rattle.pb_taps.specs.Events.{event_of}
+use Rattle.pb_taps.specs.Faults.{Refuses}
+use Rattle.pb_taps.specs.declared.faults.WorldFault.{WorldFault}
+use Rattle.pb_world.specs.Buses.{IsKept}
+use Rattle.pb_world.specs.Driven.{Applies}
+use Rattle.pb_world.specs.Premises.{GoesOn, Knows, time_in}
+use Rattle.pb_world.specs.Refusals.{fault_of}
+use Rattle.pb_world.specs.Watched.{world_in}
+use Rattle.pb_world.specs.declared.watched.Watched.{Watched}
 use Rattle.pb_world.proofs.Coming.{comes-by}
 use Rattle.pb_world.proofs.driven.apply_pass.Goals as goal
 
-pub returns-in-Ok-clause-applies : goal.returns-in-Ok-clause-applies
-returns-in-Ok-clause-applies c =
-    let steps = c.in-Ok.ensures.steps in (
-      comes-by c.args.watched.now (record { bus = c.follow.new.bus; watch = c.follow.new.watch }) (event_of c.args.event.now) steps.0
-          (record { kept = c.in-Ok.ensures.kept; knows = c.in-Ok.ensures.knows }) c.in-Ok.ensures.event steps.1 c.in-Ok.ensures.stands,
-      steps,
-    )
+-- a pass that its step allows is not refused: it takes no memory
+never : (w : World) (e : Event) (r : Result (World × Reply) Fault) (fault : WorldFault) → IsSome (time_in e) → fault_of r ≡ None → Refuses w e r fault → ⊥
+never w (Pass bits) (Ok next) fault some none refuses = let h = refuses.0 in cc
+never w (Pass bits) (Err f) fault some none refuses = cc
+never w (Turn tap) r fault some none refuses = let h = some in cc
+never w (Damage tap speaker place) r fault some none refuses = let h = some in cc
+never w (Start tap) r fault some none refuses = let h = some in cc
+never w (Stop tap) r fault some none refuses = let h = some in cc
+never w (Queue tap request) r fault some none refuses = let h = some in cc
+never w (Noise bits) r fault some none refuses = let h = some in cc
+never w (Unheard tap speaker) r fault some none refuses = let h = some in cc
+
+applies-pass : (old new : Watched) (e : Event) (r : Result (Unit {0}) WorldFault) → IsSome (time_in e) → fault_of (step (world_in old) e) ≡ None → IsKept new.bus → IsEvent e
+    → OnOk r ((reply : Reply) × (step (world_in old) e ≡ Ok (world_in new, reply))) → OnOk r (Knows new.watch (world_in new)) → OnOk r (GoesOn old.watch (world_in old) e new.watch)
+    → IfErr r (λ fault. (world_in new ≡ world_in old) × Refuses (world_in old) e (step (world_in old) e) fault) → Applies old e r new
+applies-pass old new e (Ok done) pass none kept is steps knows stands err =
+    (comes-by old new e steps.0 (record { kept = kept; knows = knows }) is steps.1 stands, steps)
+applies-pass old new e (Err fault) pass none kept is steps knows stands err = absurd (never (world_in old) e (step (world_in old) e) fault pass none err.1)
+
+pub returns-clause-applies : goal.returns-clause-applies
+returns-clause-applies c =
+    let new : Watched = record { bus = c.follow.new.bus; watch = c.follow.new.watch } in
+    applies-pass c.args.watched.now new (event_of c.args.event.now) c.follow.result c.requires.pass (sym c.refusal.ensures ∙ c.in_default.is)
+    c.follow.ensures.kept c.follow.ensures.event c.follow.ensures.steps c.follow.ensures.knows c.follow.ensures.stands c.follow.ensures.err
