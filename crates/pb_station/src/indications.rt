@@ -9,14 +9,11 @@ ghost use Rattle.pb_station.specs.Notes.{chars_of, octets_of, mark_with};
 ghost use Rattle.pb_transitions.specs.Arrivals.{brings};
 ghost use Rattle.law_turn.specs.Arrivals.{arrival_of};
 
-use crate::inboxes::MARK_LIMIT;
 use crate::notes::Note;
 use arrayvec::ArrayVec;
 use pb_cycles::{Asked, Frame, Message, Service};
 use pb_telegram::{Fc, RxChar, Telegram, copy_octets};
 use pb_transitions::{spelled_telegram, whole_telegram};
-use std::alloc::{AllocError, Global};
-use std::marker::Model;
 
 /// A request of another station that a station has executed (EN 50170-2, message cycles).
 #[derive(Debug, PartialEq, Eq, Drop)]
@@ -31,101 +28,8 @@ pub struct Indication {
     pub unit: ArrayVec<u8, 246>,
 }
 
-/// The requests that a station executed in a turn, with memory reserved for as many as there may be, 64.
-#[derive(Debug, Drop)]
-pub struct Indications {
-    list: Vec<Indication>,
-}
-
-impl Model for Indications {
-    ghost use Rattle.std.specs.Prelude.{◌≤◌, List, map};
-    ghost use Rattle.std.specs.Vec.{vec_capacity};
-    ghost use Rattle.pb_station.specs.Indications.{IndicationFields, fields_of};
-
-    ghost Value = { List IndicationFields };
-
-    ghost view = { λ i. map fields_of i.list.items };
-
-    ghost invariant = { λ i. 64 ≤ vec_capacity i.list };
-}
-
-impl Indications {
-    ghost use Rattle.std.specs.Prelude.{◌≡◌, ◌<◌, ◌++◌, ◌∷◌, [], IfOk, length, map};
-    ghost use Rattle.pb_station.specs.Indications.{fields_of};
-
-    /// None, with memory for all that there may be.
-    ///
-    /// Fault: memory was refused.
-    pub fn new(alloc: Global) -> Result<Indications, AllocError>
-        ensures { IfOk result (λ i. i ≡ []) }
-    {
-        let list = Vec::with_capacity(alloc, MARK_LIMIT)?;
-        Ok(Indications { list })
-    }
-
-    /// The requests, in the order in which they were executed.
-    pub fn as_slice(&self) -> &[Indication]
-        ensures { map fields_of result.now ≡ self.now }
-    {
-        &self.list
-    }
-
-    /// Removes all.
-    pub fn clear(&mut self)
-        ensures { self.new ≡ [] }
-    {
-        self.list.clear();
-    }
-
-    /// Appends a request.
-    fn push(&mut self, indication: Indication)
-        requires { length self.old < 64 }
-        ensures { self.new ≡ self.old ++ fields_of indication ∷ [] }
-    {
-        self.list.push_reserved(indication);
-    }
-}
-
-/// Appends the request in a mark that was read, if it was executed: the count of executed requests has changed.
-pub(crate) fn tell(
-    told: &mut Indications,
-    before: u64,
-    after: u64,
-    note: &Note,
-    chars: &[RxChar],
-    octets: &[u8],
-)
-    requires room { length told.old < 64 }
-    requires chars { chars_of note.now ≤ length chars.now }
-    requires octets { octets_of note.now ≤ length octets.now }
-    ensures told { let mark = mark_with note.now (take (chars_of note.now) chars.now)
-        (take (octets_of note.now) octets.now) in
-        told.new ≡ told.old ++ with_front (executed_in before after mark) [] }
-    ensures few { length told.new ≤ length told.old + 1 }
-{
-    if before == after {
-        return;
-    }
-    tell_request(told, note, chars, octets);
-}
-
-/// Appends the request in a mark. Kept out of line: its frame has room for the longest telegram.
-#[inline(never)]
-fn tell_request(told: &mut Indications, note: &Note, chars: &[RxChar], octets: &[u8])
-    requires room { length told.old < 64 }
-    requires chars { chars_of note.now ≤ length chars.now }
-    requires octets { octets_of note.now ≤ length octets.now }
-    ensures told { let mark = mark_with note.now (take (chars_of note.now) chars.now)
-        (take (octets_of note.now) octets.now) in
-        told.new ≡ told.old ++ with_front (request_in (arrival_of (brought mark))) [] }
-    ensures few { length told.new ≤ length told.old + 1 }
-{
-    if let Some(indication) = request_of(&telegram_of(note, chars, octets)) {
-        told.push(indication);
-    }
-}
-
-/// The same in a list, within its reserved memory.
+/// Appends the request in a mark that was read, if it was executed: the count of executed requests has changed. The
+/// caller ensures that the list has memory for it.
 pub(crate) fn tell_into(
     told: &mut Vec<Indication>,
     before: u64,
@@ -149,7 +53,7 @@ pub(crate) fn tell_into(
     }
 }
 
-/// Appends the request in a mark to a list. Kept out of line for the same reason.
+/// Appends the request in a mark. Kept out of line: its frame has room for the longest telegram.
 #[inline(never)]
 fn push_request(told: &mut Vec<Indication>, note: &Note, chars: &[RxChar], octets: &[u8])
     requires room { length told.old.items < vec_capacity told.old }

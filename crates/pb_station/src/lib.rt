@@ -18,7 +18,7 @@ mod turns;
 
 pub use decisions::{Decided, Decision, Glance, decide, decide_in, due};
 pub use inboxes::{Inbox, MARK_LIMIT};
-pub use indications::{Indication, Indications};
+pub use indications::Indication;
 pub use mailboxes::Mailbox;
 pub use marks::Mark;
 pub use pb_faults::NoMemory;

@@ -18,7 +18,7 @@ ghost use Rattle.pb_station.specs.Notes.{chars_of, octets_of, mark_with, marks_i
 ghost use Rattle.pb_telegram.specs.declared.chars.RxChar.TheVariants.{Good, Bad};
 
 use crate::inboxes::Unread;
-use crate::indications::{Indication, Indications, tell, tell_into};
+use crate::indications::{Indication, tell_into};
 use crate::marks::Mark;
 use crate::notes::Note;
 use pb_telegram::RxChar;
@@ -59,45 +59,8 @@ pub(crate) fn after_notes(
     }
 }
 
-/// The same, and appends the requests that the station executes.
-pub(crate) fn after_notes_telling(
-    phase: &mut Phase,
-    kept: &mut Kept,
-    params: &BusParams,
-    unread: &Unread<'_>,
-    now: Moment,
-    told: &mut Indications,
-)
-    requires clock { now ≤ last_turn }
-    requires over { AllOver now (marks_in unread.now.notes.now unread.now.chars.now unread.now.octets.now) }
-    requires of { AreOf unread.now.notes.now unread.now.chars.now unread.now.octets.now }
-    requires none { told.old ≡ [] }
-    requires few { length unread.now.notes.now ≤ 64 }
-    ensures read { let u = unread.now in
-        Becomes (λ s. after_marks params.now s (marks_in u.notes.now u.chars.now u.octets.now))
-        kept.old (phase_of phase.old) kept.new (phase_of phase.new) }
-    ensures told { let u = unread.now in
-        (queue : Queued) → told.new
-        ≡ indications_of params.now (station_with kept.old queue (phase_of phase.old))
-        (marks_in u.notes.now u.chars.now u.octets.now) }
-{
-    let Unread {
-        notes,
-        chars,
-        octets,
-    } = *unread;
-    let mut left = Left { chars, octets };
-    for note in notes {
-        after_timer(phase, kept, params, note.moment());
-        let before = kept.cycles.responder.executed();
-        let behind = after_note(phase, kept, params, note, left.chars, left.octets);
-        let after = kept.cycles.responder.executed();
-        tell(told, before, after, note, left.chars, left.octets);
-        left = behind;
-    }
-}
-
-/// The same, and replaces the content of a list by the requests. It has memory for as many as there are marks.
+/// The same, and replaces the content of `told` by the requests of others that the station executes. It has memory for
+/// as many as there are marks.
 pub(crate) fn after_notes_into(
     phase: &mut Phase,
     kept: &mut Kept,

@@ -8,12 +8,10 @@ ghost use Rattle.law_turn.specs.Phases as phases;
 ghost use Rattle.pb_tokenfsm.specs.Phases.{phase_of};
 
 use crate::inboxes::Inbox;
-use crate::indications::Indications;
 use crate::mailboxes::Mailbox;
 use crate::marks::Mark;
 use crate::turns::{
-    due_of, due_on, due_with, is_overdue, read_on, speak_on, take_turn, take_turn_telling,
-    take_turn_with, would_speak,
+    due_of, due_on, due_with, is_overdue, read_on, speak_on, take_turn, take_turn_with, would_speak,
 };
 use arrayvec::ArrayVec;
 use pb_cycles::{Outcome, Queue, Request};
@@ -332,24 +330,6 @@ impl Station {
     {
         let Parts { params, core, .. } = &mut *self.parts;
         take_turn(core, params, inbox, now, out);
-    }
-
-    /// Takes the same turn, and replaces the content of `told` by the requests of others that the station executes in
-    /// it, in order: those by which [`executed`](Station::executed) grows.
-    pub fn take_turn_telling(
-        &mut self,
-        inbox: &Inbox,
-        now: Moment,
-        out: &mut SendBuffer,
-        told: &mut Indications,
-    )
-        requires clock { now ≤ last_turn }
-        requires over { AllOver now inbox.now }
-        ensures turn { (self.new, out.new) ≡ turned self.old inbox.now now }
-        ensures told { told.new ≡ indications_of self.old.params self.old.station inbox.now }
-    {
-        let Parts { params, core, .. } = &mut *self.parts;
-        take_turn_telling(core, params, inbox, now, out, told);
     }
 
     /// Takes the same turn with the unread marks of a mailbox, which are removed. The mailbox then has the requests of

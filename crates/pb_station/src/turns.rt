@@ -14,10 +14,9 @@ ghost use Rattle.pb_station.specs.Mailboxes.{read_mail};
 ghost use Rattle.pb_station.specs.MarkViews.{mark_of, AllOver, AreOver};
 
 use crate::inboxes::{Inbox, Unread};
-use crate::indications::Indications;
 use crate::mailboxes::Mailbox;
 use crate::marks::Mark;
-use crate::reading::{after_marks, after_notes, after_notes_telling};
+use crate::reading::{after_marks, after_notes};
 use pb_timers::{BusParams, Moment};
 use pb_tokenfsm::Phase;
 use pb_transitions::{
@@ -46,32 +45,6 @@ pub(crate) fn take_turn(
         waiting,
     } = core;
     settle(phase, kept, params, inbox, now);
-    speak(phase, kept, waiting, params, now, out);
-}
-
-/// The same turn; `told` becomes the requests that the station executes in it.
-pub(crate) fn take_turn_telling(
-    core: &mut Core,
-    params: &BusParams,
-    inbox: &Inbox,
-    now: Moment,
-    out: &mut SendBuffer,
-    told: &mut Indications,
-)
-    requires clock { now ≤ last_turn }
-    requires over { AllOver now inbox.now }
-    requires received { HasReceived (station_of core.old) }
-    ensures turn { (station_of core.new, out.new)
-        ≡ turn_of params.now (station_of core.old) inbox.now now }
-    ensures received { HasReceived (station_of core.new) }
-    ensures told { told.new ≡ indications_of params.now (station_of core.old) inbox.now }
-{
-    let Core {
-        phase,
-        kept,
-        waiting,
-    } = core;
-    settle_telling(phase, kept, params, inbox, now, told);
     speak(phase, kept, waiting, params, now, out);
 }
 
@@ -237,27 +210,6 @@ fn settle(phase: &mut Phase, kept: &mut Kept, params: &BusParams, inbox: &Inbox,
         octets,
     } = inbox.unread();
     after_notes(phase, kept, params, notes, chars, octets, now);
-    after_timer(phase, kept, params, after(now, 1));
-}
-
-/// The same; `told` becomes the requests that the station executes.
-fn settle_telling(
-    phase: &mut Phase,
-    kept: &mut Kept,
-    params: &BusParams,
-    inbox: &Inbox,
-    now: Moment,
-    told: &mut Indications,
-)
-    requires clock { now ≤ last_turn }
-    requires over { AllOver now inbox.now }
-    ensures read { Becomes (λ s. settled params.now s inbox.now now)
-        kept.old (phase_of phase.old) kept.new (phase_of phase.new) }
-    ensures told { (queue : Queued) → told.new
-        ≡ indications_of params.now (station_with kept.old queue (phase_of phase.old)) inbox.now }
-{
-    told.clear();
-    after_notes_telling(phase, kept, params, &inbox.unread(), now, told);
     after_timer(phase, kept, params, after(now, 1));
 }
 
