@@ -10,7 +10,8 @@ use Rattle.pb_taps.specs.Faults.{new_fault}
 use Rattle.pb_taps.specs.declared.faults.WorldFault.{WorldFault}
 use Rattle.pb_world.specs.Driven.{Applies}
 use Rattle.pb_world.specs.RunTo.{HasRun, HasStopped}
-use Rattle.pb_world.specs.Watched.{HasCome, world_in}
+use Rattle.pb_world.specs.Acted.{HasActed}
+use Rattle.pb_world.specs.Watched.{world_in}
 use Rattle.pb_world.specs.declared.watched.Watched.{Watched}
 use Rattle.pbfdl.specs.BusCodes.{new_fault_code, result_code}
 use Rattle.pbfdl.specs.Calls.{is_bad_station, params_code}
@@ -46,7 +47,7 @@ bus_codes there p taps =
 
 -- a new bus is made, or memory is refused; or the code is that of the first fault of its taps
 abbrev pub Makes : Result World NewFault → ℕ → Option Watched → Type 0
-Makes (Ok w) code new = (code ≡ 63) ⊎ ((code ≡ 0) × ((b : Watched) × (new ≡ Some b) × (world_in b ≡ w) × HasCome b w []))
+Makes (Ok w) code new = (code ≡ 63) ⊎ ((code ≡ 0) × ((b : Watched) × (new ≡ Some b) × (world_in b ≡ w) × HasActed b w []))
 Makes (Err fault) code new = code ≡ new_fault_code (new_fault fault)
 
 -- a call with an event: it happens, or is refused with the code of its fault, and nothing has happened
