@@ -8,7 +8,7 @@ use Rattle.law_model.specs.Medium.{TapSpec}
 use Rattle.law_model.specs.World.{World, Event, NewFault, clock_limit, new_faults}
 use Rattle.pb_taps.specs.Faults.{new_fault}
 use Rattle.pb_taps.specs.declared.faults.WorldFault.{WorldFault}
-use Rattle.pb_world.specs.Driven.{Applies}
+use Rattle.pb_world.specs.Driven.{Applies, SetsReply}
 use Rattle.pb_world.specs.RunTo.{HasRun, HasStopped}
 use Rattle.pb_world.specs.Acted.{HasActed}
 use Rattle.pb_world.specs.Watched.{world_in}
@@ -54,6 +54,11 @@ Makes (Err fault) code new = code ≡ new_fault_code (new_fault fault)
 abbrev pub Meets : Watched → Event → ℕ → Option Watched → Type 0
 Meets b e code new = (next : Watched) × (new ≡ Some next)
     × (answer : Result (Unit {0}) WorldFault) × (code ≡ result_code answer) × Applies b e answer next
+
+-- a call with other data of a tap: they change, or there is no such tap, and nothing has changed
+abbrev pub SetsAt : Watched → ℕ → List ℕ → ℕ → Option Watched → Type 0
+SetsAt b tap unit code new = (next : Watched) × (new ≡ Some next)
+    × (answer : Result (Unit {0}) WorldFault) × (code ≡ result_code answer) × SetsReply b tap unit answer next
 
 -- the character that is damaged; a number over 255 means all
 abbrev pub place_of : ℕ → Option ℕ
