@@ -484,6 +484,12 @@ uint32_t fdl_bus_unheard(struct fdl_bus *bus, size_t tap, size_t speaker);
 uint32_t fdl_bus_queue(struct fdl_bus *bus, size_t tap, uint8_t da, uint8_t service, bool high, const uint8_t *data,
                        size_t count);
 
+/* The station at a tap replies to the next request for data (SRD) with these count octets, at most 246; with none, that it has
+ * no data. This is no event: nothing else changes, and fdl_bus_audit judges the events alone. A repeat of the last request
+ * still gets the reply that was sent.
+ * Codes: FDL_LONG_DATA, FDL_NO_BUS, FDL_NO_SUCH_TAP. */
+uint32_t fdl_bus_set_reply(struct fdl_bus *bus, size_t tap, const uint8_t *reply, size_t count);
+
 /* The bus runs to the moment `until`: instant by instant, the turns that are due, in the order of the taps, then time to the
  * next instant, as `ringplay run` plays between steps. The turns that are due now are taken first, and those that are due at
  * `until` too: a caller that acts at that moment before its turns, as a step of a scenario does, runs to until - 1 and lets

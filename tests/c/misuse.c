@@ -304,6 +304,8 @@ static void on_an_empty_bus(void)
     WANT(FDL_LONG_DATA, fdl_bus_queue(&bus, 0, 127, FDL_SDA, false, octets, 247));
     WANT(FDL_BAD_STATION, fdl_bus_queue(&bus, 0, 127, FDL_SDA, false, octets, 1));
     WANT(FDL_NO_BUS, fdl_bus_queue(&bus, 0, 2, FDL_SDA, false, octets, 1));
+    WANT(FDL_LONG_DATA, fdl_bus_set_reply(&bus, 0, octets, 247));
+    WANT(FDL_NO_BUS, fdl_bus_set_reply(&bus, 0, octets, 246));
     WANT(FDL_NO_BUS, fdl_bus_run(&bus, 0));
     WANT(FDL_NO_BUS, fdl_bus_now(&bus, &moment));
     WANT(FDL_NO_BUS, fdl_bus_due(&bus, 0, &moment));
@@ -365,6 +367,8 @@ static void on_events(void)
     for (int i = 0; i < 16; i++)
         WANT(FDL_OK, fdl_bus_queue(&bus, 1, 127, FDL_SDN, true, octets, 246));
     WANT(FDL_QUEUE_FULL, fdl_bus_queue(&bus, 1, 2, FDL_SDA, true, octets, 1));
+    WANT(FDL_NO_SUCH_TAP, fdl_bus_set_reply(&bus, 3, octets, 1));
+    WANT(FDL_OK, fdl_bus_set_reply(&bus, 2, octets, 0));
     WANT(FDL_ZERO_TIME, fdl_bus_pass(&bus, 0));
     WANT(FDL_CLOCK_FULL, fdl_bus_pass(&bus, UINT64_MAX));
     WANT(FDL_CLOCK_FULL, fdl_bus_pass(&bus, 1000000000001));

@@ -311,6 +311,19 @@ class Buses(unittest.TestCase):
         self.assertEqual(str(bus.audit()), "premises kept\ntrace legal")
         self.assertTrue(bus.audit().is_clean)
 
+    def test_other_data_between_events(self):
+        bus = self.ring()
+        bus.run(2000)
+        bus.set_reply(2, b"\xcc")
+        bus.queue(0, 9, Service.SRD)
+        bus.run(4000)
+        self.assertEqual(bus.outcome(0), pbfdl.Outcome(OutcomeKind.DATA, 9, b"\xcc"))
+        self.assertEqual(str(bus.audit()), "premises kept\ntrace legal")
+        with self.assertRaises(pbfdl.LongData):
+            bus.set_reply(2, bytes(247))
+        with self.assertRaises(pbfdl.NoSuchTap):
+            bus.set_reply(3, b"")
+
     def test_a_trace_is_a_sequence(self):
         bus = self.ring()
         bus.run(845)

@@ -167,6 +167,15 @@ impl Bus {
         check(unsafe { sys::fdl_bus_queue(self.at(), tap, da, service as u8, high, data.as_ptr(), data.len()) })
     }
 
+    /// A tap replies to the next request for data with at most 246 octets; with none, that it has no data. This is no event: nothing
+    /// else changes, and [`Bus::audit`] judges the events alone. A repeat of the last request still gets the reply that was sent.
+    ///
+    /// # Errors
+    /// `LongData`.
+    pub fn set_reply(&mut self, tap: usize, reply: &[u8]) -> Result<(), Fault> {
+        check(unsafe { sys::fdl_bus_set_reply(self.at(), tap, reply.as_ptr(), reply.len()) })
+    }
+
     /// The bus runs to the moment `until`: instant by instant the due turns, in the order of the taps, then time to the next.
     ///
     /// The turns that are due at `until` are taken, too, so what the caller does then comes after them. (`ringplay run` does the steps

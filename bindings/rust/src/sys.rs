@@ -221,6 +221,7 @@ extern "C" {
     pub fn fdl_bus_damage(bus: *mut fdl_bus, tap: usize, speaker: usize, place: u32) -> u32;
     pub fn fdl_bus_unheard(bus: *mut fdl_bus, tap: usize, speaker: usize) -> u32;
     pub fn fdl_bus_queue(bus: *mut fdl_bus, tap: usize, da: u8, service: u8, high: bool, data: *const u8, count: usize) -> u32;
+    pub fn fdl_bus_set_reply(bus: *mut fdl_bus, tap: usize, reply: *const u8, count: usize) -> u32;
     pub fn fdl_bus_run(bus: *mut fdl_bus, until: u64) -> u32;
     pub fn fdl_bus_now(bus: *mut fdl_bus, now: *mut u64) -> u32;
     pub fn fdl_bus_due(bus: *mut fdl_bus, tap: usize, at: *mut u64) -> u32;

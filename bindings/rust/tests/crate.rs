@@ -168,6 +168,19 @@ fn a_bus_runs_and_is_judged() {
 }
 
 #[test]
+fn a_tap_replies_with_other_data() {
+    let mut bus = ring();
+    bus.run(2000).unwrap();
+    bus.set_reply(2, &[0xcc]).unwrap();
+    bus.queue(0, 9, Service::Srd, Priority::Low, &[]).unwrap();
+    bus.run(4000).unwrap();
+    assert_eq!(bus.outcome(0), Ok(Some(Outcome::Data(9, vec![0xcc]))));
+    assert_eq!(bus.audit().to_string(), "premises kept\ntrace legal");
+    assert_eq!(bus.set_reply(2, &[0; 247]), Err(Fault::LongData));
+    assert_eq!(bus.set_reply(3, &[]), Err(Fault::NoSuchTap));
+}
+
+#[test]
 fn an_audit_finds_a_lost_telegram() {
     let mut bus = ring();
     bus.run(800).unwrap();

@@ -2,16 +2,18 @@
 use Rattle.std.proofs.Common.{◌≡◌, ◌∙◌, ℕ, suc, ◌+◌, ◌-◌, ◌<◌, ◌≤◌, List, [], ◌∷◌, ◌++◌, append_assoc, append-nil, length, map, drop, slice_get, Bool, if◌then◌else◌, Option, Some, None, Result, Ok, Err, refl, ap, sym, subst, arith}
 use Rattle.std.specs.Prelude.{IfSome, unwrap_or}
 use Rattle.std.proofs.lemmas.Bool.{lt-ltb}
-use Rattle.std.proofs.lemmas.List.{drop_all, length-map}
+use Rattle.std.proofs.lemmas.List.{drop_all, length-map, map-append}
 use Rattle.law_model.specs.World.{World, Event, Turn, Pass, Reply, Fault}
 use Rattle.law_model.specs.Step.{step}
 use Rattle.law_runs.specs.Runs.{Plan, all, and_then, ending, next, on_ok, passing, places, run, turns, wanted, wants, with_front}
 use Rattle.law_runs.specs.Bus.{bus, due_in, dues, next_change}
 use Rattle.pb_taps.specs.Faults.{Refuses}
 use Rattle.pb_taps.specs.declared.faults.WorldFault.{WorldFault}
+use Rattle.law_token.specs.Actions.{Happens}
+use Rattle.pb_world.specs.Acted.{HasActed}
 use Rattle.pb_world.specs.Driven.{Applies, ComesOn, Stays}
 use Rattle.pb_world.specs.RunTo.{alone_until, GoesOn, Happened, HasRun, HasStopped, passes_to, Plays, run_to, run_with, Stopped, StopsIn, turn_if}
-use Rattle.pb_world.specs.Watched.{GoesOnBy, HasCome, IsWatched, world_in}
+use Rattle.pb_world.specs.Watched.{IsWatched, world_in}
 use Rattle.pb_world.specs.Worlds.{due_at}
 use Rattle.pb_world.specs.declared.watched.Watched.{Watched}
 use Rattle.pb_world.proofs.Instants.{all-append, due-get, front-front, no-front, one-ok, others-due, turns-append, turns-list, turn_list, wanted-front}
@@ -19,10 +21,12 @@ use Rattle.pb_world.proofs.Instants.{all-append, due-get, front-front, no-front,
 -- ---- events of a moment
 
 pub happened-none : (now : ℕ) (w : Watched) → IsWatched w → Happened now w [] w
-happened-none now w watched = record { world = refl; comes = λ start events came. subst (HasCome w start) (sym (append-nil events)) came; watched = watched }
+happened-none now w watched = record { world = refl; comes = λ start actions came. subst (HasActed w start) (sym (append-nil actions)) came; watched = watched }
 
 comes-join : (a b c : Watched) (xs ys : List Event) → ComesOn a xs b → ComesOn b ys c → ComesOn a (xs ++ ys) c
-comes-join a b c xs ys one two start events came = subst (HasCome c start) (append_assoc events xs ys) (two start (events ++ xs) (one start events came))
+comes-join a b c xs ys one two start actions came =
+    subst (HasActed c start) (append_assoc actions (map Happens xs) (map Happens ys) ∙ ap (λ more. actions ++ more) (sym (map-append Happens xs ys)))
+    (two start (actions ++ map Happens xs) (one start actions came))
 
 pub happened-join : (now : ℕ) (a b c : Watched) (xs ys : List Event) → Happened now a xs b → Happened now b ys c → Happened now a (xs ++ ys) c
 happened-join now a b c xs ys one two = record {
@@ -31,7 +35,7 @@ happened-join now a b c xs ys one two = record {
   watched = two.watched;
 }
 
-one-happened : (now : ℕ) (old new : Watched) (e : Event) (reply : Reply) → IsWatched new → GoesOnBy old e new → step (world_in old) e ≡ Ok (world_in new, reply) → Happened now old (e ∷ []) new
+one-happened : (now : ℕ) (old new : Watched) (e : Event) (reply : Reply) → IsWatched new → ComesOn old (e ∷ []) new → step (world_in old) e ≡ Ok (world_in new, reply) → Happened now old (e ∷ []) new
 one-happened now old new e reply watched comes goes = record { world = one-ok now (world_in old) (world_in new) reply e [] goes; comes = comes; watched = watched }
 
 one-stopped : (now : ℕ) (old new : Watched) (e : Event) (fault : WorldFault) → IsWatched new → Stays old new → Refuses (world_in old) e (step (world_in old) e) fault → Stopped now old (e ∷ []) fault new
@@ -42,7 +46,7 @@ one-stopped now old new e fault watched stays why = record {
   cut = refl;
   happened = record {
     world = ap (λ (w : World). Ok w) (sym stays.world);
-    comes = λ start events came. subst (HasCome new start) (sym (append-nil events)) (stays.came start events came);
+    comes = λ start actions came. subst (HasActed new start) (sym (append-nil actions)) (stays.came start actions came);
     watched = watched;
   };
   why = subst (λ (w : World). Refuses w e (step w e) fault) (sym stays.world) why;

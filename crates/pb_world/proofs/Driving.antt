@@ -3,21 +3,25 @@ use Rattle.std.proofs.Common.{◌≡◌, ◌∙◌, ℕ, List, None, Result, Ok,
 use Rattle.std.specs.Prelude.{IfErr, OnErr, OnOk}
 use Rattle.law_model.specs.World.{World, Event, Reply}
 use Rattle.law_model.specs.Step.{step}
+use Rattle.law_turn.specs.Laws.{Fits}
 use Rattle.law_model.specs.Laws.{IsEvent}
 use Rattle.law_runs.specs.Watching.{StandsFor}
-use Rattle.law_live.specs.Promises.{LeadTo}
+use Rattle.law_token.specs.Actions.{Happens, Sets, acted}
+use Rattle.law_live.specs.Actions.{ActedTo}
 use Rattle.pb_taps.specs.Events.{event_of}
 use Rattle.pb_taps.specs.Faults.{Refuses}
 use Rattle.pb_taps.specs.declared.events.Event as taps
 use Rattle.pb_taps.specs.declared.events.Event.TheVariants as event
 use Rattle.pb_taps.specs.declared.faults.WorldFault.{WorldFault}
 use Rattle.pb_world.specs.Buses.{IsKept}
-use Rattle.pb_world.specs.Driven.{Applies, Stays}
-use Rattle.pb_world.specs.Premises.{course_at, GoesOn, Knows, time_in, watched_of}
-use Rattle.pb_world.specs.Watched.{HasCome, IsWatched, world_in}
+use Rattle.pb_world.specs.Acted.{course_from}
+use Rattle.pb_world.specs.Data.{SetsData}
+use Rattle.pb_world.specs.Driven.{Applies, SetsReply, Stays}
+use Rattle.pb_world.specs.Premises.{GoesOn, Knows, time_in, watched_of}
+use Rattle.pb_world.specs.Watched.{IsWatched, world_in}
 use Rattle.pb_world.specs.declared.premises.Watch.{Watch}
 use Rattle.pb_world.specs.declared.watched.Watched.{Watched}
-use Rattle.pb_world.proofs.Coming.{comes-by}
+use Rattle.pb_world.proofs.Acting.{acts-by, knows-set, stands-set}
 
 -- no time passes in another event than a pass
 pub no-time : (e : taps.Event) → ((bits : ℕ) → e ≡ event.Pass bits → ⊥) → time_in (event_of e) ≡ None
@@ -39,11 +43,11 @@ same-watch old new world watch kept watched =
       now,
       record {
         world = world;
-        came = λ start events came. record {
+        came = λ start actions came. record {
           watched = now;
-          lead = subst (λ (w : World). LeadTo start events w) (sym world) came.lead;
+          lead = subst (λ (w : World). ActedTo start actions w) (sym world) came.lead;
           here = came.here ∙ sym world;
-          stands = subst (λ (v : Watch). StandsFor (watched_of v) (course_at start events)) (sym watch) came.stands;
+          stands = subst (λ (v : Watch). StandsFor (watched_of v) (course_from start actions)) (sym watch) came.stands;
         };
       },
     )
@@ -55,7 +59,23 @@ pub applies-so : (old new : Watched) (e : Event) (r : Result (Unit {0}) WorldFau
     → Applies old e r new × IsWatched new
 applies-so old new e (Ok done) none watched kept is steps knows stands err stays =
     let now : IsWatched new = record { kept = kept; knows = knows } in
-    ((comes-by old new e steps.0 now is steps.1 stands, steps), now)
+    ((acts-by old new (Happens e) now is steps stands, steps), now)
 applies-so old new e (Err fault) none watched kept is steps knows stands err stays =
     let same = same-watch old new err.0 (stays none) kept watched in
     ((same.1, err.1), same.0)
+
+-- what follows other data of a tap
+pub sets-so : (old new : Watched) (tap : ℕ) (unit : List ℕ) (r : Result (Unit {0}) WorldFault) → IsWatched old → IsKept new.bus → new.watch ≡ old.watch → Fits unit → SetsData (world_in old) tap unit r (world_in new)
+    → SetsReply old tap unit r new × IsWatched new
+sets-so old new tap unit (Ok done) watched kept watch fits sets =
+    let now : IsWatched new = record { kept = kept; knows = subst (λ (v : Watch). Knows v (world_in new)) (sym watch) (knows-set old.watch (world_in old) (world_in new) tap unit sets watched.knows) } in (
+      record {
+        sets = sets;
+        acts = acts-by old new (Sets tap unit) now fits sets
+            (λ c at s. subst (λ (v : Watch). StandsFor (watched_of v) (acted c (Sets tap unit))) (sym watch) (stands-set (watched_of old.watch) c (world_in old) (world_in new) tap unit at sets s));
+        stays = tt;
+      },
+      now,
+    )
+sets-so old new tap unit (Err fault) watched kept watch fits sets =
+    let same = same-watch old new sets.0 watch kept watched in (record { sets = sets; acts = tt; stays = same.1 }, same.0)

@@ -19,6 +19,7 @@ pub mod Measuring
 pub mod LettingGo
 pub mod Counting
 pub mod Instants
+pub mod Acting
 pub mod Driving
 pub mod Alone
 pub mod SoundData

@@ -19,5 +19,6 @@ pub mod Reasons
 pub mod Liveness
 pub mod Replying
 pub mod Data
+pub mod Acted
 pub mod Driven
 pub mod RunTo

@@ -2,7 +2,7 @@
 
 ghost use Rattle.std.specs.Prelude.{◌≡◌, IsSome};
 ghost use Rattle.pb_taps.specs.Events.{event_of};
-ghost use Rattle.pb_world.specs.Driven.{Applies};
+ghost use Rattle.pb_world.specs.Driven.{Applies, SetsReply};
 ghost use Rattle.pb_world.specs.Premises.{time_in};
 ghost use Rattle.pb_world.specs.Watched.{IsWatched};
 
@@ -10,14 +10,15 @@ use crate::buses::Bus;
 use crate::findings::Audit;
 use crate::premises::follow;
 use crate::run_to::run_to;
-use crate::watched::{Watched, new_watched};
+use crate::watched::{Watched, findings, new_watched};
+use arrayvec::ArrayVec;
 use pb_taps::{Event, NewFault, TapSpec, WorldFault};
 use pb_timers::BusParams;
 use std::alloc::Global;
 use std::marker::Model;
 
-/// A watched bus to which events have led from a new one. A refused event changes nothing, so that a caller may go on
-/// after it.
+/// A watched bus to which events have led from a new one, and between them changes of the data with which taps reply.
+/// What is refused changes nothing, so that a caller may go on after it.
 ///
 /// ```
 /// let alloc = rt.alloc();
@@ -45,14 +46,14 @@ pub struct DrivenBus {
 }
 
 impl Model for DrivenBus {
-    ghost use Rattle.pb_world.specs.Watched.{IsOfNew};
+    ghost use Rattle.pb_world.specs.Acted.{IsOfActions};
     ghost use Rattle.pb_world.specs.declared.watched.Watched.{Watched};
 
     ghost Value = { Watched };
 
     ghost view = { λ b. b.watched };
 
-    ghost invariant = { λ b. IsOfNew b.watched };
+    ghost invariant = { λ b. IsOfActions b.watched };
 }
 
 impl DrivenBus {
@@ -62,16 +63,17 @@ impl DrivenBus {
     ghost use Rattle.pb_taps.specs.Faults.{RefusesNew};
     ghost use Rattle.pb_taps.specs.Taps.{spec_of};
     ghost use Rattle.pb_world.specs.Buses.{IsKept};
-    ghost use Rattle.pb_world.specs.Driven.{Applies};
+    ghost use Rattle.pb_world.specs.Acted.{FindsBy, HasActed};
+    ghost use Rattle.pb_world.specs.Driven.{Applies, SetsReply};
     ghost use Rattle.pb_world.specs.RunTo.{HasRun, HasStopped};
-    ghost use Rattle.pb_world.specs.Watched.{FindsIn, HasCome, world_in};
+    ghost use Rattle.pb_world.specs.Watched.{world_in};
 
     /// A bus at clock 0. No tap runs yet.
     ///
     /// Faults: those of the new bus.
     pub fn new(alloc: Global, params: BusParams, specs: &[TapSpec]) -> Result<DrivenBus, NewFault>
         ensures new { IfOk result (λ b. new_world params (map spec_of specs.now) ≡ Ok (world_in b)) }
-        ensures came { IfOk result (λ b. HasCome b (world_in b) []) }
+        ensures came { IfOk result (λ b. HasActed b (world_in b) []) }
         ensures fault { IfErr result (RefusesNew (new_world params (map spec_of specs.now))) }
     {
         let watched = new_watched(alloc, params, specs)?;
@@ -99,11 +101,21 @@ impl DrivenBus {
         run_to(&mut self.watched, alloc, until)
     }
 
+    /// Changes the data with which the station at a tap replies to the next request for data, between two events. A
+    /// repeat of the last request still gets the reply that it got. The premises are judged on the events alone.
+    ///
+    /// Fault: `NoSuchTap`. Nothing is allocated.
+    pub fn set_reply(&mut self, tap: usize, reply: ArrayVec<u8, 246>) -> Result<(), WorldFault>
+        ensures { SetsReply self.old tap reply.items result self.new }
+    {
+        set_reply(&mut self.watched, tap, reply)
+    }
+
     /// What an audit finds in the events so far.
     pub fn judge(&self) -> Audit
-        ensures { FindsIn self.entry.now result }
+        ensures { FindsBy self.entry.now result }
     {
-        self.watched.judge()
+        findings(&self.watched)
     }
 
     /// The bus after the events so far.
@@ -125,6 +137,15 @@ pub(crate) fn apply(watched: &mut Watched, alloc: Global, event: &Event) -> Resu
         Event::Pass(_) => apply_pass(watched, alloc, event),
         _ => follow(&mut watched.watch, alloc, &mut watched.bus, event),
     }
+}
+
+/// Changes the data with which the station at a tap of a watched bus replies.
+fn set_reply(watched: &mut Watched, tap: usize, reply: ArrayVec<u8, 246>) -> Result<(), WorldFault>
+    requires { IsWatched watched.old }
+    ensures sets { SetsReply watched.old tap reply.items result watched.new }
+    ensures watched { IsWatched watched.new }
+{
+    watched.bus.set_reply(tap, reply)
 }
 
 /// Applies a pass of time, which is tested first: only a pass changes the watch before it can be refused, and the watch

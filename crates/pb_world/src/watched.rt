@@ -3,8 +3,12 @@
 ghost use Rattle.std.specs.Prelude.{◌≡◌, [], Ok, IfOk, IfErr, map};
 ghost use Rattle.std.specs.Option.{option_map};
 ghost use Rattle.law_model.specs.World.{new_world};
+ghost use Rattle.pb_world.specs.Acted.{HasActed};
 ghost use Rattle.pb_world.specs.Auditing.{broken_at};
-ghost use Rattle.pb_world.specs.Premises.{broken_of};
+ghost use Rattle.law_runs.specs.Headline.{specs_of};
+ghost use Rattle.law_runs.specs.Judging.{IsOrdered};
+ghost use Rattle.law_runs.specs.Legality.{first_illegal};
+ghost use Rattle.pb_world.specs.Premises.{broken_of, watched_of};
 ghost use Rattle.pb_world.specs.Watched.{HasCome, world_in};
 ghost use Rattle.pb_taps.specs.Faults.{RefusesNew};
 ghost use Rattle.pb_taps.specs.Taps.{spec_of};
@@ -32,6 +36,7 @@ pub struct Watched {
 pub fn new_watched(alloc: Global, params: BusParams, specs: &[TapSpec]) -> Result<Watched, NewFault>
     ensures new { IfOk result (λ w. new_world params (map spec_of specs.now) ≡ Ok (world_in w)) }
     ensures came { IfOk result (λ w. HasCome w (world_in w) []) }
+    ensures acted { IfOk result (λ w. HasActed w (world_in w) []) }
     ensures fault { IfErr result (RefusesNew (new_world params (map spec_of specs.now))) }
 {
     let bus = new_bus(alloc, params, specs)?;
@@ -72,14 +77,7 @@ impl Watched {
         requires { IsOfNew self.now }
         ensures { FindsIn self.entry.now result }
     {
-        Audit {
-            premise: numbered(self.watch.first_broken()),
-            illegal: first_illegal(
-                &self.bus.params,
-                Addresses::OfTaps(&self.bus.taps),
-                self.bus.trace.entries(),
-            ),
-        }
+        findings(self)
     }
 
     /// The bus after the events so far.
@@ -87,6 +85,23 @@ impl Watched {
         ensures { result.now ≡ self.entry.now.bus }
     {
         &self.bus
+    }
+}
+
+/// The first premise that broke, and the first illegal record of the trace, which is in order.
+pub(crate) fn findings(watched: &Watched) -> Audit
+    requires { IsOrdered (world_in watched.now).trace }
+    ensures premise { option_map broken_at result.premise ≡ (watched_of watched.now.watch).broken }
+    ensures illegal { let w = world_in watched.now in
+        result.illegal ≡ first_illegal w.params (specs_of w) w.trace }
+{
+    Audit {
+        premise: numbered(watched.watch.first_broken()),
+        illegal: first_illegal(
+            &watched.bus.params,
+            Addresses::OfTaps(&watched.bus.taps),
+            watched.bus.trace.entries(),
+        ),
     }
 }
 

@@ -11,7 +11,8 @@ use Rattle.law_model.specs.World.{World, NewFault, NoTaps, TooManyTaps, BadAddre
 use Rattle.pb_taps.specs.Faults.{new_fault, RefusesNew}
 use Rattle.pb_taps.specs.declared.faults.NewFault as declared
 use Rattle.pb_taps.specs.declared.faults.NewFault.TheVariants as new
-use Rattle.pb_world.specs.Watched.{HasCome, world_in}
+use Rattle.pb_world.specs.Acted.{HasActed}
+use Rattle.pb_world.specs.Watched.{world_in}
 use Rattle.pb_world.specs.declared.watched.Watched.{Watched}
 use Rattle.pbfdl.specs.BusCodes.{new_fault_code}
 use Rattle.pbfdl.specs.Buses.{is_bad_tap, Makes, tap_fault, tap_spec_of}
@@ -72,5 +73,5 @@ new-code-some new.TooManyTaps = λ zero. cc
 new-code-some (new.BadAddress tap) = λ zero. cc
 new-code-some new.NoMemory = λ zero. cc
 
-pub makes-bus : (r : Result World NewFault) (b : Watched) → r ≡ Ok (world_in b) → HasCome b (world_in b) [] → Makes r 0 (Some b)
+pub makes-bus : (r : Result World NewFault) (b : Watched) → r ≡ Ok (world_in b) → HasActed b (world_in b) [] → Makes r 0 (Some b)
 makes-bus r b made came = subst (λ (x : Result World NewFault). Makes x 0 (Some b)) (sym made) (inr (refl, (b, refl, refl, came)))

@@ -8,9 +8,10 @@ use Rattle.law_model.specs.Medium.{TapSpec}
 use Rattle.law_model.specs.World.{World, Event, NewFault, clock_limit, new_faults}
 use Rattle.pb_taps.specs.Faults.{new_fault}
 use Rattle.pb_taps.specs.declared.faults.WorldFault.{WorldFault}
-use Rattle.pb_world.specs.Driven.{Applies}
+use Rattle.pb_world.specs.Driven.{Applies, SetsReply}
 use Rattle.pb_world.specs.RunTo.{HasRun, HasStopped}
-use Rattle.pb_world.specs.Watched.{HasCome, world_in}
+use Rattle.pb_world.specs.Acted.{HasActed}
+use Rattle.pb_world.specs.Watched.{world_in}
 use Rattle.pb_world.specs.declared.watched.Watched.{Watched}
 use Rattle.pbfdl.specs.BusCodes.{new_fault_code, result_code}
 use Rattle.pbfdl.specs.Calls.{is_bad_station, params_code}
@@ -46,13 +47,18 @@ bus_codes there p taps =
 
 -- a new bus is made, or memory is refused; or the code is that of the first fault of its taps
 abbrev pub Makes : Result World NewFault → ℕ → Option Watched → Type 0
-Makes (Ok w) code new = (code ≡ 63) ⊎ ((code ≡ 0) × ((b : Watched) × (new ≡ Some b) × (world_in b ≡ w) × HasCome b w []))
+Makes (Ok w) code new = (code ≡ 63) ⊎ ((code ≡ 0) × ((b : Watched) × (new ≡ Some b) × (world_in b ≡ w) × HasActed b w []))
 Makes (Err fault) code new = code ≡ new_fault_code (new_fault fault)
 
 -- a call with an event: it happens, or is refused with the code of its fault, and nothing has happened
 abbrev pub Meets : Watched → Event → ℕ → Option Watched → Type 0
 Meets b e code new = (next : Watched) × (new ≡ Some next)
     × (answer : Result (Unit {0}) WorldFault) × (code ≡ result_code answer) × Applies b e answer next
+
+-- a call with other data of a tap: they change, or there is no such tap, and nothing has changed
+abbrev pub SetsAt : Watched → ℕ → List ℕ → ℕ → Option Watched → Type 0
+SetsAt b tap unit code new = (next : Watched) × (new ≡ Some next)
+    × (answer : Result (Unit {0}) WorldFault) × (code ≡ result_code answer) × SetsReply b tap unit answer next
 
 -- the character that is damaged; a number over 255 means all
 abbrev pub place_of : ℕ → Option ℕ

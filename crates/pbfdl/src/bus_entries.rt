@@ -4,7 +4,8 @@ ghost use Rattle.std.specs.Prelude.{◌≡◌, ◌≢◌, ◌<◌, None, IfSome,
 ghost use Rattle.std.specs.Option.{option_map};
 ghost use Rattle.law_model.specs.Trace as model;
 ghost use Rattle.pb_medium.specs.Entries.{entry_of, heard_of, record_of};
-ghost use Rattle.pb_world.specs.Watched.{FindsIn, world_in};
+ghost use Rattle.pb_world.specs.Acted.{FindsBy};
+ghost use Rattle.pb_world.specs.Watched.{world_in};
 ghost use Rattle.pb_world.specs.declared.findings.Audit.{Audit};
 ghost use Rattle.pbfdl.specs.BusReadings.{heard_at, TellsAudit, TellsEntry, TellsEntryAt};
 ghost use Rattle.pbfdl.specs.Buses.{FindsNoBus};
@@ -84,7 +85,7 @@ pub extern "C" fn fdl_bus_entry(
 pub extern "C" fn fdl_bus_audit(alloc: Global, bus: &mut BusHandle, told: &mut FdlAudit) -> u32
     ensures none { bus.old.value ≡ None → FindsNoBus result bus.new.value × (told.new ≡ told.old) }
     ensures audit { IfSome bus.old.value (λ b. (result ≡ 0)
-        × ((found : Audit) × FindsIn b found × TellsAudit told.new found)) }
+        × ((found : Audit) × FindsBy b found × TellsAudit told.new found)) }
     ensures kept { bus.new.value ≡ bus.old.value }
 {
     let Some(there) = bus.take(alloc) else {

@@ -4,7 +4,7 @@ ghost use Rattle.std.specs.Prelude.{◌≡◌, ◌≢◌, ◌<◌, ◌≤◌, So
 ghost use Rattle.law_model.specs.World as model;
 ghost use Rattle.pb_faults.specs.FirstFault.{first_fault};
 ghost use Rattle.pb_taps.specs.Events.{event_of};
-ghost use Rattle.pbfdl.specs.Buses.{bus_codes, FindsNoBus, Makes, Meets, place_of, run_codes, Runs, tap_fault, tap_spec_of};
+ghost use Rattle.pbfdl.specs.Buses.{bus_codes, FindsNoBus, Makes, Meets, place_of, run_codes, Runs, SetsAt, tap_fault, tap_spec_of};
 ghost use Rattle.pbfdl.specs.Calls.{params_of, request_codes, request_fields, service_of};
 
 use crate::bus_codes::{BUS_IN_USE, CLOCK_FULL, NO_BUS, TOO_FAR, event_code, new_code};
@@ -14,12 +14,16 @@ use crate::params::{FdlParams, bus_params};
 use crate::ports::request_of;
 use crate::taps::{FdlTap, check_taps, has_long_reply, specs_of};
 use pb_taps::Event;
+use pb_telegram::copy_octets;
 use pb_timers::BusParams;
 use pb_world::DrivenBus;
 use std::alloc::Global;
 
 /// The last clock of a bus, in bit times.
 const LAST_CLOCK: u64 = 1_000_000_000_000;
+
+/// The most octets of data that a station replies.
+const MOST_DATA: usize = 246;
 
 /// The longest noise, in bit times.
 const LONGEST_NOISE: u64 = 4_294_967_295;
@@ -175,6 +179,31 @@ pub extern "C" fn fdl_bus_queue(
         Err(code) => return code,
     };
     happens(alloc, bus, &Event::Queue { tap, request })
+}
+
+/// Changes the data that the station at a tap replies to the next request for data, between two events. Codes, in order:
+/// 66 for more than 246 octets; 73, 81.
+#[unsafe(no_mangle)]
+pub extern "C" fn fdl_bus_set_reply(
+    alloc: Global,
+    bus: &mut BusHandle,
+    tap: usize,
+    unit: &[u8],
+) -> u32
+    ensures long { 246 < length unit.now → (result ≡ 66) × (bus.new.value ≡ bus.old.value) }
+    ensures none { length unit.now ≤ 246 → bus.old.value ≡ None → FindsNoBus result bus.new.value }
+    ensures sets { length unit.now ≤ 246
+        → IfSome bus.old.value (λ b. SetsAt b tap unit.now result bus.new.value) }
+{
+    if unit.len() > MOST_DATA {
+        return LONG_DATA;
+    }
+    let Some(mut there) = bus.take(alloc) else {
+        return NO_BUS;
+    };
+    let code = event_code(there.set_reply(tap, copy_octets(unit)));
+    bus.put(there);
+    code
 }
 
 /// The bus runs to a moment, in bit times: at each instant the turns that are due, in the order of the taps, then a

@@ -144,6 +144,7 @@ _FUNCTIONS = {
     "fdl_bus_damage": [_HANDLE, c_size_t, c_size_t, c_uint32],
     "fdl_bus_unheard": [_HANDLE, c_size_t, c_size_t],
     "fdl_bus_queue": [_HANDLE, c_size_t, *_REQUEST],
+    "fdl_bus_set_reply": [_HANDLE, c_size_t, *_DATA],
     "fdl_bus_run": [_HANDLE, c_uint64],
     "fdl_bus_now": [_HANDLE, POINTER(c_uint64)],
     "fdl_bus_due": [_HANDLE, c_size_t, POINTER(c_uint64)],

@@ -197,6 +197,15 @@ class Bus(Handle):
         why = "does not run: start it first" if self._taps[tap].master else "is passive: only a master sends requests"
         return {NotRunning: f"tap {tap} {why}"}
 
+    def set_reply(self, tap: int, reply: bytes) -> None:
+        """A tap replies to the next request for data (SRD) with at most 246 octets; with none, that it has no data.
+
+        This is no event: nothing else changes, and `audit` judges the events alone. A repeat of the last request still gets the
+        reply that was sent. Raises `LongData`.
+        """
+        reply = octets_of("reply", reply)
+        self._call("fdl_bus_set_reply", self._tap(tap), reply, len(reply), texts=lambda: {LongData: long_data("reply", reply)})
+
     def run(self, until: int) -> None:
         """The bus runs to the moment `until`: instant by instant the due turns, in the order of the taps, then time to the next.
 

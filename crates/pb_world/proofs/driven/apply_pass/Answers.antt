@@ -12,7 +12,8 @@ use Rattle.pb_world.specs.Premises.{GoesOn, Knows, time_in}
 use Rattle.pb_world.specs.Refusals.{fault_of}
 use Rattle.pb_world.specs.Watched.{world_in}
 use Rattle.pb_world.specs.declared.watched.Watched.{Watched}
-use Rattle.pb_world.proofs.Coming.{comes-by}
+use Rattle.law_token.specs.Actions.{Happens}
+use Rattle.pb_world.proofs.Acting.{acts-by}
 use Rattle.pb_world.proofs.driven.apply_pass.Goals as goal
 
 -- a pass that its step allows is not refused: it takes no memory
@@ -31,7 +32,7 @@ applies-pass : (old new : Watched) (e : Event) (r : Result (Unit {0}) WorldFault
     → OnOk r ((reply : Reply) × (step (world_in old) e ≡ Ok (world_in new, reply))) → OnOk r (Knows new.watch (world_in new)) → OnOk r (GoesOn old.watch (world_in old) e new.watch)
     → IfErr r (λ fault. (world_in new ≡ world_in old) × Refuses (world_in old) e (step (world_in old) e) fault) → Applies old e r new
 applies-pass old new e (Ok done) pass none kept is steps knows stands err =
-    (comes-by old new e steps.0 (record { kept = kept; knows = knows }) is steps.1 stands, steps)
+    (acts-by old new (Happens e) (record { kept = kept; knows = knows }) is steps stands, steps)
 applies-pass old new e (Err fault) pass none kept is steps knows stands err = absurd (never (world_in old) e (step (world_in old) e) fault pass none err.1)
 
 pub returns-clause-applies : goal.returns-clause-applies
