@@ -1,5 +1,5 @@
 -- A stream that is written piece by piece.
-use Rattle.std.proofs.Common.{◌≡◌, ◌≢◌, ◌∙◌, ap, refl, sym, subst, append_assoc, ℕ, List, [], ◌∷◌, ◌++◌, Option, Some, None}
+use Rattle.std.proofs.Common.{◌≡◌, ◌≢◌, ◌∙◌, ap, refl, sym, subst, append_assoc, ℕ, List, [], ◌++◌, Option, Some, None}
 use Rattle.std.proofs.lemmas.List.{append-nil}
 use Rattle.std.specs.Prelude.{IfSome}
 use Rattle.std.specs.Io.KnownBytes.{Appends}
@@ -17,10 +17,11 @@ use Rattle.pb_taps.specs.declared.faults.WorldFault.{WorldFault}
 use Rattle.pb_taps.specs.declared.faults.WorldFault.TheVariants as fault
 use Rattle.pb_scenario.specs.Faults.{model_fault}
 use Rattle.pb_scenario.specs.Scenarios.{ScenarioView}
-use Rattle.pb_scenario.specs.Texts.{entries_text, entry_text}
+use Rattle.pb_scenario.specs.Texts.{entries_text}
 use Rattle.pb_stream.specs.Streams.{GoesOn, IsStreaming, Tells, names_of, rest_of, up_to}
 use Rattle.pb_stream.specs.declared.streams.Progress.TheVariants as progress
 use Rattle.pb_stream.specs.declared.streams.Stream.{Stream}
+use Rattle.pb_stream.proofs.Streaming.{lines-both}
 use Rattle.pb_texts.specs.Faults.{new_line, refused_line}
 use Rattle.pb_texts.proofs.Outcomes.{world_fault-of}
 use Rattle.pb_cli.specs.Streaming.{Writes, WritesOn, WritesScenario, fault_text}
@@ -39,11 +40,6 @@ appends_nothing : (xs : Option (List ℕ)) → Appends xs xs []
 appends_nothing None = tt
 appends_nothing (Some xs) = sym (append-nil xs)
 
-lines_both : (names : List (List ℕ)) (es fs : List Entry) → entries_text names (es ++ fs) ≡ entries_text names es ++ entries_text names fs
-lines_both names [] fs = refl
-lines_both names (e ∷ es) fs =
-    ap (λ (l : List ℕ). entry_text names e ++ l) (lines_both names es fs) ∙ sym (append_assoc (entry_text names e) (entries_text names es) (entries_text names fs))
-
 behind_nothing : (o : Option Streamed) → o ≡ stream_behind [] o
 behind_nothing None = refl
 behind_nothing (Some x) = refl
@@ -60,7 +56,7 @@ writes_behind names es o p old mid new status is front (stream, whole, text, tol
     let first : List ℕ = entries_text names es in
     let more : List ℕ = entries_text names stream.entries in
     let same : entries_text names (es ++ stream.entries) ++ last ≡ first ++ (more ++ last) =
-    ap (λ (l : List ℕ). l ++ last) (lines_both names es stream.entries) ∙ append_assoc first more last in (
+    ap (λ (l : List ℕ). l ++ last) (lines-both names es stream.entries) ∙ append_assoc first more last in (
       record stream { entries = es ++ stream.entries },
       is ∙ ap (stream_behind es) whole,
       subst (Appends old new) (sym same) (appends_both old mid new first (more ++ last) front text),
@@ -129,7 +125,7 @@ pub goes_on : (names : List (List ℕ)) (whole : Option Streamed) (stream next :
     → Streams names whole stream before mid → WritesOn stream next mid after → Streams names whole next before after
 goes_on names whole stream next before mid after i w = record {
   done = i.done ++ w.entries;
-  text = subst (Appends before after) (sym (lines_both names i.done w.entries)) (appends_both before mid after (entries_text names i.done) (entries_text names w.entries) i.text
+  text = subst (Appends before after) (sym (lines-both names i.done w.entries)) (appends_both before mid after (entries_text names i.done) (entries_text names w.entries) i.text
       (subst (λ (ns : List (List ℕ)). Appends mid after (entries_text ns w.entries)) i.named w.text));
   rest = i.rest ∙ ap (stream_behind i.done) w.rest ∙ behind_both i.done w.entries (rest_of next);
   ready = w.ready;

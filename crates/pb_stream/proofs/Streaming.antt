@@ -1,10 +1,16 @@
 -- What an instant leaves to come of a stream.
-use Rattle.std.proofs.Common.{◌≡◌, ◌∙◌, ap, sym, arith, ℕ, suc, ◌+◌, List, [], ◌∷◌, Option, Some, None}
+use Rattle.std.proofs.Common.{◌≡◌, ◌∙◌, ap, refl, sym, subst, arith, append-nil, append_assoc, ℕ, suc, ◌+◌, ◌<◌, ◌≤◌, List, [], ◌∷◌, ◌++◌, length, max, if◌then◌else◌, Option, Some, None}
 use Rattle.std.specs.Prelude.{IfSome}
+use Rattle.std.proofs.Math.Nat.{le-max_left, le-max_right}
+use Rattle.std.proofs.lemmas.Bool.{le-leb}
+use Rattle.std.proofs.lemmas.List.{length-append, length-drop, length-take-le}
 use Rattle.law_model.specs.Trace.{Entry}
 use Rattle.law_model.specs.World.{World}
-use Rattle.law_model.specs.Laws.{AllFrom}
+use Rattle.law_model.specs.Laws.{AllFrom, AllOver}
 use Rattle.law_model.specs.Behind.{behind, IsPast}
+use Rattle.pb_medium.specs.LettingGo.{gone_of, past_of}
+use Rattle.pb_medium.specs.Traces.{entries_of, limit_of, over_of, recent_of}
+use Rattle.pb_medium.specs.declared.traces.Trace.{Trace}
 use Rattle.pb_taps.specs.declared.faults.WorldFault.{WorldFault}
 use Rattle.law_runs.specs.Runs.{run}
 use Rattle.law_runs.specs.Scenarios.{At}
@@ -13,8 +19,13 @@ use Rattle.law_streams.specs.Limits.{stream_behind}
 use Rattle.law_streams.proofs.Followed.{stream-behind}
 use Rattle.law_streams.proofs.Instants.{more-instants}
 use Rattle.pb_scenario.specs.Faults.{model_fault}
+use Rattle.pb_scenario.specs.Texts.{entries_text, entry_text}
 use Rattle.pb_scenario.specs.Walks.{WalkView, plan_in}
+use Rattle.pb_world.specs.Buses.{world_of, IsKept}
+use Rattle.pb_world.specs.LettingGo.{LetsPastGo}
+use Rattle.pb_world.specs.declared.buses.Bus.{Bus}
 use Rattle.pb_stream.specs.Plays.{EndsIn, GoesOn}
+use Rattle.pb_stream.specs.Streams.{HandsOn, IsShort}
 use Rattle.pb_stream.proofs.Playing.{stops-so}
 
 -- what is to come from a moment on
@@ -47,6 +58,16 @@ stops-rest walk old mid fault ends =
     (λ f. to_come walk old ≡ Some (record { entries = mid.trace; fault = Some (At walk.clock f) }))
     (λ f is. ap (λ n. streamed_of (run n telling_bus (plan_in walk) walk.clock old)) one ∙ is walk.until) ends
 
+-- ---- what is kept
+
+-- where fewer than a block can be let go, the trace is short
+pub is-short : (block : ℕ) (t : Trace) → over_of t ≤ length (entries_of t) → length (past_of t) < max block 1 → IsShort block t
+is-short block t within few room =
+    let all : over_of t + length (recent_of t) ≡ length (entries_of t) = omega (arith, within, length-drop (over_of t) (entries_of t)) in
+    let gone : gone_of t ≡ over_of t = ap (λ b. if b then over_of t else 0) (le-leb (over_of t) (limit_of t) room) in
+    let count : length (past_of t) ≡ over_of t = length-take-le (gone_of t) (entries_of t) (omega (arith, within, gone)) ∙ gone in
+    omega (arith, few, all, count)
+
 -- ---- none are let go
 
 from-start : (delay : ℕ) (es : List Entry) → AllFrom delay 0 es
@@ -58,3 +79,60 @@ none-past w = (0, omega arith, tt, from-start w.params.ttd w.trace)
 
 pub behind-none : (w : World) → w ≡ behind [] w
 behind-none w = let same : w.limit ≡ 0 + w.limit = omega arith in ap (λ limit. record w { limit = limit }) same
+
+pub hands-none : (names : List (List ℕ)) (bus : Bus) (text : List ℕ) → IsKept bus → HandsOn names bus text bus text
+hands-none names bus text kept = ([], sym (append-nil text), record { whole = behind-none (world_of bus); past = none-past (world_of bus); kept = kept })
+
+-- ---- more are let go
+
+over-later : (delay m n : ℕ) (es : List Entry) → m ≤ n → AllOver delay m es → AllOver delay n es
+over-later delay m n [] later over = tt
+over-later delay m n (e ∷ es) later over = (over.0, omega (arith, over.1, later), over-later delay m n es later over.2)
+
+over-both : (delay m : ℕ) (es fs : List Entry) → AllOver delay m es → AllOver delay m fs → AllOver delay m (es ++ fs)
+over-both delay m [] fs over more = more
+over-both delay m (e ∷ es) fs over more = (over.0, over.1, over-both delay m es fs over.2 more)
+
+from-last : (delay m : ℕ) (es fs : List Entry) → AllFrom delay m (es ++ fs) → AllFrom delay m fs
+from-last delay m [] fs from = from
+from-last delay m (e ∷ es) fs from = from-last delay m es fs from.1
+
+from-later : (delay m n : ℕ) (es : List Entry) → AllFrom delay m es → AllFrom delay n es → AllFrom delay (max m n) es
+from-later delay m n [] one two = tt
+from-later delay m n (e ∷ es) one two = (omega (arith, one.0, two.0), from-later delay m n es one.1 two.1)
+
+past-both : (es fs : List Entry) (w : World) → IsPast es (behind fs w) → IsPast fs w → IsPast (es ++ fs) w
+past-both es fs w (m, began, over, from) (n, more, ended, later) =
+    let delay = w.params.ttd in
+    let all : max m n ≤ w.now = omega (arith, began, more) in (
+      max m n,
+      all,
+      over-both delay (max m n) es fs (over-later delay m (max m n) es (le-max_left m n) over) (over-later delay n (max m n) fs (le-max_right m n) ended),
+      from-later delay m n w.trace (from-last delay m fs w.trace from) later,
+    )
+
+behind-both : (es fs : List Entry) (w : World) → behind es (behind fs w) ≡ behind (es ++ fs) w
+behind-both es fs w =
+    let count : length es + (length fs + w.limit) ≡ length (es ++ fs) + w.limit = omega (arith, length-append es fs) in
+    ap (λ trace. record w { trace = trace; limit = length es + (length fs + w.limit) }) (sym (append_assoc es fs w.trace))
+    ∙ ap (λ limit. record w { trace = (es ++ fs) ++ w.trace; limit = limit }) count
+
+lets-both : (es fs : List Entry) (a b c : Bus) → LetsPastGo es a b → LetsPastGo fs b c → LetsPastGo (es ++ fs) a c
+lets-both es fs a b c first more = record {
+  whole = first.whole ∙ ap (behind es) more.whole ∙ behind-both es fs (world_of c);
+  past = past-both es fs (world_of c) (subst (IsPast es) more.whole first.past) more.past;
+  kept = more.kept;
+}
+
+pub lines-both : (names : List (List ℕ)) (es fs : List Entry) → entries_text names (es ++ fs) ≡ entries_text names es ++ entries_text names fs
+lines-both names [] fs = refl
+lines-both names (e ∷ es) fs =
+    ap (λ (l : List ℕ). entry_text names e ++ l) (lines-both names es fs) ∙ sym (append_assoc (entry_text names e) (entries_text names es) (entries_text names fs))
+
+pub hands-both : (names : List (List ℕ)) (a b c : Bus) (s t u : List ℕ) → HandsOn names a s b t → HandsOn names b t c u → HandsOn names a s c u
+hands-both names a b c s t u (es, first, gone) (fs, more, left) = (
+  es ++ fs,
+  more ∙ ap (λ (l : List ℕ). l ++ entries_text names fs) first ∙ append_assoc s (entries_text names es) (entries_text names fs)
+      ∙ ap (λ (l : List ℕ). s ++ l) (sym (lines-both names es fs)),
+  lets-both es fs a b c gone left,
+)

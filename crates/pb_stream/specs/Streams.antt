@@ -1,11 +1,13 @@
--- A stream: what is still to come of it, and what a call appends.
-use Rattle.std.specs.Prelude.{◌≡◌, ℕ, ◌+◌, ◌<◌, ◌≤◌, List, ◌++◌, length, Option, Some, None, IfSome}
+-- A stream: what is still to come of it, what a call appends, and how much is kept.
+use Rattle.std.specs.Prelude.{◌≡◌, ℕ, ◌+◌, ◌<◌, ◌≤◌, List, ◌++◌, length, max, Option, Some, None, IfSome}
 use Rattle.law_model.specs.Trace.{Entry}
 use Rattle.law_runs.specs.Runs.{run}
 use Rattle.law_runs.specs.Scenarios as runs
 use Rattle.law_runs.specs.Scenarios.{At}
 use Rattle.law_streams.specs.Streams.{Streamed, telling_bus, streamed_of}
 use Rattle.law_streams.specs.Limits.{stream_behind}
+use Rattle.pb_medium.specs.Traces.{entries_of, limit_of, over_of, recent_of}
+use Rattle.pb_medium.specs.declared.traces.Trace.{Trace}
 use Rattle.pb_world.specs.Buses.{world_of, IsKept}
 use Rattle.pb_world.specs.LettingGo.{LetsPastGo}
 use Rattle.pb_world.specs.declared.buses.Bus.{Bus}
@@ -26,6 +28,9 @@ up_to until s = record s { until = until }
 
 abbrev pub names_of : Stream → List (List ℕ)
 names_of s = s.scenario.now.names
+
+abbrev pub clock_of : Stream → ℕ
+clock_of s = s.walk.clock
 
 -- what is still to come: what the run has from the walk's moment on
 abbrev pub rest_of : Stream → Option Streamed
@@ -64,3 +69,16 @@ Tells Ended old new before after =
 Tells (Refused clock fault) old new before after =
     (entries : List Entry) × Appends (names_of old) entries before after
     × IfSome (model_fault fault) (λ f. rest_of old ≡ Some (record { entries = entries; fault = Some (At clock f) }))
+
+-- ---- what is kept
+
+-- A trace has fewer than a block of entries beside those that are not over; a block is at least one entry. Where it is all
+-- but full, and fewer may come than are over, nothing more is let go.
+abbrev pub IsShort : (block : ℕ) → Trace → Type 0
+IsShort block t = over_of t ≤ limit_of t → length (entries_of t) < length (recent_of t) + max block 1
+
+-- a stream that goes on keeps no more
+abbrev pub KeepsFew : (block : ℕ) → Progress → Stream → Type 0
+KeepsFew block Goes s = IsShort block s.bus.trace
+KeepsFew block Ended s = Unit {0}
+KeepsFew block (Refused clock fault) s = Unit {0}

@@ -2,7 +2,7 @@
 
 ghost use Rattle.std.specs.Prelude.{◌≡◌, OnOk};
 ghost use Rattle.pb_world.specs.Buses.{IsKept};
-ghost use Rattle.pb_stream.specs.Streams.{HandsOn};
+ghost use Rattle.pb_stream.specs.Streams.{HandsOn, IsShort};
 
 use crate::plays::play_instant;
 use pb_scenario::{NewFault, Scenario, Walk, WorldFault, push_trace};
@@ -31,8 +31,8 @@ pub enum Progress {
     },
 }
 
-/// A run of a scenario that lets go of the entries that are over. Tests show, and no contract says, that between instants
-/// it takes the memory of its taps and of what is on the bus, whatever time has passed.
+/// A run of a scenario that lets go of the entries that are over. Between instants it keeps its taps, the entries that are
+/// not over, and fewer than a block of others ([`advance`](Stream::advance)), whatever time has passed.
 #[derive(Drop)]
 pub struct Stream<'a> {
     pub(crate) scenario: &'a Scenario,
@@ -45,7 +45,7 @@ impl<'a> Stream<'a> {
     ghost use Rattle.law_model.specs.World.{new_world};
     ghost use Rattle.law_streams.specs.Streams.{stream_limit, stream_within};
     ghost use Rattle.pb_taps.specs.Faults.{RefusesNew};
-    ghost use Rattle.pb_stream.specs.Streams.{IsStreaming, Tells, names_of, rest_of, stream_end, up_to};
+    ghost use Rattle.pb_stream.specs.Streams.{IsStreaming, KeepsFew, Tells, clock_of, names_of, rest_of, stream_end, up_to};
 
     /// The stream of a scenario at 0, up to the moment `until`, in bit times, in place of the scenario's own.
     ///
@@ -70,8 +70,18 @@ impl<'a> Stream<'a> {
         }
     }
 
+    /// The moment up to which the stream has been played, in bit times.
+    pub fn clock(&self) -> u64
+        ensures { result ≡ clock_of self.now }
+    {
+        self.walk.now()
+    }
+
     /// Plays an instant, and appends the lines of the entries that are over since the last ones, if they are at least
-    /// `block`; at the end, or where an event is refused, the lines of all entries that are left.
+    /// `block`, or one; at the end, or where an event is refused, the lines of all entries that are left.
+    ///
+    /// A stream that goes on keeps fewer than `block` entries, or than one, beside those that are not over: each pass of
+    /// time marks what is over. Only where the trace is all but full is nothing let go.
     ///
     /// Fault: memory was refused. Then the stream must not be played further.
     pub fn advance(
@@ -81,7 +91,9 @@ impl<'a> Stream<'a> {
         block: usize,
     ) -> Result<Progress, AllocError>
         requires { IsStreaming self.old }
-        ensures { IfOk result (λ progress. Tells progress self.old self.new text.old.items text.new.items) }
+        ensures tells { IfOk result
+            (λ progress. Tells progress self.old self.new text.old.items text.new.items) }
+        ensures few { IfOk result (λ progress. KeepsFew block progress self.new) }
     {
         match play_instant(alloc, &mut self.bus, &self.walk) {
             Ok(Some(at)) => {
@@ -105,7 +117,7 @@ impl<'a> Stream<'a> {
     }
 }
 
-/// Appends the lines of the entries that are over, and lets them go, if they are at least `block`.
+/// Appends the lines of the entries that are over, and lets them go, if they are at least `block`, or one.
 fn hand_on(
     bus: &mut Bus,
     scenario: &Scenario,
@@ -113,12 +125,14 @@ fn hand_on(
     block: usize,
 ) -> Result<(), AllocError>
     requires { IsKept bus.old }
-    ensures { OnOk result (HandsOn scenario.now.names bus.old text.old.items bus.new text.new.items) }
+    ensures handed { OnOk result
+        (HandsOn scenario.now.names bus.old text.old.items bus.new text.new.items) }
+    ensures few { OnOk result (IsShort block bus.new.trace) }
 {
-    if bus.past().len() < block {
-        return Ok(());
+    // One round lets all of them go; the test behind it says so.
+    while bus.past().len() >= block.max(1) {
+        push_trace(text, scenario, bus.past())?;
+        bus.let_go();
     }
-    push_trace(text, scenario, bus.past())?;
-    bus.let_go();
     Ok(())
 }

@@ -81,3 +81,27 @@ fn a_refused_stream_has_what_came_before(rt: HostRuntime) {
     };
     assert!(rt; end == refused);
 }
+
+/// How many entries a stream keeps between instants, at most.
+fn most_kept(rt: &impl Abort, alloc: Global, scenario: &Scenario, block: usize) -> usize {
+    let mut stream = Stream::new(alloc, scenario, 4000).expect(rt, "a stream");
+    let mut text = Vec::new(alloc);
+    let mut most = 0;
+    for _instant in 0..MANY {
+        match stream.advance(alloc, &mut text, block).expect(rt, "memory") {
+            Progress::Goes => most = most.max(stream.bus.trace.entries().len()),
+            _ => return most,
+        }
+    }
+    MANY
+}
+
+/// Between instants a stream keeps what is on the bus, and less than a block.
+#[test]
+fn a_stream_keeps_less_than_a_block(rt: HostRuntime) {
+    let alloc = rt.alloc();
+    let scenario = read(alloc, FILE).expect(&rt, "a scenario");
+    assert_eq!(rt; most_kept(&rt, alloc, &scenario, 0), 1);
+    assert_eq!(rt; most_kept(&rt, alloc, &scenario, 1), 1);
+    assert_eq!(rt; most_kept(&rt, alloc, &scenario, 7), 7);
+}

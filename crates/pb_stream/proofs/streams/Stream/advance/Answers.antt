@@ -13,8 +13,8 @@ use Rattle.pb_stream.specs.Streams.{names_of, rest_of}
 use Rattle.pb_stream.proofs.Streaming.{ends-rest, goes-rest, stops-rest}
 use Rattle.pb_stream.proofs.streams.Stream.advance.Goals as goal
 
-pub returns-in_ok-hand_on-in-Ok-Some : goal.returns-in_ok-hand_on-in-Ok-Some
-returns-in_ok-hand_on-in-Ok-Some c =
+pub returns-in_ok-hand_on-in-Ok-Some-clause-tells : goal.returns-in_ok-hand_on-in-Ok-Some-clause-tells
+returns-in_ok-hand_on-in-Ok-Some-clause-tells c =
     let s = c.args.self.now in
     let walk = s.walk in
     let after = c.go_to.new.self in
@@ -24,7 +24,7 @@ returns-in_ok-hand_on-in-Ok-Some c =
     let at = c.in-Ok-Some.at in
     let moved : after ≡ record walk { clock = at } = c.go_to.ensures in
     let goes : plays.GoesOn walk old (Some at) mid = subst (λ o. plays.GoesOn walk old o mid) c.in-Ok-Some.field-0-is c.in-Ok-Some.ensures.goes in
-    let (entries, text, lets) = c.in_ok-hand_on-in-Ok-Some.ensures in
+    let (entries, text, lets) = c.in_ok-hand_on-in-Ok-Some.ensures.handed in
     let clock = ap (λ (w : WalkView). w.clock) moved in
     let until = ap (λ (w : WalkView). w.until) moved in
     record {
@@ -41,8 +41,8 @@ returns-in_ok-hand_on-in-Ok-Some c =
       later = omega (arith, clock, goes.later.0);
     }
 
-pub returns-in_ok-push_trace-in-Ok-None : goal.returns-in_ok-push_trace-in-Ok-None
-returns-in_ok-push_trace-in-Ok-None c =
+pub returns-in_ok-push_trace-in-Ok-None-clause-tells : goal.returns-in_ok-push_trace-in-Ok-None-clause-tells
+returns-in_ok-push_trace-in-Ok-None-clause-tells c =
     let s = c.args.self.now in
     let old = world_of s.bus in
     let bus = c.play_instant.new.bus in
@@ -53,8 +53,8 @@ returns-in_ok-push_trace-in-Ok-None c =
       ends-rest s.walk old mid goes,
     )
 
-pub returns-in_ok-push_trace-in-Err : goal.returns-in_ok-push_trace-in-Err
-returns-in_ok-push_trace-in-Err c =
+pub returns-in_ok-push_trace-in-Err-clause-tells : goal.returns-in_ok-push_trace-in-Err-clause-tells
+returns-in_ok-push_trace-in-Err-clause-tells c =
     let s = c.args.self.now in
     let old = world_of s.bus in
     let bus = c.play_instant.new.bus in
