@@ -15,4 +15,4 @@ IsWithinLimits (Bounds file baud json) = IsBaud baud
 IsWithinLimits (Monitor file options) = Unit {0}
 IsWithinLimits (Capture file tap) = Unit {0}
 IsWithinLimits (Export file export) = IsBaud export.baud
-IsWithinLimits (Stream file until) = IfSome until (λ moment. moment ≤ stream_end)
+IsWithinLimits (Stream file until progress) = IfSome until (λ moment. moment ≤ stream_end)

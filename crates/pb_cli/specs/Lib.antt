@@ -4,6 +4,7 @@ pub mod Counted
 pub mod Counts
 pub mod Fleets
 pub mod Playing
+pub mod Progress
 pub mod Reading
 pub mod Statuses
 pub mod Writing

@@ -84,6 +84,8 @@ const LINK: &str = "link";
 
 const NO_TEXT: &str = "no-text";
 
+const PROGRESS: &str = "progress";
+
 /// The forms of an export.
 static OUTPUTS: [&str; 5] = ["svg", "pcapng", "pcap", "vcd", "json"];
 
@@ -152,6 +154,7 @@ fn asked(alloc: Global, matches: &ArgMatches<'_>) -> Result<Ask, AskFault>
         Some((STREAM, stream)) => Ok(Ask::Stream {
             file: file_in(alloc, stream)?,
             until: until_in(stream),
+            progress: stream.get_flag(PROGRESS),
         }),
         _ => Ok(Ask::Decode),
     }
@@ -466,6 +469,14 @@ fn stream_command<'a>(alloc: Global) -> Result<Command<'a>, AllocError> {
         .arg(limited(alloc, UNTIL, "N", 1, LATEST).help(
             "Ends at this bit time, 1 to 1000000000000, in place of the file's `until`",
         ))?
+        .arg(
+            Arg::new(alloc, PROGRESS)
+                .long(PROGRESS)
+                .action(ArgAction::SetTrue)
+                .help(
+                    "Shows on standard error how far the run is [default: if that is a terminal and standard output is none]",
+                ),
+        )?
         .arg(quiet(alloc))
 }
 

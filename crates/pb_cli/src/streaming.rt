@@ -6,26 +6,49 @@ ghost use Rattle.pb_stream.specs.Streams.{IsStreaming, stream_end};
 ghost use Rattle.pb_cli.specs.Streaming.{StepsOn, WritesFile, WritesScenario};
 
 use crate::faults::{CliFault, Status};
+use crate::progress::Observer;
 use crate::streams::Sink;
 use crate::writing::write_out;
 use pb_stream::{Progress, Stream};
 use pb_texts::{Scenario, described, new_line, refused_file, refused_line};
 use std::alloc::Global;
 
-/// How many entries are written at once.
+/// How many entries a block has.
 const BLOCK: usize = 64;
 
+/// When the lines of a stream are written.
+#[derive(Clone, Copy, Debug, PartialEq, Eq)]
+pub enum Flush {
+    /// At each instant, those of the entries that are over: for people.
+    Instants,
+    /// As soon as 64 entries are over.
+    Blocks,
+}
+
+impl Flush {
+    /// How many entries that are over are written at once, at least.
+    fn entries(self) -> usize {
+        match self {
+            Flush::Instants => 1,
+            Flush::Blocks => BLOCK,
+        }
+    }
+}
+
 /// Plays a scenario file up to `until`, in bit times, or else up to its own end, and writes the line of each entry once the
-/// entry is over. Where the file or an event is refused, the line of the fault follows what was written.
+/// entry is over. Where the file or an event is refused, the line of the fault follows what was written. After each instant
+/// `observer` is told how far it is.
 ///
 /// On `Ok` the writer holds the lines of the run within 10^12 entries and that line, and the status is `Refused` exactly if
 /// there is one. Faults: `Write` if the writer failed, or was interrupted 1,001 times in a row; `NoMemory`. Tests show, and
-/// no contract says, that a front of that text was written after a fault, and that memory does not grow with the run.
-pub fn stream_file<W: Sink>(
+/// no contract says, that a front of that text was written after a fault. Memory does not grow with the run ([`Stream`]).
+pub fn stream_file<W: Sink, O: Observer>(
     alloc: Global,
     file: &[u8],
     until: Option<u64>,
+    flush: Flush,
     writer: &mut W,
+    observer: &mut O,
 ) -> Result<Status, CliFault>
     requires { IfSome until (λ moment. moment ≤ stream_end) }
     ensures text { IfOk result (WritesFile (scenario_of file.now) until
@@ -37,7 +60,7 @@ pub fn stream_file<W: Sink>(
     match described(alloc, file) {
         Ok(scenario) => {
             let end = until.unwrap_or(scenario.until());
-            stream_scenario(alloc, &scenario, end, writer)
+            stream_scenario(alloc, &scenario, end, flush, writer, observer)
         }
         Err(fault) => {
             write_out(writer, &refused_file(alloc, &fault)?.text)?;
@@ -47,11 +70,13 @@ pub fn stream_file<W: Sink>(
 }
 
 /// Plays a scenario and writes the lines of its trace as they settle.
-fn stream_scenario<W: Sink>(
+fn stream_scenario<W: Sink, O: Observer>(
     alloc: Global,
     scenario: &Scenario,
     until: u64,
+    flush: Flush,
     writer: &mut W,
+    observer: &mut O,
 ) -> Result<Status, CliFault>
     requires { until ≤ stream_end }
     ensures text { IfOk result
@@ -69,7 +94,13 @@ fn stream_scenario<W: Sink>(
     };
     let mut text = Vec::new(alloc);
     loop {
-        match step(alloc, &mut stream, &mut text, writer)? {
+        let ended = step(alloc, &mut stream, &mut text, flush, writer)?;
+        let clock = match ended {
+            Some(Status::Done) => until,
+            _ => stream.clock(),
+        };
+        observer.observe(clock, until);
+        match ended {
             Some(status) => return Ok(status),
             None => {}
         }
@@ -81,6 +112,7 @@ fn step<W: Sink>(
     alloc: Global,
     stream: &mut Stream<'_>,
     text: &mut Vec<u8>,
+    flush: Flush,
     writer: &mut W,
 ) -> Result<Option<Status>, CliFault>
     requires { IsStreaming stream.old }
@@ -91,7 +123,7 @@ fn step<W: Sink>(
     ensures writer_failed { result ≢ Err CliFault.Write → W.failures writer.new ≡ W.failures writer.old }
 {
     text.clear();
-    let progress = stream.advance(alloc, text, BLOCK)?;
+    let progress = stream.advance(alloc, text, flush.entries())?;
     write_out(writer, text)?;
     match progress {
         Progress::Goes => Ok(None),

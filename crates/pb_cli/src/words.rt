@@ -63,6 +63,8 @@ pub enum Ask {
         file: String,
         /// The moment until which time passes, in bit times, at most 10^12, in place of the file's.
         until: Option<u64>,
+        /// Whether to show how far it is, also where nobody may look on.
+        progress: bool,
     },
     /// Print the version.
     Version,

@@ -12,9 +12,10 @@ ghost use Rattle.pb_cli.specs.Playing.{IsUpTo, line_limit, worker_limit};
 ghost use Rattle.pb_stream.specs.Streams.{stream_end};
 ghost use Rattle.ringplay.specs.ExitStatus.{exit_status_of, words_status_of};
 
+use looking_on::{ProgressLine, Shown, Terminals};
 use pb_cli::{
-    Ask, AskFault, Asked, Bus, CliFault, CountedReader, CountedWriter, Options, Status, VERSION,
-    ask_with_options, audit_with_reasons, bounds_file, bus_of, capture_file, decode_lines,
+    Ask, AskFault, Asked, Bus, CliFault, CountedReader, CountedWriter, Flush, Options, Status,
+    VERSION, ask_with_options, audit_with_reasons, bounds_file, bus_of, capture_file, decode_lines,
     export_file, monitor, play, read_input, stream_file, write_out,
 };
 use pb_export::Export;
@@ -23,13 +24,14 @@ use pb_texts::{MOST_EVENTS, explain, explain_audit, explain_bus, warn};
 use std::alloc::{AllocError, Global};
 use std::fmt::Display;
 use std::fs::Files;
-use std::io::{Error, ErrorKind, Read};
+use std::io::{Error, ErrorKind, IsTerminal, Read};
 use std::process::ExitCode;
-use std::rt::Env;
+use std::rt::{Clock, Env};
 use std::sync::Wait;
 use std::thread::Threads;
 use std::{env, fs, io};
 
+mod looking_on;
 #[cfg(test)]
 mod tests;
 
@@ -47,8 +49,12 @@ const MEMORY: u8 = 4;
 const STANDARD_INPUT: &str = "-";
 
 fn main(rt: HostRuntime) -> ExitCode {
+    let terminals = Terminals {
+        output: rt.stdout().is_terminal(),
+        errors: rt.stderr().is_terminal(),
+    };
     let status = match asked(&rt) {
-        Ok(asked) => exit_status(&rt, answer(&rt, asked)),
+        Ok(asked) => exit_status(&rt, answer(&rt, asked, terminals)),
         Err(fault) => words_status(&rt, fault),
     };
     ExitCode::from(status)
@@ -72,9 +78,10 @@ fn asked(rt: &(impl AllocGlobal + Env)) -> Result<Asked, AskFault>
 }
 
 /// Does what is asked.
-fn answer<T: AllocGlobal + Eprint + Files + Input + Print + Threads + Wait + Sync>(
+fn answer<T: AllocGlobal + Clock + Eprint + Files + Input + Print + Threads + Wait + Sync>(
     rt: &T,
     asked: Asked,
+    terminals: Terminals,
 ) -> Result<Status, CliFault>
     requires { IsWithinLimits asked.ask }
 {
@@ -91,7 +98,14 @@ fn answer<T: AllocGlobal + Eprint + Files + Input + Print + Threads + Wait + Syn
         Ask::Monitor { file, options } => watch(rt, file, options, is_quiet),
         Ask::Capture { file, tap } => capture(rt, file.as_str(), tap, is_quiet),
         Ask::Export { file, export } => export_to(rt, file.as_str(), &export, is_quiet),
-        Ask::Stream { file, until } => stream(rt, file.as_str(), until, is_quiet),
+        Ask::Stream {
+            file,
+            until,
+            progress,
+        } => {
+            let shown = terminals.shown(progress, is_quiet);
+            stream(rt, file.as_str(), until, terminals.flush(), shown, is_quiet)
+        }
         Ask::Version => version(rt),
     }
 }
@@ -237,18 +251,23 @@ fn export_to<T: AllocGlobal + Eprint + Files + Input + Print>(
     Ok(status)
 }
 
-/// `ringplay stream FILE`, to standard output; hints go to standard error.
-fn stream<T: AllocGlobal + Eprint + Files + Input + Print>(
+/// `ringplay stream FILE`, to standard output; progress and hints go to standard error.
+fn stream<T: AllocGlobal + Clock + Eprint + Files + Input + Print>(
     rt: &T,
     path: &str,
     until: Option<u64>,
+    flush: Flush,
+    shown_when: Shown,
     is_quiet: bool,
 ) -> Result<Status, CliFault>
     requires { IfSome until (λ moment. moment ≤ stream_end) }
 {
     let file = contents(rt, path, is_quiet)?;
     let mut writer = CountedWriter::new(io::writer(rt));
-    let status = stream_file(rt.alloc(), &file, until, &mut writer)?;
+    let mut line = ProgressLine::new(rt, shown_when);
+    let answer = stream_file(rt.alloc(), &file, until, flush, &mut writer, &mut line);
+    line.end();
+    let status = answer?;
     // A stream goes further than the run that a hint would play.
     if !is_quiet && read(rt.alloc(), &file).is_err() {
         hint(rt, explain(rt.alloc(), shown(path), &file, None));

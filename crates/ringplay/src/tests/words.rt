@@ -77,6 +77,29 @@ fn export_takes_a_form_and_a_window(rt: HostRuntime) -> Result<(), Fail> {
 }
 
 #[test]
+fn stream_takes_a_file_and_a_moment(rt: HostRuntime) -> Result<(), Fail> {
+    for (line, until, progress) in [
+        ("ringplay stream two.toml", None, false),
+        ("ringplay stream two.toml --until 9 --quiet", Some(9), false),
+        (
+            "ringplay stream --progress --until=1000000000000 two.toml",
+            Some(1_000_000_000_000),
+            true,
+        ),
+    ] {
+        let words = words(rt.alloc(), line)?;
+        let file = String::from_str(rt.alloc(), "two.toml")?;
+        let wanted = Ask::Stream {
+            file,
+            until,
+            progress,
+        };
+        equal(&rt, &ask(rt.alloc(), &words)?, &wanted);
+    }
+    Ok(())
+}
+
+#[test]
 fn other_words_get_a_usage_text(rt: HostRuntime) -> Result<(), Fail> {
     for (line, shown) in [
         ("ringplay", "Usage: ringplay <COMMAND>"),
@@ -102,6 +125,18 @@ fn other_words_get_a_usage_text(rt: HostRuntime) -> Result<(), Fail> {
         (
             "ringplay export ring.toml --to svg --from 5 --until 4",
             "--from 5 is past --until 4",
+        ),
+        (
+            "ringplay stream ring.toml --until 1000000000001",
+            "1000000000001 is not in 1..=1000000000000",
+        ),
+        (
+            "ringplay stream ring.toml --progress=5",
+            "unexpected value '5'",
+        ),
+        (
+            "ringplay run ring.toml --progress",
+            "unexpected argument '--progress'",
         ),
         (
             "ringplay --verbose decode",

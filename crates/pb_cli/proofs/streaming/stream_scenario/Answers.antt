@@ -21,7 +21,7 @@ returns-in-Some-clause-text g c =
     let mid = g.W.Sink.contents c.loop-text.writer in
     let after = g.W.Sink.contents c.step.new.writer in
     ends c.args.scenario.now.names whole c.loop-text.stream (g.W.Sink.contents c.args.writer.now) mid after c.in-Some.status c.loop-text.invariant.streams
-    (subst (λ (o : Option Status). StepsOn c.loop-text.stream c.step.new.stream mid after o) c.in-Some.is c.in_ok-status.ensures.steps)
+    (subst (λ (o : Option Status). StepsOn c.loop-text.stream c.step.new.stream mid after o) c.in-Some.is c.in_ok-ended.ensures.steps)
 
 pub loop-text-preserved : goal.loop-text-preserved
 loop-text-preserved g c =
@@ -30,6 +30,6 @@ loop-text-preserved g c =
     let after = g.W.Sink.contents c.step.new.writer in
     record {
       streams = goes_on c.args.scenario.now.names whole c.loop-text.stream c.step.new.stream (g.W.Sink.contents c.args.writer.now) mid after c.loop-text.invariant.streams
-          (subst (λ (o : Option Status). StepsOn c.loop-text.stream c.step.new.stream mid after o) c.in-None.is c.in_ok-status.ensures.steps);
+          (subst (λ (o : Option Status). StepsOn c.loop-text.stream c.step.new.stream mid after o) c.in-None.is c.in_ok-ended.ensures.steps);
       unfailed = search rules;
     }
