@@ -4,6 +4,7 @@ mod edges;
 mod examples;
 mod memory;
 mod reasons;
+mod replies;
 mod stations;
 mod stretches;
 mod telegrams;
