@@ -153,6 +153,8 @@ def values_of(source: Source, values: typing.Any) -> typing.Iterator[Named]:
             for inner in wanted:
                 yield named(source, f"bus.{inner}", ("values", "bus", inner), wanted[inner])
         else:
+            if key in KEYS:
+                raise source.fault(("values", key), f"{key} under [values] would be a label alone; allowed: {key} above [values], as a key of the plan")
             yield named(source, key, ("values", key), wanted)
 
 

@@ -81,7 +81,7 @@ class Bar:
 def draw(plot: Plot, out: pathlib.Path, wanted: str | None) -> None:
     tools = [tool for tool in (TOOLS if wanted is None else (wanted,)) if is_there(tool)]
     if not tools:
-        raise PlanFault(f"campaign: {NEITHER}")
+        raise PlanFault(f"campaign: {NEITHER if wanted is None else f'{wanted} is not installed'}")
     table = rows_of(plot)
     if plot.ys:
         curves = [curve for y in plot.ys for curve in curves_of(table, plot, y)]
