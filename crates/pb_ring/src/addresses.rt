@@ -30,7 +30,7 @@ impl Model for Addresses {
 
 impl Addresses {
     /// The empty set.
-    pub(crate) fn none() -> Addresses
+    pub fn none() -> Addresses
         ensures { result ≡ [] }
     {
         Addresses { bits: 0 }
@@ -65,8 +65,8 @@ impl Addresses {
         is_set(self.bits, address)
     }
 
-    /// Inserts an address.
-    pub(crate) fn insert(&mut self, address: u8)
+    /// Inserts an address, 0 to 126.
+    pub fn insert(&mut self, address: u8)
         requires { address < 127 }
         ensures { self.new ≡ with_address address self.old }
     {
@@ -100,7 +100,7 @@ impl Addresses {
     }
 
     /// Whether two sets are equal.
-    pub(crate) fn equals(self, other: Addresses) -> bool
+    pub fn equals(self, other: Addresses) -> bool
         ensures listed { result ≡ is_same self other }
         ensures same { IsTrue result ↔ (self ≡ other) }
     {

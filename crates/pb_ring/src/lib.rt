@@ -30,3 +30,4 @@ pub use list_laws::{
     the_members_are_a_set,
 };
 pub use lists::Las;
+pub use stages::Place;

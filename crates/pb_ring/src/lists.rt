@@ -119,6 +119,23 @@ impl Las {
         active_stations(self.stage).contains(address)
     }
 
+    /// The stations in the list. Before the list is complete, there are none.
+    pub fn members(&self) -> Addresses
+        ensures { result ≡ members_of self.now.stage }
+    {
+        active_stations(self.stage)
+    }
+
+    /// The own station's place in the ring, once it has joined.
+    pub fn place(&self) -> Option<Place>
+        ensures { result ≡ place_of self.now.stage }
+    {
+        match self.stage {
+            Stage::Learning(_, _) => None,
+            Stage::Complete(_, place) => place,
+        }
+    }
+
     /// The next station (NS) of the station `ts`, 0 to 126: the next higher address of the list, else the lowest. A
     /// station is its own next one if no other is in the list.
     pub fn ns(&self, ts: u8) -> u8

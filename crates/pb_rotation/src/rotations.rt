@@ -41,7 +41,7 @@ impl Model for Rotation {
 }
 
 impl Rotation {
-    ghost use Rattle.std.specs.Prelude.{◌≡◌, ◌∷◌, [], ◌++◌, ◌+◌, ◌-◌, ◌||◌, not, nat_lt, ℕ, List, IsSome, IfSome};
+    ghost use Rattle.std.specs.Prelude.{◌≡◌, ◌∷◌, [], ◌++◌, ◌+◌, ◌-◌, ◌||◌, not, nat_lt, ℕ, List, IsSome, IfSome, is_some};
     ghost use Rattle.pb_rotation.specs.Receipts as heard;
     ghost use Rattle.pb_rotation.specs.Rotation as model;
 
@@ -58,6 +58,13 @@ impl Rotation {
         ensures { result ≡ self.now.ttr }
     {
         self.ttr
+    }
+
+    /// Whether the station has received the token.
+    pub fn has_received(&self) -> bool
+        ensures { result ≡ is_some self.now.last }
+    {
+        self.last.is_some()
     }
 
     /// Records that the station receives the token at `at`. This ends the rotation that began with the receipt before.

@@ -4,4 +4,5 @@ pub mod Indications
 pub mod Mailboxes
 pub mod MarkViews
 pub mod Notes
+pub mod Standing
 pub mod Stations

@@ -13,6 +13,7 @@ mod marks;
 mod notes;
 mod reading;
 mod spares;
+mod standing;
 mod stations;
 mod turns;
 
@@ -24,4 +25,5 @@ pub use marks::Mark;
 pub use pb_faults::NoMemory;
 pub use pb_transitions::SendBuffer;
 pub use spares::Spares;
+pub use standing::Standing;
 pub use stations::Station;

@@ -10,6 +10,7 @@ ghost use Rattle.pb_tokenfsm.specs.Phases.{phase_of};
 use crate::inboxes::Inbox;
 use crate::mailboxes::Mailbox;
 use crate::marks::Mark;
+use crate::standing::{Standing, stands_as};
 use crate::turns::{
     due_of, due_on, due_with, is_overdue, read_on, speak_on, take_turn, take_turn_with, would_speak,
 };
@@ -74,6 +75,7 @@ impl Station {
     ghost use Rattle.std.specs.Prelude.{◌≡◌, ◌+◌, ◌≤◌, ◌<◌, List, nat_le, length, Some, None, map, is_some, IsTrue, ◌↔◌, IfOk, OnOk, OnErr, MatchResult};
     ghost use Rattle.pb_timers.specs.Timers.{Params};
     ghost use Rattle.law_turn.specs.Stations as turn;
+    ghost use Rattle.law_turn.specs.Turns.{after_marks};
     ghost use Rattle.pb_tokenfsm.specs.Phases.{phase_of};
     ghost use Rattle.pb_transitions.specs.Clocks.{last_turn, is_past};
     ghost use Rattle.pb_station.specs.Decisions.{turned};
@@ -82,6 +84,7 @@ impl Station {
     ghost use Rattle.pb_station.specs.Mailboxes.{read_mail};
     ghost use Rattle.pb_station.specs.Stations.{with_reply};
     ghost use Rattle.pb_station.specs.MarkViews.{mark_of, AllOver, AreOver};
+    ghost use Rattle.pb_station.specs.Standing.{StandsAs};
 
     /// A station that does not run, at the tap with this index, from 0. It is a master or a passive station, with the
     /// data with which it replies to a request for data. The caller ensures that the address is 0 to 126.
@@ -388,6 +391,16 @@ impl Station {
         ensures { result ≡ is_some (turned self.now inbox.now now).1 }
     {
         would_speak(&self.parts.core, &self.parts.params, inbox, now)
+    }
+
+    /// How the station stands in the ring once it has read the unread marks of an inbox. It changes nothing. The caller
+    /// ensures that `now` is at most 2^61, and that no mark has a later moment.
+    pub fn standing(&self, inbox: &Inbox, now: Moment) -> Standing
+        requires clock { now ≤ last_turn }
+        requires over { AllOver now inbox.now }
+        ensures { StandsAs (after_marks self.now.params self.now.station inbox.now) result }
+    {
+        stands_as(&self.parts.core, &self.parts.params, inbox, now)
     }
 
     /// When the station has to take its turn, with the unread marks of an inbox: what [`due`](crate::due) returns for

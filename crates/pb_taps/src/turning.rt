@@ -3,6 +3,8 @@
 ghost use Rattle.std.specs.Prelude.{◌≡◌, ◌≤◌, ◌<◌, [], is_some, option_map, OnOk, IfErr, Some, slice_get, length, map};
 ghost use Rattle.law_model.specs.Laws.{AllInOrder, InOrder};
 ghost use Rattle.law_model.specs.World.{clock_limit};
+ghost use Rattle.law_turn.specs.Turns.{after_marks};
+ghost use Rattle.pb_station.specs.Standing.{StandsAs};
 ghost use Rattle.pb_taps.specs.Glancing.{FitsTap};
 ghost use Rattle.pb_taps.specs.Taps.{tap_of};
 ghost use Rattle.pb_taps.specs.Turning.{says, turned_tap, Runs, TakesTurn, RefusesStopped};
@@ -11,7 +13,7 @@ ghost use Rattle.pb_taps.specs.declared.taps.Tap as declared;
 use crate::faults::WorldFault;
 use crate::taps::Tap;
 use arrayvec::ArrayVec;
-use pb_station::{Decided, SendBuffer, Station};
+use pb_station::{Decided, SendBuffer, Standing, Station};
 use pb_timers::Moment;
 use std::mem::replace;
 
@@ -39,6 +41,19 @@ pub fn would_speak(taps: &[Tap], tap: usize, now: Moment) -> bool
     ensures { (t : declared.Tap) → slice_get taps.now tap ≡ Some t → result ≡ is_some (says t now) }
 {
     would_say(&taps[tap], now)
+}
+
+impl Tap {
+    /// How its station stands in the ring once it has read its unread marks. It changes nothing. The caller ensures
+    /// that no mark has a moment after `now`.
+    pub fn standing(&self, now: Moment) -> Standing
+        requires clock { now ≤ clock_limit }
+        requires order { InOrder 0 self.now.marks now }
+        ensures { let s = self.now.station in
+            StandsAs (after_marks s.params s.station self.now.marks) result }
+    {
+        self.station.standing(&self.marks, now)
+    }
 }
 
 /// The station at a tap takes its turn: it reads all its marks, and sends into `out`.

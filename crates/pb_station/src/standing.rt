@@ -1,0 +1,49 @@
+//! How a station stands in the ring, once it has read its unread marks.
+
+ghost use Rattle.std.specs.Prelude.{◌≡◌, ◌≤◌};
+ghost use Rattle.law_turn.specs.Turns.{after_marks};
+ghost use Rattle.pb_transitions.specs.Clocks.{last_turn};
+ghost use Rattle.pb_transitions.specs.Cores.{station_of};
+ghost use Rattle.pb_station.specs.MarkViews.{AllOver};
+ghost use Rattle.pb_station.specs.Standing.{StandsAs};
+
+use crate::inboxes::{Inbox, Unread};
+use crate::reading::after_notes;
+use pb_ring::Las;
+use pb_timers::{BusParams, Moment};
+use pb_tokenfsm::Phase;
+use pb_transitions::Core;
+
+/// How a station stands in the ring, once it has read its unread marks: without a turn, so its timers go on.
+#[derive(Debug, Drop)]
+pub struct Standing {
+    pub phase: Phase,
+    /// Its list of active stations.
+    pub las: Las,
+    /// Whether it has a reply to send.
+    pub replies: bool,
+    /// Whether it has received the token since its start.
+    pub has_received: bool,
+}
+
+/// How a station with these unread marks stands.
+pub(crate) fn stands_as(core: &Core, params: &BusParams, inbox: &Inbox, now: Moment) -> Standing
+    requires clock { now ≤ last_turn }
+    requires over { AllOver now inbox.now }
+    ensures { StandsAs (after_marks params.now (station_of core.now) inbox.now) result }
+{
+    let mut kept = core.kept.copy();
+    let mut phase = core.phase.copy();
+    let Unread {
+        notes,
+        chars,
+        octets,
+    } = inbox.unread();
+    after_notes(&mut phase, &mut kept, params, notes, chars, octets, now);
+    Standing {
+        phase,
+        las: kept.las,
+        replies: kept.reply.is_some(),
+        has_received: kept.rotation.has_received(),
+    }
+}
