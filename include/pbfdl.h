@@ -511,6 +511,12 @@ uint32_t fdl_bus_due(struct fdl_bus *bus, size_t tap, uint64_t *at);
  * Code: FDL_NO_BUS, with *at unchanged. */
 uint32_t fdl_bus_next_change(struct fdl_bus *bus, uint64_t *at);
 
+/* Whether the ring is settled goes to *settled: all running masters that are not offline agree on who belongs to it and have
+ * had the token, one of them has it, no station has a reply to send, and nothing is on its way. From then on, as long as
+ * nothing disturbs, each master gets the token within the bound of a rotation.
+ * Code: FDL_NO_BUS, with *settled unchanged. */
+uint32_t fdl_bus_is_settled(struct fdl_bus *bus, bool *settled);
+
 /* The phase of the station at a tap, an fdl_phase, goes to *phase.
  * Codes, with *phase unchanged: FDL_NO_BUS, FDL_NO_SUCH_TAP. */
 uint32_t fdl_bus_phase(struct fdl_bus *bus, size_t tap, uint32_t *phase);

@@ -310,6 +310,7 @@ static void on_an_empty_bus(void)
     WANT(FDL_NO_BUS, fdl_bus_now(&bus, &moment));
     WANT(FDL_NO_BUS, fdl_bus_due(&bus, 0, &moment));
     WANT(FDL_NO_BUS, fdl_bus_next_change(&bus, &moment));
+    WANT(FDL_NO_BUS, fdl_bus_is_settled(&bus, &active));
     WANT(FDL_NO_BUS, fdl_bus_phase(&bus, 0, &phase));
     WANT(FDL_BAD_STATION, fdl_bus_is_active(&bus, 0, 127, &active));
     WANT(FDL_NO_BUS, fdl_bus_is_active(&bus, 0, 126, &active));
@@ -413,6 +414,12 @@ static void on_a_run(void)
         WANT(FDL_OK, fdl_bus_start(&bus, tap));
     WANT(FDL_OK, fdl_bus_run(&bus, 1000));
     WANT(FDL_BACKWARDS, fdl_bus_run(&bus, 999));
+    WANT(FDL_OK, fdl_bus_run(&bus, 1152));
+    WANT(FDL_OK, fdl_bus_is_settled(&bus, &active));
+    want(0, active, "a token is on its way");
+    WANT(FDL_OK, fdl_bus_run(&bus, 1153));
+    WANT(FDL_OK, fdl_bus_is_settled(&bus, &active));
+    want(1, active, "the second master has the token");
     WANT(FDL_CLOCK_FULL, fdl_bus_run(&bus, 1000000000001));
     WANT(FDL_OK, fdl_bus_queue(&bus, 0, 9, FDL_SRD, true, octets, 1));
     WANT(FDL_OK, fdl_bus_run(&bus, 5000));

@@ -392,6 +392,13 @@ class Memory(unittest.TestCase):
         self.assertEqual(self.refused(lambda: station.start(0)), 0)
         self.assertEqual(self.refused(lambda: station.turn(0)), 0)
 
+    def test_a_ring_settles_as_its_second_master_gets_the_token(self):
+        bus = self.ring()
+        bus.run(1152)
+        self.assertFalse(bus.is_settled)
+        bus.run(1153)
+        self.assertTrue(bus.is_settled)
+
     def test_a_bus_is_as_before_where_memory_is_refused(self):
         taps = [Tap(1), Tap(2)]
         self.assertGreater(self.refused(lambda: Bus(PARAMS, taps).close()), 0)

@@ -212,6 +212,14 @@ impl Bus {
         Some(at).filter(|&at| at != sys::FDL_NEVER)
     }
 
+    /// Whether the ring is settled: its masters agree on who belongs to it and have had the token, one of them has it, and
+    /// nothing is on its way. Then each gets the token again within the bound of a rotation, while nothing disturbs.
+    pub fn is_settled(&self) -> bool {
+        let mut settled = false;
+        let _ = unsafe { sys::fdl_bus_is_settled(self.at(), &mut settled) };
+        settled
+    }
+
     /// The phase of the station at a tap.
     ///
     /// # Errors

@@ -168,6 +168,15 @@ fn a_bus_runs_and_is_judged() {
 }
 
 #[test]
+fn a_ring_settles_as_its_second_master_gets_the_token() {
+    let mut bus = ring();
+    bus.run(1152).unwrap();
+    assert!(!bus.is_settled());
+    bus.run(1153).unwrap();
+    assert!(bus.is_settled());
+}
+
+#[test]
 fn a_tap_replies_with_other_data() {
     let mut bus = ring();
     bus.run(2000).unwrap();

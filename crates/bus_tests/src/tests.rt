@@ -5,6 +5,7 @@ mod examples;
 mod memory;
 mod reasons;
 mod replies;
+mod settled;
 mod stations;
 mod stretches;
 mod telegrams;

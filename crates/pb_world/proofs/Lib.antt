@@ -23,3 +23,4 @@ pub mod Acting
 pub mod Driving
 pub mod Alone
 pub mod SoundData
+pub mod Settling

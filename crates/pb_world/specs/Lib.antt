@@ -22,3 +22,4 @@ pub mod Data
 pub mod Acted
 pub mod Driven
 pub mod RunTo
+pub mod Settled

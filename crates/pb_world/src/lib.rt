@@ -25,6 +25,7 @@ mod replying;
 mod rooms;
 mod rules;
 mod run_to;
+mod settled;
 mod starting;
 mod stopping;
 mod stretches;

@@ -54,6 +54,7 @@ impl World {
     ghost use Rattle.law_runs.specs.Bus.{next_change};
     ghost use Rattle.law_live.specs.Actions.{ActOn};
     ghost use Rattle.law_live.specs.Promises.{KeepsPromises, LeadOn, LeadTo};
+    ghost use Rattle.law_rings.specs.Settled.{is_settled};
     ghost use Rattle.law_token.specs.Actions.{Sets};
     ghost use Rattle.pb_world.specs.Data.{SetsData};
 
@@ -199,6 +200,20 @@ impl World {
         ensures { result ≡ next_change self.entry.now }
     {
         self.bus.next_change()
+    }
+
+    /// Whether the ring is settled, each station as it is once it has read its unread marks: all running masters that are
+    /// not offline agree on who belongs to the ring, and have had the token; one of them has it; no station has a reply
+    /// to send; and nothing is on its way. From such a moment on, as long as nothing disturbs, each master of the ring
+    /// gets the token within the bound of a rotation (token passing: logical ring; target rotation time). Nothing is
+    /// changed or allocated.
+    ///
+    /// Telegrams that are over aren't looked at where the bus has no cable delay; else the answer takes time in
+    /// proportion to the trace.
+    pub fn is_settled(&self) -> bool
+        ensures { result ≡ is_settled self.entry.now }
+    {
+        self.bus.is_settled()
     }
 
     /// A glance at a tap: its station, its unread marks, and the clock. A turn can be decided from it

@@ -1,6 +1,7 @@
 //! What can be read of a bus and of the stations at its taps.
 
 ghost use Rattle.std.specs.Prelude.{◌≡◌, ◌≢◌, ◌<◌, ◌≤◌, None, IfSome, unwrap_or, length};
+ghost use Rattle.law_rings.specs.Settled.{is_settled};
 ghost use Rattle.law_runs.specs.Bus.{next_change};
 ghost use Rattle.pb_ring.specs.AddressSets.{is_member};
 ghost use Rattle.pb_ring.specs.Las.{members_of};
@@ -53,6 +54,25 @@ pub extern "C" fn fdl_bus_due(alloc: Global, bus: &mut BusHandle, tap: usize, at
     let code = tell_due(there.bus(), tap, at);
     bus.put(there);
     code
+}
+
+/// Whether the ring is settled: all running masters that are not offline agree on who belongs to it and have had the
+/// token, one of them has it, no station has a reply to send, and nothing is on its way (token passing: logical ring).
+/// Code: 73.
+#[unsafe(no_mangle)]
+pub extern "C" fn fdl_bus_is_settled(alloc: Global, bus: &mut BusHandle, settled: &mut bool) -> u32
+    ensures none { bus.old.value ≡ None
+        → FindsNoBus result bus.new.value × (settled.new ≡ settled.old) }
+    ensures settled { IfSome bus.old.value
+        (λ b. (result ≡ 0) × (settled.new ≡ is_settled (world_in b))) }
+    ensures kept { bus.new.value ≡ bus.old.value }
+{
+    let Some(there) = bus.take(alloc) else {
+        return NO_BUS;
+    };
+    *settled = there.bus().is_settled();
+    bus.put(there);
+    0
 }
 
 /// The next moment at which something changes on the bus apart from turns: 2^64 - 1 where nothing is to come. Code: 73.

@@ -149,6 +149,7 @@ _FUNCTIONS = {
     "fdl_bus_now": [_HANDLE, POINTER(c_uint64)],
     "fdl_bus_due": [_HANDLE, c_size_t, POINTER(c_uint64)],
     "fdl_bus_next_change": [_HANDLE, POINTER(c_uint64)],
+    "fdl_bus_is_settled": [_HANDLE, POINTER(c_bool)],
     "fdl_bus_phase": [_HANDLE, c_size_t, POINTER(c_uint32)],
     "fdl_bus_is_active": [_HANDLE, c_size_t, c_uint8, POINTER(c_bool)],
     "fdl_bus_executed": [_HANDLE, c_size_t, POINTER(c_uint64)],

@@ -236,6 +236,12 @@ class Bus(Handle):
         """When something next changes on the bus, turns apart; None where nothing is to come."""
         return moment_or_none(self._number("fdl_bus_next_change", c_uint64))
 
+    @property
+    def is_settled(self) -> bool:
+        """Whether the ring is settled: its masters agree on who belongs to it and have had the token, one of them has it, and
+        nothing is on its way. Then each gets the token again within the bound of a rotation, while nothing disturbs."""
+        return bool(self._number("fdl_bus_is_settled", c_bool))
+
     def phase(self, tap: int) -> Phase:
         """The phase of the station at a tap."""
         return Phase(self._number("fdl_bus_phase", c_uint32, self._tap(tap)))
