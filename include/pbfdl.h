@@ -533,6 +533,23 @@ uint32_t fdl_bus_executed(struct fdl_bus *bus, size_t tap, uint64_t *count);
  * Codes, with *outcome unchanged: FDL_NO_BUS, FDL_NO_SUCH_TAP. */
 uint32_t fdl_bus_outcome(struct fdl_bus *bus, size_t tap, struct fdl_outcome *outcome);
 
+/* Keeps the requests of others that the station at a tap executes from now on, as a port tells them (fdl_port_indication): the
+ * first ones, as many as there is room for; a request takes 264 octets of memory. What was kept of this tap is forgotten.
+ * Codes, with what was kept before: FDL_NO_BUS; FDL_NO_SUCH_TAP; FDL_NO_MEMORY. */
+uint32_t fdl_bus_keep_indications(struct fdl_bus *bus, size_t tap, size_t room);
+
+/* How many of them are kept goes to *count.
+ * Codes, with *count unchanged: FDL_NO_BUS; FDL_NO_INDICATION where they are not asked for. */
+uint32_t fdl_bus_indications(struct fdl_bus *bus, size_t tap, size_t *count);
+
+/* The one with an index, from 0, in the order in which they were executed, goes to *indication.
+ * Codes, with *indication unchanged: FDL_NO_BUS; FDL_NO_INDICATION where no more than index are kept. */
+uint32_t fdl_bus_indication(struct fdl_bus *bus, size_t tap, size_t index, struct fdl_indication *indication);
+
+/* Forgets those that are kept, so that there is room again; later ones are kept.
+ * Code: FDL_NO_BUS. */
+uint32_t fdl_bus_forget_indications(struct fdl_bus *bus, size_t tap);
+
 /* How many entries the trace has goes to *count. An entry that is not over may still change.
  * Code: FDL_NO_BUS, with *count unchanged. */
 uint32_t fdl_bus_entries(struct fdl_bus *bus, size_t *count);

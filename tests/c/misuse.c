@@ -287,6 +287,7 @@ static void on_an_empty_bus(void)
     uint64_t moment = 7;
     uint32_t phase = 7;
     size_t count = 7;
+    struct fdl_indication indication;
     bool active = true;
     static struct fdl_outcome outcome;
     static struct fdl_entry entry;
@@ -311,6 +312,10 @@ static void on_an_empty_bus(void)
     WANT(FDL_NO_BUS, fdl_bus_due(&bus, 0, &moment));
     WANT(FDL_NO_BUS, fdl_bus_next_change(&bus, &moment));
     WANT(FDL_NO_BUS, fdl_bus_is_settled(&bus, &active));
+    WANT(FDL_NO_BUS, fdl_bus_keep_indications(&bus, 0, 1));
+    WANT(FDL_NO_BUS, fdl_bus_indications(&bus, 0, &count));
+    WANT(FDL_NO_BUS, fdl_bus_indication(&bus, 0, 0, &indication));
+    WANT(FDL_NO_BUS, fdl_bus_forget_indications(&bus, 0));
     WANT(FDL_NO_BUS, fdl_bus_phase(&bus, 0, &phase));
     WANT(FDL_BAD_STATION, fdl_bus_is_active(&bus, 0, 127, &active));
     WANT(FDL_NO_BUS, fdl_bus_is_active(&bus, 0, 126, &active));
@@ -405,6 +410,7 @@ static void on_a_run(void)
     uint64_t moment = 7;
     uint32_t phase = 7;
     size_t count = 7;
+    struct fdl_indication indication;
     bool active = false;
     struct fdl_outcome outcome;
     struct fdl_entry entry;
@@ -421,8 +427,21 @@ static void on_a_run(void)
     WANT(FDL_OK, fdl_bus_is_settled(&bus, &active));
     want(1, active, "the second master has the token");
     WANT(FDL_CLOCK_FULL, fdl_bus_run(&bus, 1000000000001));
+    WANT(FDL_NO_INDICATION, fdl_bus_indications(&bus, 2, &count));
+    WANT(FDL_NO_SUCH_TAP, fdl_bus_keep_indications(&bus, 3, 1));
+    WANT(FDL_NO_MEMORY, fdl_bus_keep_indications(&bus, 2, SIZE_MAX));
+    WANT(FDL_OK, fdl_bus_keep_indications(&bus, 2, 1));
     WANT(FDL_OK, fdl_bus_queue(&bus, 0, 9, FDL_SRD, true, octets, 1));
     WANT(FDL_OK, fdl_bus_run(&bus, 5000));
+    WANT(FDL_OK, fdl_bus_indications(&bus, 2, &count));
+    want(1, (uint32_t)count, "the request that the slave executed");
+    WANT(FDL_OK, fdl_bus_indication(&bus, 2, 0, &indication));
+    want(1, indication.source == 1 && indication.service == FDL_SRD && indication.high && indication.count == 1, "as it was asked");
+    want(octets[0], indication.data[0], "its octet");
+    WANT(FDL_NO_INDICATION, fdl_bus_indication(&bus, 2, 1, &indication));
+    WANT(FDL_OK, fdl_bus_forget_indications(&bus, 2));
+    WANT(FDL_OK, fdl_bus_indications(&bus, 2, &count));
+    want(0, (uint32_t)count, "it is forgotten");
     WANT(FDL_OK, fdl_bus_run(&bus, 5000));
     WANT(FDL_OK, fdl_bus_now(&bus, &moment));
     want(5000, (uint32_t)moment, "the clock");

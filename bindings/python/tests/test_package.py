@@ -9,7 +9,7 @@ import threading
 import unittest
 
 import pbfdl
-from pbfdl import Bus, Entry, Heard, Kind, OutcomeKind, Params, Phase, Receiver, Service, Station, Tap, Telegram, _library
+from pbfdl import Bus, Entry, Heard, Indication, Kind, OutcomeKind, Params, Phase, Receiver, Service, Station, Tap, Telegram, _library
 
 NUMBERS = dict(tsl=100, tid1=37, tid2=60, tsdr=11, lag=0, ttr=10_000, gap=10, hsa=5, retries=1, ttd=0)
 PARAMS = Params(**NUMBERS)
@@ -392,6 +392,22 @@ class Memory(unittest.TestCase):
         self.assertEqual(self.refused(lambda: station.start(0)), 0)
         self.assertEqual(self.refused(lambda: station.turn(0)), 0)
 
+    def test_a_bus_keeps_what_a_slave_executes(self):
+        bus = self.ring()
+        with self.assertRaisesRegex(pbfdl.NoIndication, "call keep_indications.2. first"):
+            bus.indications(2)
+        with self.assertRaises(pbfdl.NoSuchTap):
+            bus.keep_indications(3)
+        with self.assertRaises(pbfdl.NoMemory):
+            bus.keep_indications(2, 2**60)
+        bus.keep_indications(2, room=1)
+        for octet in (7, 8):
+            bus.queue(0, 9, Service.SRD, bytes([octet]), high=True)
+        bus.run(4000)
+        self.assertEqual(bus.executed(2), 2)
+        self.assertEqual(bus.take_indications(2), [Indication(source=1, service=Service.SRD, high=True, data=b"\x07")])
+        self.assertEqual(bus.indications(2), [])
+
     def test_a_ring_settles_as_its_second_master_gets_the_token(self):
         bus = self.ring()
         bus.run(1152)
@@ -406,6 +422,7 @@ class Memory(unittest.TestCase):
         for it in (bus, other):
             it.start(0)
             it.start(1)
+        self.assertGreater(self.refused(lambda: bus.keep_indications(1)), 0)
         self.assertGreater(self.refused(lambda: bus.run(5000)), 0)
         other.run(5000)
         self.assertEqual(bus.trace, other.trace)

@@ -7,7 +7,7 @@ use core::ptr;
 
 use crate::faults::{check, Fault};
 use crate::params::Params;
-use crate::stations::{Outcome, Phase, Priority, Service, NO_OUTCOME};
+use crate::stations::{Indication, Outcome, Phase, Priority, Service, NO_OUTCOME};
 use crate::sys;
 use crate::traces::{Audit, Entry, Trace};
 
@@ -210,6 +210,41 @@ impl Bus {
         let mut at = sys::FDL_NEVER;
         let _ = unsafe { sys::fdl_bus_next_change(self.at(), &mut at) };
         Some(at).filter(|&at| at != sys::FDL_NEVER)
+    }
+
+    /// Keeps the requests of others that the station at a tap executes from now on, without repeats: the first ones, as many as
+    /// there is room for. [`Bus::take_indications`] makes room again. What was kept of this tap is forgotten.
+    ///
+    /// # Errors
+    /// `NoSuchTap`, `NoMemory`.
+    pub fn keep_indications(&mut self, tap: usize, room: usize) -> Result<(), Fault> {
+        check(unsafe { sys::fdl_bus_keep_indications(self.at(), tap, room) })
+    }
+
+    /// The requests that are kept of a tap, in the order of their execution.
+    ///
+    /// # Errors
+    /// `NoIndication` where they are not asked for.
+    pub fn indications(&self, tap: usize) -> Result<Vec<Indication>, Fault> {
+        let mut count = 0;
+        check(unsafe { sys::fdl_bus_indications(self.at(), tap, &mut count) })?;
+        (0..count).map(|index| self.indication(tap, index)).collect()
+    }
+
+    fn indication(&self, tap: usize, index: usize) -> Result<Indication, Fault> {
+        let mut found = Indication::nothing();
+        check(unsafe { sys::fdl_bus_indication(self.at(), tap, index, &mut found) })?;
+        Ok(Indication::of(&found))
+    }
+
+    /// [`Bus::indications`], and forgets them: there is room for later ones.
+    ///
+    /// # Errors
+    /// `NoIndication` where they are not asked for.
+    pub fn take_indications(&mut self, tap: usize) -> Result<Vec<Indication>, Fault> {
+        let taken = self.indications(tap)?;
+        check(unsafe { sys::fdl_bus_forget_indications(self.at(), tap) })?;
+        Ok(taken)
     }
 
     /// Whether the ring is settled: its masters agree on who belongs to it and have had the token, one of them has it, and

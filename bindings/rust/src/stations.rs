@@ -121,7 +121,12 @@ pub struct Indication {
 }
 
 impl Indication {
-    fn of(found: &sys::fdl_indication) -> Indication {
+    /// What C writes an indication to.
+    pub(crate) fn nothing() -> sys::fdl_indication {
+        sys::fdl_indication { source: 0, service: 0, high: false, count: 0, data: [0; sys::FDL_MOST_DATA] }
+    }
+
+    pub(crate) fn of(found: &sys::fdl_indication) -> Indication {
         let service = match found.service {
             0 => Service::Sda,
             1 => Service::Sdn,
@@ -304,7 +309,7 @@ impl Station {
     }
 
     fn indication(&self, index: usize) -> Option<Indication> {
-        let mut found = sys::fdl_indication { source: 0, service: 0, high: false, count: 0, data: [0; sys::FDL_MOST_DATA] };
+        let mut found = Indication::nothing();
         check(unsafe { sys::fdl_port_indication(self.port(), index, &mut found) }).ok()?;
         Some(Indication::of(&found))
     }

@@ -227,6 +227,10 @@ extern "C" {
     pub fn fdl_bus_due(bus: *mut fdl_bus, tap: usize, at: *mut u64) -> u32;
     pub fn fdl_bus_next_change(bus: *mut fdl_bus, at: *mut u64) -> u32;
     pub fn fdl_bus_is_settled(bus: *mut fdl_bus, settled: *mut bool) -> u32;
+    pub fn fdl_bus_keep_indications(bus: *mut fdl_bus, tap: usize, room: usize) -> u32;
+    pub fn fdl_bus_indications(bus: *mut fdl_bus, tap: usize, count: *mut usize) -> u32;
+    pub fn fdl_bus_indication(bus: *mut fdl_bus, tap: usize, index: usize, indication: *mut fdl_indication) -> u32;
+    pub fn fdl_bus_forget_indications(bus: *mut fdl_bus, tap: usize) -> u32;
     pub fn fdl_bus_phase(bus: *mut fdl_bus, tap: usize, phase: *mut u32) -> u32;
     pub fn fdl_bus_is_active(bus: *mut fdl_bus, tap: usize, address: u8, active: *mut bool) -> u32;
     pub fn fdl_bus_executed(bus: *mut fdl_bus, tap: usize, count: *mut u64) -> u32;

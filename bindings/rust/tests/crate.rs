@@ -168,6 +168,23 @@ fn a_bus_runs_and_is_judged() {
 }
 
 #[test]
+fn a_bus_keeps_what_a_slave_executes() {
+    let mut bus = ring();
+    assert_eq!(bus.indications(2), Err(Fault::NoIndication));
+    assert_eq!(bus.keep_indications(3, 1), Err(Fault::NoSuchTap));
+    assert_eq!(bus.keep_indications(2, usize::MAX), Err(Fault::NoMemory));
+    bus.keep_indications(2, 1).unwrap();
+    for octet in [7, 8] {
+        bus.queue(0, 9, Service::Srd, Priority::High, &[octet]).unwrap();
+    }
+    bus.run(4000).unwrap();
+    let first = Indication { source: 1, service: Service::Srd, priority: Priority::High, data: vec![7] };
+    assert_eq!(bus.executed(2), Ok(2));
+    assert_eq!(bus.take_indications(2), Ok(vec![first]));
+    assert_eq!(bus.indications(2), Ok(vec![]));
+}
+
+#[test]
 fn a_ring_settles_as_its_second_master_gets_the_token() {
     let mut bus = ring();
     bus.run(1152).unwrap();

@@ -2,6 +2,7 @@
 
 mod edges;
 mod examples;
+mod indications;
 mod memory;
 mod reasons;
 mod replies;

@@ -8,9 +8,10 @@ ghost use Rattle.law_turn.specs.Phases as phases;
 ghost use Rattle.pb_tokenfsm.specs.Phases.{phase_of};
 
 use crate::inboxes::Inbox;
+use crate::indications::Indication;
 use crate::mailboxes::Mailbox;
 use crate::marks::Mark;
-use crate::standing::{Standing, stands_as};
+use crate::standing::{Standing, stands_as, would_execute};
 use crate::turns::{
     due_of, due_on, due_with, is_overdue, read_on, speak_on, take_turn, take_turn_with, would_speak,
 };
@@ -80,7 +81,8 @@ impl Station {
     ghost use Rattle.pb_transitions.specs.Clocks.{last_turn, is_past};
     ghost use Rattle.pb_station.specs.Decisions.{turned};
     ghost use Rattle.pb_station.specs.Halves.{at_clock, has_come, spoken};
-    ghost use Rattle.pb_station.specs.Indications.{indications_of};
+    ghost use Rattle.std.specs.Vec.{vec_capacity};
+    ghost use Rattle.pb_station.specs.Indications.{fields_of, indications_of};
     ghost use Rattle.pb_station.specs.Mailboxes.{read_mail};
     ghost use Rattle.pb_station.specs.Stations.{with_reply};
     ghost use Rattle.pb_station.specs.MarkViews.{mark_of, AllOver, AreOver};
@@ -401,6 +403,20 @@ impl Station {
         ensures { StandsAs (after_marks self.now.params self.now.station inbox.now) result }
     {
         stands_as(&self.parts.core, &self.parts.params, inbox, now)
+    }
+
+    /// The requests of others that the station executes in a turn at `now` with the unread marks of an inbox: they
+    /// replace the content of `told`. It changes nothing else. The caller ensures that `now` is at most 2^61, that no
+    /// mark has a later moment, and that `told` has memory for 64.
+    pub fn would_execute(&self, inbox: &Inbox, now: Moment, told: &mut Vec<Indication>)
+        requires clock { now ≤ last_turn }
+        requires over { AllOver now inbox.now }
+        requires room { 64 ≤ vec_capacity told.old }
+        ensures told { map fields_of told.new.items
+            ≡ indications_of self.now.params self.now.station inbox.now }
+        ensures room { vec_capacity told.new ≡ vec_capacity told.old }
+    {
+        would_execute(&self.parts.core, &self.parts.params, inbox, now, told);
     }
 
     /// When the station has to take its turn, with the unread marks of an inbox: what [`due`](crate::due) returns for

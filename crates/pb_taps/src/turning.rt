@@ -3,7 +3,9 @@
 ghost use Rattle.std.specs.Prelude.{◌≡◌, ◌≤◌, ◌<◌, [], is_some, option_map, OnOk, IfErr, Some, slice_get, length, map};
 ghost use Rattle.law_model.specs.Laws.{AllInOrder, InOrder};
 ghost use Rattle.law_model.specs.World.{clock_limit};
+ghost use Rattle.std.specs.Vec.{vec_capacity};
 ghost use Rattle.law_turn.specs.Turns.{after_marks};
+ghost use Rattle.pb_station.specs.Indications.{fields_of, indications_of};
 ghost use Rattle.pb_station.specs.Standing.{StandsAs};
 ghost use Rattle.pb_taps.specs.Glancing.{FitsTap};
 ghost use Rattle.pb_taps.specs.Taps.{tap_of};
@@ -13,7 +15,7 @@ ghost use Rattle.pb_taps.specs.declared.taps.Tap as declared;
 use crate::faults::WorldFault;
 use crate::taps::Tap;
 use arrayvec::ArrayVec;
-use pb_station::{Decided, SendBuffer, Standing, Station};
+use pb_station::{Decided, Indication, SendBuffer, Standing, Station};
 use pb_timers::Moment;
 use std::mem::replace;
 
@@ -53,6 +55,19 @@ impl Tap {
             StandsAs (after_marks s.params s.station self.now.marks) result }
     {
         self.station.standing(&self.marks, now)
+    }
+
+    /// The requests of others that its station executes in a turn at `now`: they replace the content of `told`. It
+    /// changes nothing else. The caller ensures that no mark has a later moment, and that `told` has memory for 64.
+    pub fn would_execute(&self, now: Moment, told: &mut Vec<Indication>)
+        requires clock { now ≤ clock_limit }
+        requires order { InOrder 0 self.now.marks now }
+        requires room { 64 ≤ vec_capacity told.old }
+        ensures told { let s = self.now.station in
+            map fields_of told.new.items ≡ indications_of s.params s.station self.now.marks }
+        ensures room { vec_capacity told.new ≡ vec_capacity told.old }
+    {
+        self.station.would_execute(&self.marks, now, told);
     }
 }
 

@@ -13,20 +13,35 @@ use Rattle.law_token.specs.Actions.{Happens}
 use Rattle.pb_world.specs.Acted.{HasActed}
 use Rattle.pb_world.specs.Driven.{Applies, ComesOn, Stays}
 use Rattle.pb_world.specs.RunTo.{alone_until, GoesOn, Happened, HasRun, HasStopped, passes_to, Plays, run_to, run_with, Stopped, StopsIn, turn_if}
+use Rattle.pb_world.specs.Told.{tray_at}
 use Rattle.pb_world.specs.Watched.{IsWatched, world_in}
 use Rattle.pb_world.specs.Worlds.{due_at}
 use Rattle.pb_world.specs.declared.watched.Watched.{Watched}
+use Rattle.law_token.proofs.whole.JoinedRuns.{runs_join}
+use Rattle.pb_world.proofs.Telling.{told-join, tray-none}
 use Rattle.pb_world.proofs.Instants.{all-append, due-get, front-front, no-front, one-ok, others-due, turns-append, turns-list, turn_list, wanted-front}
 
 -- ---- events of a moment
 
 pub happened-none : (now : ℕ) (w : Watched) → IsWatched w → Happened now w [] w
-happened-none now w watched = record { world = refl; comes = λ start actions came. subst (HasActed w start) (sym (append-nil actions)) came; watched = watched }
+happened-none now w watched = record {
+  world = refl;
+  comes = record {
+    acts = λ start actions came. subst (HasActed w start) (sym (append-nil actions)) came;
+    runs = refl;
+    told = λ k. sym (tray-none (tray_at w.told k));
+  };
+  watched = watched;
+}
 
 comes-join : (a b c : Watched) (xs ys : List Event) → ComesOn a xs b → ComesOn b ys c → ComesOn a (xs ++ ys) c
-comes-join a b c xs ys one two start actions came =
-    subst (HasActed c start) (append_assoc actions (map Happens xs) (map Happens ys) ∙ ap (λ more. actions ++ more) (sym (map-append Happens xs ys)))
-    (two start (actions ++ map Happens xs) (one start actions came))
+comes-join a b c xs ys one two = record {
+  acts = λ start actions came.
+      subst (HasActed c start) (append_assoc actions (map Happens xs) (map Happens ys) ∙ ap (λ more. actions ++ more) (sym (map-append Happens xs ys)))
+      (two.acts start (actions ++ map Happens xs) (one.acts start actions came));
+  runs = runs_join xs ys (world_in a) (world_in c) (world_in b, one.runs, two.runs);
+  told = told-join a b c xs ys one.runs one.told two.told;
+}
 
 pub happened-join : (now : ℕ) (a b c : Watched) (xs ys : List Event) → Happened now a xs b → Happened now b ys c → Happened now a (xs ++ ys) c
 happened-join now a b c xs ys one two = record {
@@ -46,7 +61,11 @@ one-stopped now old new e fault watched stays why = record {
   cut = refl;
   happened = record {
     world = ap (λ (w : World). Ok w) (sym stays.world);
-    comes = λ start actions came. subst (HasActed new start) (sym (append-nil actions)) (stays.came start actions came);
+    comes = record {
+      acts = λ start actions came. subst (HasActed new start) (sym (append-nil actions)) (stays.came start actions came);
+      runs = sym stays.world;
+      told = λ k. stays.told k ∙ sym (tray-none (tray_at old.told k));
+    };
     watched = watched;
   };
   why = subst (λ (w : World). Refuses w e (step w e) fault) (sym stays.world) why;

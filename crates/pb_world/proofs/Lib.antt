@@ -20,6 +20,7 @@ pub mod LettingGo
 pub mod Counting
 pub mod Instants
 pub mod Acting
+pub mod Telling
 pub mod Driving
 pub mod Alone
 pub mod SoundData

@@ -23,3 +23,4 @@ pub mod Acted
 pub mod Driven
 pub mod RunTo
 pub mod Settled
+pub mod Told

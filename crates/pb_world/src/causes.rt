@@ -192,7 +192,7 @@ fn first_with(taps: &[Tap], address: u8, behind: usize) -> Option<usize> {
 fn meeting(watched: &Watched, last: Option<Waited>) -> Option<Cause>
     requires { IsWatched watched.now }
 {
-    let Watched { bus, watch } = watched;
+    let Watched { bus, watch, .. } = watched;
     let tap = first_waiting(bus, &watch.quiet, 0)?;
     if let Some(other) = first_waiting(bus, &watch.quiet, tap + 1) {
         return Some(Cause::OneWaits {

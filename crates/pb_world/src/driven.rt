@@ -1,9 +1,11 @@
 //! A bus that a caller drives: by events, and by itself up to a moment.
 
-ghost use Rattle.std.specs.Prelude.{◌≡◌, IsSome};
+ghost use Rattle.std.specs.Prelude.{◌≡◌, true, is_some, IsSome, IfErr, OnOk};
+ghost use Rattle.law_model.specs.World.{Turn};
 ghost use Rattle.pb_taps.specs.Events.{event_of};
-ghost use Rattle.pb_world.specs.Driven.{Applies, SetsReply};
+ghost use Rattle.pb_world.specs.Driven.{Applies, Forgets, KeepsFrom, RefusesToKeep, SetsReply, StaysBut};
 ghost use Rattle.pb_world.specs.Premises.{time_in};
+ghost use Rattle.pb_world.specs.Told.{tray_at};
 ghost use Rattle.pb_world.specs.Watched.{IsWatched};
 
 use crate::buses::Bus;
@@ -12,6 +14,7 @@ use crate::premises::follow;
 use crate::run_to::run_to;
 use crate::watched::{Watched, findings, new_watched};
 use arrayvec::ArrayVec;
+use pb_station::Indication;
 use pb_taps::{Event, NewFault, TapSpec, WorldFault};
 use pb_timers::BusParams;
 use std::alloc::Global;
@@ -57,14 +60,17 @@ impl Model for DrivenBus {
 }
 
 impl DrivenBus {
-    ghost use Rattle.std.specs.Prelude.{◌≡◌, [], Ok, IfOk, IfErr, OnOk, map};
+    ghost use Rattle.std.specs.Prelude.{◌≡◌, ℕ, [], None, Some, Ok, IfOk, IfErr, OnOk, MatchOption, map};
+    ghost use Rattle.std.specs.Option.{option_map};
     ghost use Rattle.law_model.specs.World.{new_world};
     ghost use Rattle.pb_taps.specs.Events.{event_of};
     ghost use Rattle.pb_taps.specs.Faults.{RefusesNew};
     ghost use Rattle.pb_taps.specs.Taps.{spec_of};
     ghost use Rattle.pb_world.specs.Buses.{IsKept};
     ghost use Rattle.pb_world.specs.Acted.{FindsBy, HasActed};
-    ghost use Rattle.pb_world.specs.Driven.{Applies, SetsReply};
+    ghost use Rattle.pb_station.specs.Indications.{fields_of};
+    ghost use Rattle.pb_world.specs.Driven.{Applies, Forgets, KeepsFrom, RefusesToKeep, SetsReply, StaysBut};
+    ghost use Rattle.pb_world.specs.Told.{tray_at};
     ghost use Rattle.pb_world.specs.RunTo.{HasRun, HasStopped};
     ghost use Rattle.pb_world.specs.Watched.{world_in};
 
@@ -74,6 +80,7 @@ impl DrivenBus {
     pub fn new(alloc: Global, params: BusParams, specs: &[TapSpec]) -> Result<DrivenBus, NewFault>
         ensures new { IfOk result (λ b. new_world params (map spec_of specs.now) ≡ Ok (world_in b)) }
         ensures came { IfOk result (λ b. HasActed b (world_in b) []) }
+        ensures told { IfOk result (λ b. (k : ℕ) → tray_at b.told k ≡ None) }
         ensures fault { IfErr result (RefusesNew (new_world params (map spec_of specs.now))) }
     {
         let watched = new_watched(alloc, params, specs)?;
@@ -111,6 +118,40 @@ impl DrivenBus {
         set_reply(&mut self.watched, tap, reply)
     }
 
+    /// Keeps the requests of others that the station at a tap executes from now on (message cycles: indications): the
+    /// first ones, as many as there is room for. What was kept of this tap before is forgotten.
+    ///
+    /// Faults: `NoSuchTap`; `NoMemory` if memory was refused, for so many requests. Then what is kept stays.
+    pub fn keep_indications(
+        &mut self,
+        alloc: Global,
+        tap: usize,
+        room: usize,
+    ) -> Result<(), WorldFault>
+        ensures same { StaysBut self.old self.new }
+        ensures kept { OnOk result (KeepsFrom self.old tap room self.new) }
+        ensures fault { IfErr result (RefusesToKeep self.old tap self.new) }
+    {
+        keep_indications(&mut self.watched, alloc, tap, room)
+    }
+
+    /// The requests that are kept of a tap, in the order in which its station executed them; `None` if they are not
+    /// asked for.
+    pub fn indications(&self, tap: usize) -> Option<&[Indication]>
+        ensures { MatchOption result (tray_at self.entry.now.told tap ≡ None)
+            (λ rs. option_map (λ t. t.requests) (tray_at self.entry.now.told tap) ≡ Some (map fields_of rs.now)) }
+    {
+        self.watched.told.requests(tap)
+    }
+
+    /// Forgets the requests that are kept of a tap, if they are asked for. Later ones are kept.
+    pub fn forget_indications(&mut self, tap: usize)
+        ensures same { StaysBut self.old self.new }
+        ensures forgets { Forgets self.old tap self.new }
+    {
+        forget_indications(&mut self.watched, tap);
+    }
+
     /// What an audit finds in the events so far.
     pub fn judge(&self) -> Audit
         ensures { FindsBy self.entry.now result }
@@ -135,8 +176,49 @@ pub(crate) fn apply(watched: &mut Watched, alloc: Global, event: &Event) -> Resu
 {
     match event {
         Event::Pass(_) => apply_pass(watched, alloc, event),
+        Event::Turn(tap) => apply_turn(watched, alloc, *tap, event),
         _ => follow(&mut watched.watch, alloc, &mut watched.bus, event),
     }
+}
+
+/// Applies a turn.
+#[inline(always)]
+fn apply_turn(
+    watched: &mut Watched,
+    alloc: Global,
+    tap: usize,
+    event: &Event,
+) -> Result<(), WorldFault>
+    requires watched { IsWatched watched.old }
+    requires turn { event_of event.now ≡ Turn tap }
+    ensures applies { Applies watched.old (Turn tap) result watched.new }
+    ensures watched { IsWatched watched.new }
+{
+    if watched.told.keeps(tap) {
+        return apply_told(watched, alloc, tap, event);
+    }
+    follow(&mut watched.watch, alloc, &mut watched.bus, event)
+}
+
+/// Applies a turn of a tap whose executed requests are kept. They are read before it, and kept if it isn't refused.
+#[inline(never)]
+fn apply_told(
+    watched: &mut Watched,
+    alloc: Global,
+    tap: usize,
+    event: &Event,
+) -> Result<(), WorldFault>
+    requires watched { IsWatched watched.old }
+    requires turn { event_of event.now ≡ Turn tap }
+    requires kept { is_some (tray_at watched.old.told tap) ≡ true }
+    ensures applies { Applies watched.old (Turn tap) result watched.new }
+    ensures watched { IsWatched watched.new }
+{
+    let Watched { bus, watch, told } = watched;
+    told.read(&bus.taps, tap, bus.now);
+    follow(watch, alloc, bus, event)?;
+    told.note(tap);
+    Ok(())
 }
 
 /// Changes the data with which the station at a tap of a watched bus replies.
@@ -146,6 +228,37 @@ fn set_reply(watched: &mut Watched, tap: usize, reply: ArrayVec<u8, 246>) -> Res
     ensures watched { IsWatched watched.new }
 {
     watched.bus.set_reply(tap, reply)
+}
+
+/// Keeps the requests that the station at a tap executes.
+fn keep_indications(
+    watched: &mut Watched,
+    alloc: Global,
+    tap: usize,
+    room: usize,
+) -> Result<(), WorldFault>
+    requires { IsWatched watched.old }
+    ensures same { StaysBut watched.old watched.new }
+    ensures kept { OnOk result (KeepsFrom watched.old tap room watched.new) }
+    ensures fault { IfErr result (RefusesToKeep watched.old tap watched.new) }
+    ensures watched { IsWatched watched.new }
+{
+    let taps = watched.bus.taps.len();
+    if tap >= taps {
+        return Err(WorldFault::NoSuchTap);
+    }
+    watched.told.keep(alloc, tap, taps, room)?;
+    Ok(())
+}
+
+/// Forgets those that are kept.
+fn forget_indications(watched: &mut Watched, tap: usize)
+    requires { IsWatched watched.old }
+    ensures same { StaysBut watched.old watched.new }
+    ensures forgets { Forgets watched.old tap watched.new }
+    ensures watched { IsWatched watched.new }
+{
+    watched.told.forget(tap);
 }
 
 /// Applies a pass of time, which is tested first: only a pass changes the watch before it can be refused, and the watch

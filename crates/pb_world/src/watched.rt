@@ -1,6 +1,6 @@
 //! A bus that is watched from its first event on, and judged at any time.
 
-ghost use Rattle.std.specs.Prelude.{◌≡◌, [], Ok, IfOk, IfErr, map};
+ghost use Rattle.std.specs.Prelude.{◌≡◌, ℕ, [], None, Ok, IfOk, IfErr, map};
 ghost use Rattle.std.specs.Option.{option_map};
 ghost use Rattle.law_model.specs.World.{new_world};
 ghost use Rattle.pb_world.specs.Acted.{HasActed};
@@ -9,6 +9,7 @@ ghost use Rattle.law_runs.specs.Headline.{specs_of};
 ghost use Rattle.law_runs.specs.Judging.{IsOrdered};
 ghost use Rattle.law_runs.specs.Legality.{first_illegal};
 ghost use Rattle.pb_world.specs.Premises.{broken_of, watched_of};
+ghost use Rattle.pb_world.specs.Told.{tray_at};
 ghost use Rattle.pb_world.specs.Watched.{HasCome, world_in};
 ghost use Rattle.pb_taps.specs.Faults.{RefusesNew};
 ghost use Rattle.pb_taps.specs.Taps.{spec_of};
@@ -19,6 +20,7 @@ use crate::findings::Audit;
 use crate::legality::first_illegal;
 use crate::making::new_bus;
 use crate::premises::{Breach, Watch, follow};
+use crate::told::Told;
 use pb_taps::{Event, NewFault, TapSpec, WorldFault};
 use pb_timers::{BusParams, Moment};
 use std::alloc::Global;
@@ -28,6 +30,7 @@ use std::alloc::Global;
 pub struct Watched {
     pub(crate) bus: Bus,
     pub(crate) watch: Watch,
+    pub(crate) told: Told,
 }
 
 /// A watched bus at clock 0. No tap runs yet.
@@ -37,12 +40,14 @@ pub fn new_watched(alloc: Global, params: BusParams, specs: &[TapSpec]) -> Resul
     ensures new { IfOk result (λ w. new_world params (map spec_of specs.now) ≡ Ok (world_in w)) }
     ensures came { IfOk result (λ w. HasCome w (world_in w) []) }
     ensures acted { IfOk result (λ w. HasActed w (world_in w) []) }
+    ensures told { IfOk result (λ w. (k : ℕ) → tray_at w.told k ≡ None) }
     ensures fault { IfErr result (RefusesNew (new_world params (map spec_of specs.now))) }
 {
     let bus = new_bus(alloc, params, specs)?;
     Ok(Watched {
         bus,
         watch: Watch::new(),
+        told: Told::nothing(alloc),
     })
 }
 

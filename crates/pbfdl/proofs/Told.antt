@@ -35,10 +35,14 @@ runs-free b until P Q later few p = by (nat_lt until (world_in b).now) (nat_lt c
     by true far one two = absurd cc
     by false true one two = absurd cc
 
+-- what holds of an answer, in both cases
+pub answered : {F : Type 0} (r : Result (Unit {0}) F) (P : Type 0) (Q : F → Type 0) → OnOk r P → IfErr r Q → MatchResult r (λ _. P) Q
+answered (Ok done) P Q ok err = ok
+answered (Err fault) P Q ok err = err
+
 pub ran-by : (b next : Watched) (until : ℕ) (r : Result (Unit {0}) WorldFault) → OnOk r (HasRun until b next) → IfErr r (λ fault. HasStopped until fault b next)
     → MatchResult r (λ _. HasRun until b next) (λ fault. HasStopped until fault b next)
-ran-by b next until (Ok done) ran stopped = ran
-ran-by b next until (Err fault) ran stopped = stopped
+ran-by b next until r ran stopped = answered r (HasRun until b next) (λ fault. HasStopped until fault b next) ran stopped
 
 -- the bus of a handle has run, or is unchanged
 pub run-kept : (b next : Watched) (until code : ℕ) (new : Option Watched) → new ≡ Some next

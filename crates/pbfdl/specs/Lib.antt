@@ -8,6 +8,7 @@ pub mod Owned
 pub mod BusCodes
 pub mod Buses
 pub mod BusReadings
+pub mod BusIndications
 pub mod Monitors
 pub mod MonitorOwned
 pub mod MonitorReadings

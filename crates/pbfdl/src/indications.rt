@@ -61,7 +61,7 @@ pub extern "C" fn fdl_port_indication(
 }
 
 /// Tells C the request with an index.
-fn tell_at(told: &mut FdlIndication, indications: &[Indication], index: usize) -> u32
+pub(crate) fn tell_at(told: &mut FdlIndication, indications: &[Indication], index: usize) -> u32
     ensures told { TellsAt result told.new (slice_get (map fields_of indications.now) index) }
     ensures same { result ≢ 0 → told.new ≡ told.old }
 {

@@ -10,6 +10,7 @@
 mod bus_codes;
 mod bus_entries;
 mod bus_handles;
+mod bus_indications;
 mod bus_readings;
 mod buses;
 mod codes;

@@ -12,12 +12,14 @@ from ._library import (
     AuditStruct,
     EntryStruct,
     Handle,
+    IndicationStruct,
     OutcomeStruct,
     TapStruct,
     Texts,
     long_data,
     moment,
     moment_or_none,
+    number,
     octet,
     octets_of,
     whole,
@@ -28,6 +30,7 @@ from .faults import (
     ClockFull,
     InboxFull,
     LongData,
+    NoIndication,
     NoSuchTap,
     NothingInAir,
     NotRunning,
@@ -37,7 +40,7 @@ from .faults import (
     ZeroTime,
 )
 from .params import Params, checked
-from .stations import LAST_ADDRESS, Outcome, Phase, Service, request_texts, request_words, station_addresses
+from .stations import LAST_ADDRESS, Indication, Outcome, Phase, Service, request_texts, request_words, station_addresses
 from .traces import Audit, Entry, Trace
 
 ALL_CHARACTERS = 256
@@ -205,6 +208,25 @@ class Bus(Handle):
         """
         reply = octets_of("reply", reply)
         self._call("fdl_bus_set_reply", self._tap(tap), reply, len(reply), texts=lambda: {LongData: long_data("reply", reply)})
+
+    def keep_indications(self, tap: int, room: int = 1024) -> None:
+        """Keeps the requests of others that the station at a tap executes from now on, without repeats: the first `room`.
+
+        `take_indications` makes room again. What was kept of this tap is forgotten. Raises `NoSuchTap`, `NoMemory`.
+        """
+        self._call("fdl_bus_keep_indications", self._tap(tap), number("room", room, 2**64 - 1))
+
+    def indications(self, tap: int) -> List[Indication]:
+        """The requests that are kept of a tap, in the order of their execution. Raises `NoIndication` where none are asked for."""
+        texts = lambda: {NoIndication: f"the requests to tap {tap} are not kept: call keep_indications({tap}) first"}
+        count = self._number("fdl_bus_indications", c_size_t, self._tap(tap), texts=texts)
+        return [Indication._of(self._ask("fdl_bus_indication", IndicationStruct, tap, index)) for index in range(count)]
+
+    def take_indications(self, tap: int) -> List[Indication]:
+        """`indications`, and forgets them: there is room for later ones."""
+        taken = self.indications(tap)
+        self._call("fdl_bus_forget_indications", tap)
+        return taken
 
     def run(self, until: int) -> None:
         """The bus runs to the moment `until`: instant by instant the due turns, in the order of the taps, then time to the next.

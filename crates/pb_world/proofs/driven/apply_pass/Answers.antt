@@ -1,4 +1,4 @@
-use Rattle.std.proofs.Common.{◌≡◌, ◌∙◌, sym, Result, Ok, Err, None}
+use Rattle.std.proofs.Common.{◌≡◌, ◌∙◌, refl, sym, Result, Ok, Err, None}
 use Rattle.std.specs.Prelude.{IfErr, IsSome, OnOk}
 use Rattle.law_model.specs.Laws.{IsEvent}
 use Rattle.law_model.specs.Step.{step}
@@ -13,7 +13,10 @@ use Rattle.pb_world.specs.Refusals.{fault_of}
 use Rattle.pb_world.specs.Watched.{world_in}
 use Rattle.pb_world.specs.declared.watched.Watched.{Watched}
 use Rattle.law_token.specs.Actions.{Happens}
+use Rattle.pb_world.specs.Told.{ToldView, tray_at}
 use Rattle.pb_world.proofs.Acting.{acts-by}
+use Rattle.pb_world.proofs.Driving.{comes-one, told-so}
+use Rattle.pb_world.proofs.Telling.{IsUntold, tray-none}
 use Rattle.pb_world.proofs.driven.apply_pass.Goals as goal
 
 -- a pass that its step allows is not refused: it takes no memory
@@ -30,13 +33,26 @@ never w (Unheard tap speaker) r fault some none refuses = let h = some in cc
 
 applies-pass : (old new : Watched) (e : Event) (r : Result (Unit {0}) WorldFault) → IsSome (time_in e) → fault_of (step (world_in old) e) ≡ None → IsKept new.bus → IsEvent e
     → OnOk r ((reply : Reply) × (step (world_in old) e ≡ Ok (world_in new, reply))) → OnOk r (Knows new.watch (world_in new)) → OnOk r (GoesOn old.watch (world_in old) e new.watch)
-    → IfErr r (λ fault. (world_in new ≡ world_in old) × Refuses (world_in old) e (step (world_in old) e) fault) → Applies old e r new
-applies-pass old new e (Ok done) pass none kept is steps knows stands err =
-    (acts-by old new (Happens e) (record { kept = kept; knows = knows }) is steps stands, steps)
-applies-pass old new e (Err fault) pass none kept is steps knows stands err = absurd (never (world_in old) e (step (world_in old) e) fault pass none err.1)
+    → IfErr r (λ fault. (world_in new ≡ world_in old) × Refuses (world_in old) e (step (world_in old) e) fault) → new.told ≡ old.told → IsUntold (world_in old) old.told e → Applies old e r new
+applies-pass old new e (Ok done) pass none kept is steps knows stands err same untold =
+    let told = told-so old new e (Ok done) same untold in
+    (comes-one old new e steps.0 steps.1 (acts-by old new (Happens e) (record { kept = kept; knows = knows }) is steps stands) told.0, steps)
+applies-pass old new e (Err fault) pass none kept is steps knows stands err same untold = absurd (never (world_in old) e (step (world_in old) e) fault pass none err.1)
+
+-- nothing is executed as time passes
+untold-pass : (w : World) (told : ToldView) (e : Event) → IsSome (time_in e) → IsUntold w told e
+untold-pass w told (Pass bits) some k = tray-none (tray_at told k)
+untold-pass w told (Turn tap) some k = let h = some in cc
+untold-pass w told (Damage tap speaker place) some k = let h = some in cc
+untold-pass w told (Start tap) some k = let h = some in cc
+untold-pass w told (Stop tap) some k = let h = some in cc
+untold-pass w told (Queue tap request) some k = let h = some in cc
+untold-pass w told (Noise bits) some k = let h = some in cc
+untold-pass w told (Unheard tap speaker) some k = let h = some in cc
 
 pub returns-clause-applies : goal.returns-clause-applies
 returns-clause-applies c =
-    let new : Watched = record { bus = c.follow.new.bus; watch = c.follow.new.watch } in
+    let new : Watched = record { bus = c.follow.new.bus; watch = c.follow.new.watch; told = c.args.watched.now.told } in
     applies-pass c.args.watched.now new (event_of c.args.event.now) c.follow.result c.requires.pass (sym c.refusal.ensures ∙ c.in_default.is)
     c.follow.ensures.kept c.follow.ensures.event c.follow.ensures.steps c.follow.ensures.knows c.follow.ensures.stands c.follow.ensures.err
+    refl (untold-pass (world_in c.args.watched.now) c.args.watched.now.told (event_of c.args.event.now) c.requires.pass)

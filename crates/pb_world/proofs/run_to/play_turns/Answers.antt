@@ -4,10 +4,13 @@ use Rattle.std.proofs.lemmas.List.{length-map}
 use Rattle.law_model.specs.World.{Turn}
 use Rattle.pb_taps.specs.Taps.{tap_of}
 use Rattle.pb_world.specs.Watched.{world_in}
-use Rattle.pb_world.proofs.Alone.{turned-more, turned-stops}
+use Rattle.pb_world.proofs.Alone.{none-turned, turned-more, turned-stops}
 use Rattle.pb_world.proofs.Counting.{count-all}
 use Rattle.pb_world.proofs.Instants.{in-err}
 use Rattle.pb_world.proofs.run_to.play_turns.Goals as goal
+
+pub loop-tap-init : goal.loop-tap-init
+loop-tap-init c = none-turned c.args.leg.until c.args.leg.now c.args.watched.now c.requires
 
 pub returns-in_err-play_turn : goal.returns-in_err-play_turn
 returns-in_err-play_turn c =

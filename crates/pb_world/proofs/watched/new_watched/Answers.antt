@@ -15,7 +15,7 @@ pub returns-clause-came : goal.returns-clause-came
 returns-clause-came c =
     let bus = c.in_ok-bus.bus in
     let kept = c.in_ok-bus.ensures.kept in
-    comes-new (record { bus = bus; watch = c.new.result }) (record {
+    comes-new (record { bus = bus; watch = c.new.result; told = c.nothing.result }) (record {
       kept = kept;
       knows = record {
         silent = quiet-blank (world_of bus) c.new.result.quiet c.in_ok-bus.ensures.blank.empty (omega (arith, kept.room, length-map bus.taps.items tap_of)) c.new.ensures.silent;
@@ -27,5 +27,5 @@ returns-clause-came c =
 pub returns-clause-acted : goal.returns-clause-acted
 returns-clause-acted c =
     let came = returns-clause-came c in
-    acts-new (record { bus = c.in_ok-bus.bus; watch = c.new.result }) came.watched
+    acts-new (record { bus = c.in_ok-bus.bus; watch = c.new.result; told = c.nothing.result }) came.watched
     (new_acts c.args.params (map spec_of c.args.specs.now) (world_of c.in_ok-bus.bus) c.in_ok-bus.ensures.valid c.in_ok-bus.ensures.fit c.in_ok-bus.ensures.ok).0 c.new.ensures.watched
