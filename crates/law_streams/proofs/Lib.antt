@@ -5,3 +5,4 @@ pub mod Following
 pub mod Followed
 pub mod RaisedLimits
 pub mod Instants
+pub mod Judgement

@@ -1,3 +1,4 @@
 pub mod Streams
 pub mod Limits
+pub mod Judgement
 pub mod Laws
