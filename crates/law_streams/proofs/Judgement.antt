@@ -46,11 +46,11 @@ bare-silent delay tap from to es = ap not (bare-any delay tap from to es)
 
 -- ---- the latest ends
 
-ends_with-size : (delay tap : ℕ) (e : Entry) (ends : List ℕ) → length (ends_with delay tap e ends) ≡ length ends
+pub ends_with-size : (delay tap : ℕ) (e : Entry) (ends : List ℕ) → length (ends_with delay tap e ends) ≡ length ends
 ends_with-size delay tap e [] = refl
 ends_with-size delay tap e (end ∷ ends) = omega (arith, ends_with-size delay (tap + 1) e ends)
 
-ends_with-at : (delay first tap place : ℕ) (e : Entry) (ends : List ℕ) → tap ≡ first + place → place < length ends
+pub ends_with-at : (delay first tap place : ℕ) (e : Entry) (ends : List ℕ) → tap ≡ first + place → place < length ends
     → get_or (ends_with delay first e ends) place 0 ≡ max (get_or ends place 0) (active_at delay tap e).end
 ends_with-at delay first tap place e [] at within = absurd (omega arith)
 ends_with-at delay first tap zero e (end ∷ ends) at within =
@@ -127,7 +127,7 @@ silent-kept delay moment size tap from to earlier k s within later =
 -- ---- no telegram is to or from the address 255
 
 -- the addresses of a token are those of stations
-abbrev IsAddressed : Arrival → Type 0
+abbrev pub IsAddressed : Arrival → Type 0
 IsAddressed (Token da sa) = da < 127
 IsAddressed (Framed f) = Unit {0}
 IsAddressed Acknowledgement = Unit {0}
@@ -163,7 +163,7 @@ addressed-unless chars None is =
 addressed : (chars : List RxChar) → IsAddressed (arrival_of chars)
 addressed chars = addressed-unless chars (fault_of chars) refl
 
-sent-addressed : (r : Record) → IsAddressed (telegram_of r)
+pub sent-addressed : (r : Record) → IsAddressed (telegram_of r)
 sent-addressed r = addressed (map Good r.octets)
 
 none-claims : (a : Arrival) → IsAddressed a → claims_for 255 a ≡ false
@@ -172,14 +172,14 @@ none-claims (Framed f) to = refl
 none-claims Acknowledgement to = refl
 none-claims NoTelegram to = refl
 
-none-offered : (a : Arrival) (to : ℕ) → IsAddressed a → offered_by a ≡ Some to → to < 127
+pub none-offered : (a : Arrival) (to : ℕ) → IsAddressed a → offered_by a ≡ Some to → to < 127
 none-offered (Token da sa) to here =
     by_test (λ (o : Option ℕ). o ≡ Some to → to < 127) (da == sa) None (Some da) (λ _ e. absurd cc) (λ _ e. let same : da ≡ to = cc in subst (λ k. k < 127) same here)
 none-offered (Framed f) to here = λ e. absurd cc
 none-offered Acknowledgement to here = λ e. absurd cc
 none-offered NoTelegram to here = λ e. absurd cc
 
-no-address : (specs : List TapSpec) (tap : ℕ) → length specs ≤ tap → address_at specs tap ≡ 255
+pub no-address : (specs : List TapSpec) (tap : ℕ) → length specs ≤ tap → address_at specs tap ≡ 255
 no-address specs tap past = ap address_in (slice_get_past specs tap past)
 
 -- ---- one entry

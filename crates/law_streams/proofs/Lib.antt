@@ -6,3 +6,4 @@ pub mod Followed
 pub mod RaisedLimits
 pub mod Instants
 pub mod Judgement
+pub mod Audited

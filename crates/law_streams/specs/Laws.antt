@@ -3,7 +3,7 @@ use Rattle.std.specs.Prelude.{◌≡◌, ◌+◌, ◌-◌, ◌≤◌, ℕ, true,
 use Rattle.pb_timers.specs.Timers.{Params}
 use Rattle.law_model.specs.Trace.{Entry, entry_begin, Own, Whole}
 use Rattle.law_model.specs.Medium.{TapSpec}
-use Rattle.law_model.specs.World.{World, Event, Reply, trace_limit}
+use Rattle.law_model.specs.World.{World, Event, Reply, trace_limit, new_world_within}
 use Rattle.law_model.specs.Scenarios.{example_bus, two_masters}
 use Rattle.law_model.specs.Step.{step}
 use Rattle.law_model.specs.Behind.{behind, all_behind, IsPast}
@@ -14,6 +14,7 @@ use Rattle.law_runs.specs.Runs.{Plan, run}
 use Rattle.law_runs.specs.Bus.{bus}
 use Rattle.law_runs.specs.Scenarios.{Scenario, run_of, trace_of}
 use Rattle.law_streams.specs.Judgement.{Kept, hear, hear_all, kept_of}
+use Rattle.law_streams.specs.Audits.{audited_within, audit_ends_full, findings_from, findings_of_audit}
 use Rattle.law_streams.specs.Streams.{run_within, trace_within, telling_bus, streamed_of, stream_within}
 use Rattle.law_streams.specs.Limits.{ends_full, stream_ends_full, run_of_stream, run_behind, stream_behind}
 
@@ -33,6 +34,16 @@ MoreStreamsSame = (s : Scenario) (few many : ℕ) → few ≤ many → stream_en
 -- the trace of a run is what its stream has, if no event is refused
 abbrev pub StreamIsRun : Type 0
 StreamIsRun = (s : Scenario) (limit : ℕ) → trace_within limit s ≡ run_of_stream (stream_within limit s)
+
+-- ---- audits
+
+-- the audit of a scenario finds what is found in its run, if no event is refused, and else has the fault that ends it
+abbrev pub AuditIsOfRun : Type 0
+AuditIsOfRun = (s : Scenario) (limit : ℕ) → findings_of_audit (audited_within limit s) ≡ findings_from s (new_world_within limit s.params s.taps)
+
+-- where the trace does not get full, a greater limit changes nothing
+abbrev pub MoreAuditsSame : Type 0
+MoreAuditsSame = (s : Scenario) (few many : ℕ) → few ≤ many → audit_ends_full (audited_within few s) ≡ false → audited_within many s ≡ audited_within few s
 
 -- ---- the past
 

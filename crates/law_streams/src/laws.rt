@@ -1,5 +1,6 @@
 //! Laws of runs within a number of entries, and of their past.
 
+ghost use Rattle.law_streams.specs.Laws.{AuditIsOfRun, MoreAuditsSame};
 ghost use Rattle.law_streams.specs.Laws.{MoreIsSame, MoreStreamsSame, RunIsWithin, StreamIsRun};
 ghost use Rattle.std.specs.Prelude.{◌≡◌, [], ◌∷◌, None, Some};
 ghost use Rattle.law_model.specs.Scenarios.{example_bus, two_masters};
@@ -18,11 +19,18 @@ pub fn a_run_is_within_its_limit()
 pub fn a_greater_limit_changes_nothing()
     ensures trace { MoreIsSame }
     ensures stream { MoreStreamsSame }
+    ensures audit { MoreAuditsSame }
 {}
 
 /// The stream of a scenario has the trace of its run, if no event is refused, and else the fault that ends it.
 pub fn a_stream_has_the_run()
     ensures { StreamIsRun }
+{}
+
+/// The audit of a scenario, which goes as far as its run, finds what is found in the run, if no event is refused, and else
+/// has the fault that ends it.
+pub fn an_audit_is_of_the_run()
+    ensures { AuditIsOfRun }
 {}
 
 /// Entries that have ended at all taps before all others reach the taps have no effect on any event, and it stays so.
