@@ -22,3 +22,5 @@ pub mod Data
 pub mod Acted
 pub mod Driven
 pub mod RunTo
+pub mod Airtimes
+pub mod Judges
