@@ -18,6 +18,7 @@ pub mod Stretching
 pub mod Measuring
 pub mod LettingGo
 pub mod Hearing
+pub mod Behind
 pub mod Counting
 pub mod Instants
 pub mod Acting

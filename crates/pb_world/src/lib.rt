@@ -53,5 +53,5 @@ pub use reasons::{Reasons, audit_with_reasons};
 pub use rules::{Illegal, Rule};
 pub use stretches::{Stretch, longest_cycle, longest_without};
 pub use traces::{TraceFault, first_illegal, named};
-pub use watched::{Watched, new_watched};
+pub use watched::{Watched, new_watched, new_watched_within};
 pub use worlds::{World, run, run_shared};
