@@ -121,7 +121,7 @@ telling-raised limit = record {
 }
 
 -- a new world
-abbrev made : ℕ → Params → List TapSpec → World
+abbrev pub made : ℕ → Params → List TapSpec → World
 made limit p specs = record { params = p; now = 0; trace = []; taps = map (stopped_tap p) specs; limit = limit }
 
 pub more-trace : (s : Scenario) (few many : ℕ) → few ≤ many → ends_full (trace_within few s) ≡ false → trace_within many s ≡ trace_within few s

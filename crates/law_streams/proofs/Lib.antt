@@ -5,3 +5,5 @@ pub mod Following
 pub mod Followed
 pub mod RaisedLimits
 pub mod Instants
+pub mod Judgement
+pub mod Audited

@@ -1,3 +1,5 @@
 pub mod Streams
 pub mod Limits
+pub mod Judgement
+pub mod Audits
 pub mod Laws

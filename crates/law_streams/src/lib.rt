@@ -7,6 +7,7 @@
 mod laws;
 
 pub use laws::{
-    a_greater_limit_changes_nothing, a_run_is_within_its_limit, a_stream_has_the_run,
+    a_greater_limit_changes_nothing, a_judge_hears_a_ring, a_judge_needs_no_trace,
+    a_run_is_within_its_limit, a_stream_has_the_run, an_audit_is_of_the_run,
     runs_go_on_without_their_past, what_is_over_may_be_let_go_at_any_event,
 };

@@ -13,7 +13,7 @@ use Rattle.law_turn.specs.Turns.{turn_of}
 use Rattle.law_model.specs.Trace.{Hit, Entry, begins_from, unheard_at}
 use Rattle.law_model.specs.Medium.{Tap, TapSpec, entry_at}
 use Rattle.law_model.specs.World as world
-use Rattle.law_model.specs.World.{World, Event, Turn, Pass, Damage, Start, Stop, Queue, Unheard, Reply, Fault, NoSuchTap, NotRunning, NothingInAir, ZeroTime, QueueFull, TraceFull, trace_limit, queue_limit, is_in_air_by, new_faults, new_world, stopped_tap}
+use Rattle.law_model.specs.World.{World, Event, Turn, Pass, Damage, Start, Stop, Queue, Unheard, Reply, Fault, NoSuchTap, NotRunning, NothingInAir, ZeroTime, QueueFull, TraceFull, trace_limit, queue_limit, is_in_air_by, new_faults, new_world, new_world_within, stopped_tap}
 use Rattle.law_model.specs.Step.{step, step_turn, step_pass, step_damage, step_queue, step_noise, step_unheard, told, pass_faults, with_said, with_hit, change_first, has_place, with_noise, is_noisy, world_after}
 use Rattle.law_model.proofs.Worlds.{world_after-unless, unless-Ok}
 use Rattle.law_runs.specs.Premises.{runs_at, has_namesakes, has_waited, waited_by}
@@ -171,11 +171,20 @@ no-namesakes : (p : Params) (specs : List TapSpec) → has_namesakes (map (stopp
 no-namesakes p [] = refl
 no-namesakes p (spec ∷ specs) = no-namesakes p specs
 
+abbrev made-within : ℕ → Params → List TapSpec → World
+made-within limit p specs = record { params = p; now = 0; trace = []; taps = map (stopped_tap p) specs; limit = limit }
+
 -- no tap of it runs
+pub namesakes-within : (limit : ℕ) (p : Params) (specs : List TapSpec) (w : World) → new_world_within limit p specs ≡ Ok w → has_namesakes w.taps ≡ false
+namesakes-within limit p specs w ok =
+    subst (λ (x : World). has_namesakes x.taps ≡ false) (unless-Ok (new_faults p specs) (made-within limit p specs) w ok).1 (no-namesakes p specs)
+
 pub namesakes-new : (p : Params) (specs : List TapSpec) (w : World) → new_world p specs ≡ Ok w → has_namesakes w.taps ≡ false
-namesakes-new p specs w ok =
-    let made : World = record { params = p; now = 0; trace = []; taps = map (stopped_tap p) specs; limit = trace_limit } in
-    subst (λ (x : World). has_namesakes x.taps ≡ false) (unless-Ok (new_faults p specs) made w ok).1 (no-namesakes p specs)
+namesakes-new p specs w ok = namesakes-within trace_limit p specs w ok
+
+-- nothing was sent in it
+pub empty-within : (limit : ℕ) (p : Params) (specs : List TapSpec) (w : World) → new_world_within limit p specs ≡ Ok w → w.trace ≡ []
+empty-within limit p specs w ok = ap (λ (x : World). x.trace) (sym (unless-Ok (new_faults p specs) (made-within limit p specs) w ok).1)
 
 -- an event of code that is neither
 pub steady : (e : taps.Event) → ((tap : ℕ) → e ≡ event.Start tap → ⊥) → ((tap : ℕ) → e ≡ event.Stop tap → ⊥) → is_steady (event_of e) ≡ true

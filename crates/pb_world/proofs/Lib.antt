@@ -17,6 +17,8 @@ pub mod Tracing
 pub mod Stretching
 pub mod Measuring
 pub mod LettingGo
+pub mod Hearing
+pub mod Behind
 pub mod Counting
 pub mod Instants
 pub mod Acting

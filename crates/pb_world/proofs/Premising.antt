@@ -40,7 +40,7 @@ ends-soon delay tap (Noise span) = omega arith
 ends-soon delay tap (Sent r) =
     by_test (λ (s : Span). s.end ≤ r.end + delay) (r.tap == tap) (record { begin = r.begin; end = r.end }) (reaches delay r) (λ _. omega arith) (λ _. omega arith)
 
-over-active : (delay m from to tap : ℕ) (es : List Entry) → AllOver delay m es → m ≤ from → is_active delay from to es tap ≡ false
+pub over-active : (delay m from to tap : ℕ) (es : List Entry) → AllOver delay m es → m ≤ from → is_active delay from to es tap ≡ false
 over-active delay m from to tap [] over later = refl
 over-active delay m from to tap (e ∷ es) over later =
     ap (λ (b : Bool). (nat_lt (active_at delay tap e).begin to && b) || is_active delay from to es tap) (le-ltb from (active_at delay tap e).end (omega (arith, ends-soon delay tap e, over.1, later)))
@@ -54,7 +54,7 @@ active-recent w over to tap (m, at, some, old, recent) =
     ∙ ap (λ (b : Bool). b || is_active w.params.ttd w.now to (drop over w.trace) tap) (over-active w.params.ttd m w.now to tap (take over w.trace) old at)
     )
 
-none-active : (w : World) (over to tap : ℕ) → IsCut w.params.ttd w.now over w.trace → drop over w.trace ≡ [] → is_active w.params.ttd w.now to w.trace tap ≡ false
+pub none-active : (w : World) (over to tap : ℕ) → IsCut w.params.ttd w.now over w.trace → drop over w.trace ≡ [] → is_active w.params.ttd w.now to w.trace tap ≡ false
 none-active w over to tap cut none = sym (active-recent w over to tap cut) ∙ ap (λ es. is_active w.params.ttd w.now to es tap) none
 
 -- an event that is accepted ends when it can

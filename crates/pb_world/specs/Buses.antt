@@ -1,5 +1,7 @@
 -- A bus as the model's plain data.
-use Rattle.std.specs.Prelude.{◌≡◌, ◌≤◌, [], length, map, Result}
+use Rattle.std.specs.Prelude.{◌≡◌, ◌≤◌, List, [], length, map, Result}
+use Rattle.law_model.specs.Behind.{behind}
+use Rattle.law_model.specs.Trace.{Entry}
 use Rattle.law_model.specs.World.{World, Event, clock_limit, tap_limit}
 use Rattle.pb_world.specs.Ends.{AllBy, last_end}
 use Rattle.pb_world.specs.Worlds.{Sends}
@@ -12,6 +14,10 @@ use Rattle.pb_world.specs.declared.buses.Bus.{Bus}
 
 abbrev pub world_of : Bus → World
 world_of w = record { params = w.params; now = w.now; trace = entries_of w.trace; taps = map tap_of w.taps.items; limit = limit_of w.trace }
+
+-- the same with entries in front that were let go
+abbrev pub world_with : List Entry → Bus → World
+world_with old w = behind old (world_of w)
 
 -- the invariant of its fields
 pub record IsKept (w : Bus) : Type 0 where

@@ -24,3 +24,5 @@ pub mod Driven
 pub mod RunTo
 pub mod Settled
 pub mod Told
+pub mod Airtimes
+pub mod Judges

@@ -1,11 +1,15 @@
 -- A watch over a run, in the words of the premises.
 use Rattle.std.specs.Prelude.{◌≡◌, ℕ, ◌+◌, ◌≤◌, ◌<◌, Bool, true, false, List, [], ◌∷◌, length, drop, get_or, Option, Some, None, MatchOption, Ok, if◌then◌else◌}
 use Rattle.std.specs.Option.{option_map}
+use Rattle.law_model.specs.Behind.{IsPast}
+use Rattle.law_model.specs.Trace.{Entry}
 use Rattle.law_model.specs.World.{World, Event, Pass, Reply}
 use Rattle.law_model.specs.Step.{step}
 use Rattle.law_runs.specs.Premises.{Waited, Broken, Course, has_namesakes, waited_by, loses, comes_late, followed, course_of}
 use Rattle.law_runs.specs.Quiet.{is_active, quiet_in}
 use Rattle.law_runs.specs.Watching.{Watched, meets_last, watched_after, StandsFor}
+use Rattle.pb_world.specs.Buses.{world_of, world_with}
+use Rattle.pb_world.specs.declared.buses.Bus.{Bus}
 use Rattle.pb_world.specs.declared.premises.Breach.{Breach}
 use Rattle.pb_world.specs.declared.premises.Foresight.{Foresight}
 use Rattle.pb_world.specs.declared.premises.Premise.{Premise}
@@ -43,6 +47,10 @@ pub record Knows (v : Watch) (w : World) : Type 0 where
   pub silent : IsQuiet w v.quiet
   pub oldest : IsOldest v.oldest (length w.taps) v.quiet
   pub namesakes : v.namesakes ≡ has_namesakes w.taps
+
+-- it knows that of a bus, with whatever was let go
+abbrev pub KnowsOf : Watch → Bus → Type 0
+KnowsOf v bus = (old : List Entry) × IsPast old (world_of bus) × Knows v (world_with old bus)
 
 -- an event has led to a world from one that had namesakes, or none
 abbrev pub IsLedFrom : Event → World → Bool → Type 0

@@ -8,7 +8,7 @@ ghost use Rattle.pb_world.specs.Judging.{specs_at};
 use pb_taps::{Tap, TapSpec};
 
 /// An address of no tap: the largest one in a telegram is 127.
-const NO_ADDRESS: u8 = 255;
+pub(crate) const NO_ADDRESS: u8 = 255;
 
 /// The addresses of the taps of a bus, or of a list of taps.
 #[derive(Clone, Copy)]

@@ -1,19 +1,21 @@
 //! The premises of a run: watches its events until the first premise breaks.
 
-ghost use Rattle.std.specs.Prelude.{◌≡◌, ◌+◌, ◌-◌, ◌≤◌, ◌&&◌, nat_le, IfErr, None, OnErr, OnOk, Ok, length, map};
+ghost use Rattle.std.specs.Prelude.{◌≡◌, ◌+◌, ◌-◌, ◌<◌, ◌≤◌, ◌&&◌, nat_le, IfErr, IfSome, List, None, OnErr, OnOk, Ok, length, map};
 ghost use Rattle.std.specs.List.{list_any};
 ghost use Rattle.std.specs.Option.{option_map};
+ghost use Rattle.law_model.specs.Behind.{IsPast};
 ghost use Rattle.law_model.specs.Laws.{IsEvent};
 ghost use Rattle.law_model.specs.Step.{step};
+ghost use Rattle.law_model.specs.Trace.{Entry};
 ghost use Rattle.law_model.specs.World as model;
 ghost use Rattle.law_runs.specs.Premises as premises;
 ghost use Rattle.law_runs.specs.Premises.{is_late, waited_by};
 ghost use Rattle.law_runs.specs.Quiet.{is_active, quiet_in};
 ghost use Rattle.law_runs.specs.Watching.{meets_last};
-ghost use Rattle.pb_world.specs.Buses.{world_of, IsKept};
+ghost use Rattle.pb_world.specs.Buses.{world_of, world_with, IsKept};
 ghost use Rattle.pb_taps.specs.Events.{event_of};
 ghost use Rattle.pb_taps.specs.Faults.{Refuses};
-ghost use Rattle.pb_world.specs.Premises.{waited_of, number_of, broken_of, watched_of, waiting_of, met_by, last_by, Foresees, IsFirstWaiting, IsLedFrom, IsOldest, IsQuiet, HaveHeard, Knows, Listens, GoesOn, time_in};
+ghost use Rattle.pb_world.specs.Premises.{waited_of, number_of, broken_of, watched_of, waiting_of, met_by, last_by, Foresees, IsFirstWaiting, IsLedFrom, IsOldest, IsQuiet, HaveHeard, Knows, Listens, GoesOn, KnowsOf, time_in};
 ghost use Rattle.pb_taps.specs.Taps.{tap_of};
 
 use crate::activity::is_active;
@@ -87,10 +89,12 @@ pub(crate) struct Watch {
 }
 
 impl Watch {
-    ghost use Rattle.std.specs.Prelude.{◌≡◌, None, false, replicate};
+    ghost use Rattle.std.specs.Prelude.{◌≡◌, List, None, false, length, replicate};
     ghost use Rattle.std.specs.Option.{option_map};
-    ghost use Rattle.pb_world.specs.Buses.{world_of, IsKept};
-    ghost use Rattle.pb_world.specs.Premises.{watched_of, broken_of, IsAfter, Knows};
+    ghost use Rattle.law_model.specs.Trace.{Entry};
+    ghost use Rattle.law_runs.specs.Premises.{has_namesakes};
+    ghost use Rattle.pb_world.specs.Buses.{world_of, world_with, IsKept};
+    ghost use Rattle.pb_world.specs.Premises.{watched_of, broken_of, IsAfter, IsOldest, IsQuiet};
 
     /// The watch before the first event of a run.
     pub(crate) fn new() -> Watch
@@ -118,9 +122,13 @@ impl Watch {
     /// Updates the watch after an event, by what was known before it.
     fn note(&mut self, bus: &Bus, foresight: Foresight)
         requires kept { IsKept bus.now }
-        requires knows { Knows self.old (world_of bus.now) }
-        ensures knows { Knows self.new (world_of bus.entry.now) }
-        ensures after { IsAfter self.old foresight (world_of bus.entry.now) self.new }
+        requires oldest { IsOldest self.old.oldest (length bus.now.taps.items) self.old.quiet }
+        requires namesakes { self.old.namesakes ≡ has_namesakes (world_of bus.now).taps }
+        ensures quiet { self.new.quiet ≡ self.old.quiet }
+        ensures oldest { self.new.oldest ≡ self.old.oldest }
+        ensures namesakes { self.new.namesakes ≡ self.old.namesakes }
+        ensures after { (old : List Entry) → IsQuiet (world_with old bus.entry.now) self.old.quiet
+            → IsAfter self.old foresight (world_with old bus.entry.now) self.new }
     {
         let waiting = waiting_now(bus, &self.quiet, self.oldest);
         let met = is_met(bus.params.ttd(), waiting, bus.now, self.waited);
@@ -138,13 +146,16 @@ pub(crate) fn follow(
     event: &Event,
 ) -> Result<(), WorldFault>
     requires kept { IsKept bus.old }
-    requires knows { Knows watch.old (world_of bus.old) }
+    requires knows { KnowsOf watch.old bus.old }
     ensures kept { IsKept bus.new }
     ensures event { IsEvent (event_of event.now) }
     ensures steps { OnOk result ((reply : model.Reply)
         × (step (world_of bus.old) (event_of event.now) ≡ Ok (world_of bus.new, reply))) }
-    ensures knows { OnOk result (Knows watch.new (world_of bus.new)) }
-    ensures stands { OnOk result (GoesOn watch.old (world_of bus.old) (event_of event.now) watch.new) }
+    ensures knows { OnOk result ((old : List Entry) → IsPast old (world_of bus.old)
+        → Knows watch.old (world_with old bus.old) → Knows watch.new (world_with old bus.new)) }
+    ensures stands { OnOk result ((old : List Entry) → IsPast old (world_of bus.old)
+        → Knows watch.old (world_with old bus.old)
+        → GoesOn watch.old (world_with old bus.old) (event_of event.now) watch.new) }
     ensures err { IfErr result (λ fault. (world_of bus.new ≡ world_of bus.old)
         × Refuses (world_of bus.old) (event_of event.now)
         (step (world_of bus.old) (event_of event.now)) fault) }
@@ -162,9 +173,10 @@ pub(crate) fn follow(
 /// recent entries there are none. Returns since when, at the earliest, any tap is in silence.
 fn listen(quiet: &mut [u64; TAP_LIMIT], oldest: u64, bus: &Bus, event: &Event) -> u64
     requires kept { IsKept bus.now }
-    requires silent { IsQuiet (world_of bus.now) quiet.old }
     requires oldest { IsOldest oldest (length bus.now.taps.items) quiet.old }
-    ensures listens { Listens (world_of bus.entry.now) (event_of event.now) quiet.new }
+    ensures listens { (old : List Entry) → IsPast old (world_of bus.entry.now)
+        → IsQuiet (world_with old bus.entry.now) quiet.old
+        → Listens (world_with old bus.entry.now) (event_of event.now) quiet.new }
     ensures oldest { IsOldest result (length bus.entry.now.taps.items) quiet.new }
     ensures stays { time_in (event_of event.now) ≡ None → (quiet.new ≡ quiet.old) × (result ≡ oldest) }
 {
@@ -319,9 +331,9 @@ fn has_waited_since(tap: &Tap, moment: u64, timeout: u64, now: u64) -> bool
 
 /// Whether the tap at an index is a master that has run, in silence, for its time-out.
 fn has_waited(bus: &Bus, position: usize, tap: &Tap, quiet: u64) -> bool
-    requires kept { IsKept bus.now }
-    requires silent { quiet ≡ quiet_in (world_of bus.now) position }
-    ensures { result ≡ premises.has_waited (world_of bus.entry.now) position (tap_of tap.now) }
+    requires { IsKept bus.now }
+    ensures { (old : List Entry) → quiet ≡ quiet_in (world_with old bus.entry.now) position
+        → result ≡ premises.has_waited (world_with old bus.entry.now) position (tap_of tap.now) }
 {
     let timeout = bus.params.tto(tap.station.address());
     has_waited_since(tap, quiet, timeout, bus.now.get())
@@ -330,9 +342,10 @@ fn has_waited(bus: &Bus, position: usize, tap: &Tap, quiet: u64) -> bool
 /// The first tap, at index `from` or later, that has waited out its time-out.
 pub(crate) fn first_waiting(bus: &Bus, quiet: &[u64; TAP_LIMIT], from: usize) -> Option<usize>
     requires kept { IsKept bus.now }
-    requires silent { IsQuiet (world_of bus.now) quiet.now }
     requires place { from ≤ length bus.now.taps.items }
-    ensures { IsFirstWaiting (world_of bus.entry.now) from result }
+    ensures inside { IfSome result (λ tap. tap < length bus.entry.now.taps.items) }
+    ensures first { (old : List Entry) → IsQuiet (world_with old bus.entry.now) quiet.now
+        → IsFirstWaiting (world_with old bus.entry.now) from result }
 {
     for tap in from..bus.taps.len() {
         if has_waited(bus, tap, &bus.taps[tap], quiet[tap]) {
@@ -346,9 +359,9 @@ pub(crate) fn first_waiting(bus: &Bus, quiet: &[u64; TAP_LIMIT], from: usize) ->
 /// time-out.
 fn waiting_now(bus: &Bus, quiet: &[u64; TAP_LIMIT], oldest: u64) -> Waiting
     requires kept { IsKept bus.now }
-    requires silent { IsQuiet (world_of bus.now) quiet.now }
     requires oldest { IsOldest oldest (length bus.now.taps.items) quiet.now }
-    ensures { result ≡ waiting_of (waited_by (world_of bus.entry.now) 0 (world_of bus.entry.now).taps) }
+    ensures { (old : List Entry) → IsQuiet (world_with old bus.entry.now) quiet.now
+        → result ≡ waiting_of (waited_by (world_with old bus.entry.now) 0 (world_of bus.entry.now).taps) }
 {
     if bus.now.get().saturating_sub(oldest) < bus.params.tto(0) {
         return Waiting::Nobody;
@@ -358,9 +371,9 @@ fn waiting_now(bus: &Bus, quiet: &[u64; TAP_LIMIT], oldest: u64) -> Waiting
 
 /// The taps that have waited out their time-outs, by testing each.
 fn waiting_taps(bus: &Bus, quiet: &[u64; TAP_LIMIT]) -> Waiting
-    requires kept { IsKept bus.now }
-    requires silent { IsQuiet (world_of bus.now) quiet.now }
-    ensures { result ≡ waiting_of (waited_by (world_of bus.entry.now) 0 (world_of bus.entry.now).taps) }
+    requires { IsKept bus.now }
+    ensures { (old : List Entry) → IsQuiet (world_with old bus.entry.now) quiet.now
+        → result ≡ waiting_of (waited_by (world_with old bus.entry.now) 0 (world_of bus.entry.now).taps) }
 {
     let Some(tap) = first_waiting(bus, quiet, 0) else {
         return Waiting::Nobody;

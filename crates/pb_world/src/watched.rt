@@ -2,7 +2,8 @@
 
 ghost use Rattle.std.specs.Prelude.{◌≡◌, ℕ, [], None, Ok, IfOk, IfErr, map};
 ghost use Rattle.std.specs.Option.{option_map};
-ghost use Rattle.law_model.specs.World.{new_world};
+ghost use Rattle.law_model.specs.World.{new_world, new_world_within};
+ghost use Rattle.law_streams.specs.Audits.{no_events};
 ghost use Rattle.pb_world.specs.Acted.{HasActed};
 ghost use Rattle.pb_world.specs.Auditing.{broken_at};
 ghost use Rattle.law_runs.specs.Headline.{specs_of};
@@ -10,7 +11,7 @@ ghost use Rattle.law_runs.specs.Judging.{IsOrdered};
 ghost use Rattle.law_runs.specs.Legality.{first_illegal};
 ghost use Rattle.pb_world.specs.Premises.{broken_of, watched_of};
 ghost use Rattle.pb_world.specs.Told.{tray_at};
-ghost use Rattle.pb_world.specs.Watched.{HasCome, world_in};
+ghost use Rattle.pb_world.specs.Watched.{HasCome, IsAtEnd, IsFollowed, world_in};
 ghost use Rattle.pb_taps.specs.Faults.{RefusesNew};
 ghost use Rattle.pb_taps.specs.Taps.{spec_of};
 
@@ -18,6 +19,7 @@ use crate::addresses::Addresses;
 use crate::buses::Bus;
 use crate::findings::Audit;
 use crate::legality::first_illegal;
+use crate::letting_go::new_bus_within;
 use crate::making::new_bus;
 use crate::premises::{Breach, Watch, follow};
 use crate::told::Told;
@@ -51,13 +53,41 @@ pub fn new_watched(alloc: Global, params: BusParams, specs: &[TapSpec]) -> Resul
     })
 }
 
+/// The same on a bus whose trace may have `limit` entries.
+///
+/// Faults: those of the new bus.
+pub fn new_watched_within(
+    alloc: Global,
+    params: BusParams,
+    specs: &[TapSpec],
+    limit: usize,
+) -> Result<Watched, NewFault>
+    ensures new { IfOk result
+        (λ w. new_world_within limit params (map spec_of specs.now) ≡ Ok (world_in w)) }
+    ensures followed { IfOk result IsFollowed }
+    ensures at_end { IfOk result (λ w. IsAtEnd w [] (no_events (world_in w))) }
+    ensures fault { IfErr result (RefusesNew (new_world params (map spec_of specs.now))) }
+{
+    let bus = new_bus_within(alloc, params, specs, limit)?;
+    Ok(Watched {
+        bus,
+        watch: Watch::new(),
+        told: Told::nothing(alloc),
+    })
+}
+
 impl Watched {
-    ghost use Rattle.std.specs.Prelude.{◌≡◌, IfErr, OnOk, Ok};
+    ghost use Rattle.std.specs.Prelude.{◌≡◌, List, IfErr, OnOk, Ok};
+    ghost use Rattle.std.specs.Option.{option_map};
+    ghost use Rattle.law_model.specs.Trace.{Entry};
+    ghost use Rattle.law_runs.specs.Premises.{Course};
+    ghost use Rattle.pb_medium.specs.LettingGo.{past_of};
+    ghost use Rattle.pb_world.specs.Auditing.{broken_at};
     ghost use Rattle.law_model.specs.Step.{step};
     ghost use Rattle.law_model.specs.World as model;
     ghost use Rattle.pb_taps.specs.Events.{event_of};
     ghost use Rattle.pb_taps.specs.Faults.{Refuses};
-    ghost use Rattle.pb_world.specs.Watched.{FindsIn, GoesOnBy, IsOfNew, IsWatched, world_in};
+    ghost use Rattle.pb_world.specs.Watched.{FindsIn, GoesOnBy, IsAtEnd, IsFollowed, IsOfNew, IsWatched, LeadsOnBy, LetsGoOf, world_in};
 
     /// Applies an event, and judges it by the premises.
     ///
@@ -74,6 +104,40 @@ impl Watched {
     {
         follow(&mut self.watch, alloc, &mut self.bus, event)?;
         Ok(())
+    }
+
+    /// The same on a bus whose past may have been let go.
+    ///
+    /// Faults: those of the event on a bus. After a fault, the bus must not be watched further.
+    pub fn follow_on(&mut self, alloc: Global, event: &Event) -> Result<(), WorldFault>
+        requires { IsFollowed self.old }
+        ensures followed { OnOk result (IsFollowed self.new) }
+        ensures leads { OnOk result (LeadsOnBy self.old (event_of event.now) self.new) }
+        ensures steps { OnOk result ((reply : model.Reply)
+            × (step (world_in self.old) (event_of event.now) ≡ Ok (world_in self.new, reply))) }
+        ensures err { IfErr result (λ fault. (world_in self.new ≡ world_in self.old)
+            × Refuses (world_in self.old) (event_of event.now)
+            (step (world_in self.old) (event_of event.now)) fault) }
+    {
+        follow(&mut self.watch, alloc, &mut self.bus, event)?;
+        Ok(())
+    }
+
+    /// Removes the entries that are over from the trace ([`Bus::let_go`]). The watch goes on as if they still stood there.
+    pub fn let_go(&mut self)
+        requires { IsFollowed self.old }
+        ensures followed { IsFollowed self.new }
+        ensures gone { LetsGoOf (past_of self.old.bus.trace) self.old self.new }
+    {
+        self.bus.let_go();
+    }
+
+    /// The first premise that the events so far broke, by its number, with the clock.
+    pub fn broken(&self) -> Option<(u8, Moment)>
+        ensures { (old : List Entry) (c : Course)
+            → IsAtEnd self.entry.now old c → option_map broken_at result ≡ c.broken }
+    {
+        numbered(self.watch.first_broken())
     }
 
     /// What an audit finds in the events so far. The caller ensures that they have led to this bus from a new one, and
