@@ -1,10 +1,10 @@
 #!/usr/bin/env python3
-"""The cases of tests/events and tests/scenarios, many in a file (tools/txtar.py).
+"""The cases of tests/events, tests/scenarios and tests/streams, many in a file (tools/txtar.py).
 
     tests/cases.py write FOLDER [NAME..]    writes the files of these cases, or of all, into a folder, to be played or looked at
 
 An event list is NAME.json, with the lines that it must print. A scenario file is NAME.toml, and its trace, or the line of its
-fault, NAME.txt; those of examples/ stand there as they are, with NAME.trace.
+fault, NAME.txt; those of examples/ stand there as they are, with NAME.trace. Those of tests/streams are for streams alone.
 """
 
 import pathlib
@@ -25,7 +25,16 @@ def event_lists():
 
 def scenarios():
     """The scenario files by name, each with what its run must print."""
-    texts = txtar.texts_in(HERE / "scenarios")
+    return described("scenarios")
+
+
+def streams():
+    """The scenario files for streams, in the same form."""
+    return described("streams")
+
+
+def described(folder):
+    texts = txtar.texts_in(HERE / folder)
     return {name.removesuffix(".toml"): (text, texts[name.replace(".toml", ".txt")]) for name, text in texts.items() if name.endswith(".toml")}
 
 
@@ -47,7 +56,7 @@ def chosen(found, names):
 
 def write(folder, names):
     files = {name: {f"{name}.json": text} for name, text in event_lists().items()}
-    for name, (file, trace) in scenarios().items():
+    for name, (file, trace) in (scenarios() | streams()).items():
         files[name] = {f"{name}.toml": file, f"{name}.txt": trace}
     for case in chosen(files, names).values():
         for name, text in case.items():

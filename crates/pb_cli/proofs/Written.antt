@@ -16,9 +16,9 @@ use Rattle.pb_taps.specs.declared.faults.NewFault.TheVariants as new
 use Rattle.pb_taps.specs.declared.faults.WorldFault.{WorldFault}
 use Rattle.pb_taps.specs.declared.faults.WorldFault.TheVariants as fault
 use Rattle.pb_scenario.specs.Faults.{model_fault}
-use Rattle.pb_scenario.specs.Scenarios.{ScenarioView}
 use Rattle.pb_scenario.specs.Texts.{entries_text}
-use Rattle.pb_stream.specs.Streams.{GoesOn, IsStreaming, Tells, names_of, rest_of, up_to}
+use Rattle.pb_scenario.specs.Repeats.{StreamView, unrolled}
+use Rattle.pb_stream.specs.Streams.{GoesOn, IsStreaming, Tells, names_of, rest_of}
 use Rattle.pb_stream.specs.declared.streams.Progress.TheVariants as progress
 use Rattle.pb_stream.specs.declared.streams.Stream.{Stream}
 use Rattle.pb_stream.proofs.Streaming.{lines-both}
@@ -139,13 +139,13 @@ ends names whole stream before mid after status i w =
     (subst (λ (ns : List (List ℕ)). Writes ns (rest_of stream) mid after status) i.named w)
 
 -- there is no world to begin with, whatever the limit of entries
-pub no_world : (s : ScenarioView) (until : ℕ) (f : taps.NewFault) (line : List ℕ) (before after : Option (List ℕ))
-    → RefusesNew (new_world s.scenario.params s.scenario.taps) f → f ≢ new.NoMemory → line ≡ new_line f → Appends before after line
+pub no_world : (s : StreamView) (until : ℕ) (f : taps.NewFault) (line : List ℕ) (before after : Option (List ℕ))
+    → RefusesNew (new_world s.once.scenario.params s.once.scenario.taps) f → f ≢ new.NoMemory → line ≡ new_line f → Appends before after line
     → WritesScenario s until before after Refused
 no_world s until f line before after refuses told same written =
-    by (first_fault (new_faults s.scenario.params s.scenario.taps)) _ _ refuses
+    by (first_fault (new_faults s.once.scenario.params s.once.scenario.taps)) _ _ refuses
   where
-    by : (o : Option model.NewFault) (w v : World) → RefusesNew (unless_fault o w) f → Writes s.names (stream_from (up_to until s.scenario) (unless_fault o v)) before after Refused
+    by : (o : Option model.NewFault) (w v : World) → RefusesNew (unless_fault o w) f → Writes s.once.names (stream_from (unrolled until s) (unless_fault o v)) before after Refused
     by None w v is = absurd (told is)
     by (Some g) w v is = (
       record { entries = []; fault = Some (New g) },

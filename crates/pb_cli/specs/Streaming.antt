@@ -6,9 +6,9 @@ use Rattle.law_runs.specs.Scenarios.{RunFault}
 use Rattle.law_streams.specs.Streams.{Streamed, stream_limit, stream_within}
 use Rattle.law_streams.specs.Limits.{stream_behind}
 use Rattle.pb_scenario.specs.Fields.{Fault}
-use Rattle.pb_scenario.specs.Scenarios.{ScenarioView}
+use Rattle.pb_scenario.specs.Repeats.{StreamView, unrolled}
 use Rattle.pb_scenario.specs.Texts.{entries_text}
-use Rattle.pb_stream.specs.Streams.{IsStreaming, names_of, rest_of, up_to}
+use Rattle.pb_stream.specs.Streams.{IsStreaming, names_of, rest_of}
 use Rattle.pb_stream.specs.declared.streams.Stream.{Stream}
 use Rattle.pb_texts.specs.Faults.{run_line, scenario_line}
 use Rattle.pb_cli.specs.Statuses.{status_of}
@@ -30,12 +30,12 @@ Writes names o before after status =
     (stream : Streamed) × (o ≡ Some stream) × Appends before after (stream_text names stream) × (status ≡ status_of (is_some stream.fault))
 
 -- the stream of a scenario up to a moment, within 10^12 entries
-abbrev pub WritesScenario : ScenarioView → (until : ℕ) → (before after : Option (List ℕ)) → Status → Type 0
-WritesScenario s until before after status = Writes s.names (stream_within stream_limit (up_to until s.scenario)) before after status
+abbrev pub WritesScenario : StreamView → (until : ℕ) → (before after : Option (List ℕ)) → Status → Type 0
+WritesScenario s until before after status = Writes s.once.names (stream_within stream_limit (unrolled until s)) before after status
 
 -- that of a file's scenario, up to a moment or to its own end; or the line of the file's fault
-abbrev pub WritesFile : Result ScenarioView (Option Fault) → Option ℕ → (before after : Option (List ℕ)) → Status → Type 0
-WritesFile (Ok s) until before after status = WritesScenario s (unwrap_or until s.scenario.until) before after status
+abbrev pub WritesFile : Result StreamView (Option Fault) → Option ℕ → (before after : Option (List ℕ)) → Status → Type 0
+WritesFile (Ok s) until before after status = WritesScenario s (unwrap_or until s.until) before after status
 WritesFile (Err fault) until before after status = Appends before after (scenario_line fault) × (status ≡ Refused)
 
 -- the entries whose lines were written were to come, and then what is still to come; the stream goes on

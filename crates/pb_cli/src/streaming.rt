@@ -1,7 +1,7 @@
 //! `ringplay stream`: from a scenario file to the trace of its run, written as it settles.
 
 ghost use Rattle.std.specs.Prelude.{◌≡◌, ◌≢◌, ◌≤◌, Err, IfOk, IfSome};
-ghost use Rattle.pb_texts.specs.Files.{scenario_of};
+ghost use Rattle.pb_texts.specs.Files.{stream_scenario_of};
 ghost use Rattle.pb_stream.specs.Streams.{IsStreaming, stream_end};
 ghost use Rattle.pb_cli.specs.Streaming.{StepsOn, WritesFile, WritesScenario};
 
@@ -10,7 +10,7 @@ use crate::progress::Observer;
 use crate::streams::Sink;
 use crate::writing::write_out;
 use pb_stream::{Progress, Stream};
-use pb_texts::{Scenario, described, new_line, refused_file, refused_line};
+use pb_texts::{StreamScenario, described_stream, new_line, refused_file, refused_line};
 use std::alloc::Global;
 
 /// How many entries a block has.
@@ -51,13 +51,13 @@ pub fn stream_file<W: Sink, O: Observer>(
     observer: &mut O,
 ) -> Result<Status, CliFault>
     requires { IfSome until (λ moment. moment ≤ stream_end) }
-    ensures text { IfOk result (WritesFile (scenario_of file.now) until
+    ensures text { IfOk result (WritesFile (stream_scenario_of file.now) until
         (W.contents writer.old) (W.contents writer.new)) }
     ensures read { result ≢ Err CliFault.Read }
     ensures too_long { result ≢ Err CliFault.TooLong }
     ensures writer_failed { result ≢ Err CliFault.Write → W.failures writer.new ≡ W.failures writer.old }
 {
-    match described(alloc, file) {
+    match described_stream(alloc, file) {
         Ok(scenario) => {
             let end = until.unwrap_or(scenario.until());
             stream_scenario(alloc, &scenario, end, flush, writer, observer)
@@ -72,7 +72,7 @@ pub fn stream_file<W: Sink, O: Observer>(
 /// Plays a scenario and writes the lines of its trace as they settle.
 fn stream_scenario<W: Sink, O: Observer>(
     alloc: Global,
-    scenario: &Scenario,
+    scenario: &StreamScenario,
     until: u64,
     flush: Flush,
     writer: &mut W,

@@ -74,10 +74,10 @@ now-says f at (s ∷ steps) from before =
 
 -- ---- the next step
 
-after-none : (now m : ℕ) → m ≤ now → after now (Some m) ≡ None
+pub after-none : (now m : ℕ) → m ≤ now → after now (Some m) ≡ None
 after-none now m le = ap (λ b. if b then Some m else None) (le-ltb now m le)
 
-after-some : (now m : ℕ) → now < m → after now (Some m) ≡ Some m
+pub after-some : (now m : ℕ) → now < m → after now (Some m) ≡ Some m
 after-some now m less = ap (λ b. if b then Some m else None) (lt-ltb now m less)
 
 before-next : (at m : ℕ) (xs ys : List Planned) → at ≤ m + 1 → AreBefore at xs → next_step (xs ++ ys) m ≡ next_step ys m
@@ -126,16 +126,16 @@ get-hold_one held at (Withhold of bits) i less = get-hold_tap held of (at + bits
     by true = refl
     by false = omega arith
 
-length-hold_one : (held : List ℕ) (at : ℕ) (deed : Deed) → length (hold_one held at deed) ≡ length held
+pub length-hold_one : (held : List ℕ) (at : ℕ) (deed : Deed) → length (hold_one held at deed) ≡ length held
 length-hold_one held at (Happens e) = refl
 length-hold_one held at (Withhold of bits) = length-hold_tap held of (at + bits)
 
-length-hold_all : (held : List ℕ) (steps : List Planned) → length (hold_all held steps) ≡ length held
+pub length-hold_all : (held : List ℕ) (steps : List Planned) → length (hold_all held steps) ≡ length held
 length-hold_all held [] = refl
 length-hold_all held (s ∷ steps) = length-hold_all (hold_one held s.at s.deed) steps ∙ length-hold_one held s.at s.deed
 
 -- what is noted of a tap
-get-hold_all : (held : List ℕ) (steps : List Planned) (i : ℕ) → i < length held → slice_index (hold_all held steps) i ≡ max (slice_index held i) (held_by steps i)
+pub get-hold_all : (held : List ℕ) (steps : List Planned) (i : ℕ) → i < length held → slice_index (hold_all held steps) i ≡ max (slice_index held i) (held_by steps i)
 get-hold_all held [] i less = omega arith
 get-hold_all held (s ∷ steps) i less =
     omega (arith, get-hold_all (hold_one held s.at s.deed) steps i (omega (arith, less, length-hold_one held s.at s.deed)), get-hold_one held s.at s.deed i less)

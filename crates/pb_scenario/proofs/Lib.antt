@@ -10,3 +10,7 @@ pub mod Looking
 pub mod Chains
 pub mod Listing
 pub mod Ordering
+pub mod Happenings
+pub mod Moves
+pub mod SameFiles
+pub mod Repeating

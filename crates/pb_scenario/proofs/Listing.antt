@@ -8,12 +8,13 @@ use Rattle.toml.specs.View.{view, items_view}
 use Rattle.toml.specs.declared.value.Value.{Value}
 use Rattle.toml.proofs.Views.{items_view-drop}
 use Rattle.law_model.specs.Medium.{TapSpec}
-use Rattle.law_runs.specs.Scenarios.{Planned}
+use Rattle.pb_scenario.specs.declared.keys.Section.{Section}
 use Rattle.pb_scenario.specs.declared.keys.Section.TheVariants.{Tap, Step}
+use Rattle.pb_scenario.specs.declared.versions.Version.{Version}
 use Rattle.pb_scenario.specs.declared.faults.ScenarioFault.{ScenarioFault}
 use Rattle.pb_scenario.specs.Fields.{Fault, TooMany, Tells, and_then}
 use Rattle.pb_scenario.specs.Scenarios.{names_of}
-use Rattle.pb_scenario.specs.Files.{NamedTap, count, item_in, named, tap_in, taps_from, step_in, steps_from}
+use Rattle.pb_scenario.specs.Files.{NamedTap, count, item_in, named, tap_in, taps_from, items_from}
 use Rattle.pb_scenario.proofs.Chains.{then_ok, then_tells, then_tells_next, one-more}
 
 pub count-items : (vs : List Value) → count (items_view vs) ≡ length vs
@@ -73,68 +74,68 @@ count-names names = length-map names string_bytes
 
 -- ---- taps
 
-module _ (names : List (List ℕ)) (i : ℕ) (vs : List Value) (x : Value) (within : i < length vs) (is : x ≡ get_or vs i x) where
+module _ (version : Version) (names : List (List ℕ)) (i : ℕ) (vs : List Value) (x : Value) (within : i < length vs) (is : x ≡ get_or vs i x) where
   -- one more tap is read, and the rest is left
-  pub tap-read : (table : Members) (t : NamedTap) (before : List NamedTap) → item_in (Tap i) (view x) ≡ Ok table → tap_in names (Tap i) table ≡ Ok t
-      → and_then (taps_from names i (items_view (drop i vs))) (λ ts. Ok (before ++ ts))
-      ≡ and_then (taps_from (names ++ t.name ∷ []) (i + 1) (items_view (drop (i + 1) vs))) (λ ts. Ok ((before ++ t ∷ []) ++ ts))
+  pub tap-read : (table : Members) (t : NamedTap) (before : List NamedTap) → item_in (Tap i) (view x) ≡ Ok table → tap_in version names (Tap i) table ≡ Ok t
+      → and_then (taps_from version names i (items_view (drop i vs))) (λ ts. Ok (before ++ ts))
+      ≡ and_then (taps_from version (names ++ t.name ∷ []) (i + 1) (items_view (drop (i + 1) vs))) (λ ts. Ok ((before ++ t ∷ []) ++ ts))
   unfolding taps_from
   tap-read table t before found read =
-      ap (λ ds. and_then (taps_from names i ds) (λ ts. Ok (before ++ ts))) (front vs i x within is)
-      ∙ ap (λ r. and_then r (λ ts. Ok (before ++ ts))) (then_ok (item_in (Tap i) (view x)) table _ _ found (then_ok (tap_in names (Tap i) table) t _ _ read refl))
-      ∙ one-more before t (taps_from (names ++ t.name ∷ []) (i + 1) (items_view (drop (i + 1) vs)))
+      ap (λ ds. and_then (taps_from version names i ds) (λ ts. Ok (before ++ ts))) (front vs i x within is)
+      ∙ ap (λ r. and_then r (λ ts. Ok (before ++ ts))) (then_ok (item_in (Tap i) (view x)) table _ _ found (then_ok (tap_in version names (Tap i) table) t _ _ read refl))
+      ∙ one-more before t (taps_from version (names ++ t.name ∷ []) (i + 1) (items_view (drop (i + 1) vs)))
 
   -- the item is no table
-  pub no-tap : (f : ScenarioFault) (before : List NamedTap) → Tells f (item_in (Tap i) (view x)) → Tells f (and_then (taps_from names i (items_view (drop i vs))) (λ ts. Ok (before ++ ts)))
+  pub no-tap : (f : ScenarioFault) (before : List NamedTap) → Tells f (item_in (Tap i) (view x)) → Tells f (and_then (taps_from version names i (items_view (drop i vs))) (λ ts. Ok (before ++ ts)))
   unfolding taps_from
-  no-tap f before told = subst (λ ds. Tells f (and_then (taps_from names i ds) (λ (ts : List NamedTap). Ok (before ++ ts)))) (sym (front vs i x within is))
+  no-tap f before told = subst (λ ds. Tells f (and_then (taps_from version names i ds) (λ (ts : List NamedTap). Ok (before ++ ts)))) (sym (front vs i x within is))
       (then_tells f _ _ (then_tells f (item_in (Tap i) (view x)) _ told))
 
   -- the table describes no tap
-  pub bad-tap : (f : ScenarioFault) (table : Members) (before : List NamedTap) → item_in (Tap i) (view x) ≡ Ok table → Tells f (tap_in names (Tap i) table)
-      → Tells f (and_then (taps_from names i (items_view (drop i vs))) (λ ts. Ok (before ++ ts)))
+  pub bad-tap : (f : ScenarioFault) (table : Members) (before : List NamedTap) → item_in (Tap i) (view x) ≡ Ok table → Tells f (tap_in version names (Tap i) table)
+      → Tells f (and_then (taps_from version names i (items_view (drop i vs))) (λ ts. Ok (before ++ ts)))
   unfolding taps_from
-  bad-tap f table before found told = subst (λ ds. Tells f (and_then (taps_from names i ds) (λ (ts : List NamedTap). Ok (before ++ ts)))) (sym (front vs i x within is))
-      (then_tells f _ _ (then_tells_next f (item_in (Tap i) (view x)) table _ found (then_tells f (tap_in names (Tap i) table) _ told)))
+  bad-tap f table before found told = subst (λ ds. Tells f (and_then (taps_from version names i ds) (λ (ts : List NamedTap). Ok (before ++ ts)))) (sym (front vs i x within is))
+      (then_tells f _ _ (then_tells_next f (item_in (Tap i) (view x)) table _ found (then_tells f (tap_in version names (Tap i) table) _ told)))
 
-no-taps : (names : List (List ℕ)) (tap : ℕ) (before : List NamedTap) → and_then (taps_from names tap no_items) (λ ts. Ok (before ++ ts)) ≡ Ok before
+no-taps : (version : Version) (names : List (List ℕ)) (tap : ℕ) (before : List NamedTap) → and_then (taps_from version names tap no_items) (λ ts. Ok (before ++ ts)) ≡ Ok before
 unfolding taps_from
-no-taps names tap before = ap (λ l. Ok l) (append-nil before)
+no-taps version names tap before = ap (λ l. Ok l) (append-nil before)
 
 -- all taps are read
-pub taps-read : (names : List (List ℕ)) (i : ℕ) (vs : List Value) (before : List NamedTap) → length vs ≤ i → and_then (taps_from names i (items_view (drop i vs))) (λ ts. Ok (before ++ ts)) ≡ Ok before
-taps-read names i vs before all = ap (λ ds. and_then (taps_from names i ds) (λ ts. Ok (before ++ ts))) (nothing-left vs i all) ∙ no-taps names i before
+pub taps-read : (version : Version) (names : List (List ℕ)) (i : ℕ) (vs : List Value) (before : List NamedTap) → length vs ≤ i → and_then (taps_from version names i (items_view (drop i vs))) (λ ts. Ok (before ++ ts)) ≡ Ok before
+taps-read version names i vs before all = ap (λ ds. and_then (taps_from version names i ds) (λ ts. Ok (before ++ ts))) (nothing-left vs i all) ∙ no-taps version names i before
 
 -- ---- steps
 
-module _ (names : List (List ℕ)) (before i : ℕ) (vs : List Value) (x : Value) (within : i < length vs) (is : x ≡ get_or vs i x) where
+module _ {X : Type 0} (read : ℕ → Section → Members → Result X Fault) (at : X → ℕ) (before i : ℕ) (vs : List Value) (x : Value) (within : i < length vs) (is : x ≡ get_or vs i x) where
   -- one more step is read, and the rest is left
-  pub step-read : (table : Members) (s : Planned) (past : List Planned) → item_in (Step i) (view x) ≡ Ok table → step_in names before (Step i) table ≡ Ok s
-      → and_then (steps_from names before i (items_view (drop i vs))) (λ ss. Ok (past ++ ss))
-      ≡ and_then (steps_from names s.at (i + 1) (items_view (drop (i + 1) vs))) (λ ss. Ok ((past ++ s ∷ []) ++ ss))
-  unfolding steps_from
-  step-read table s past found read =
-      ap (λ ds. and_then (steps_from names before i ds) (λ ss. Ok (past ++ ss))) (front vs i x within is)
-      ∙ ap (λ r. and_then r (λ ss. Ok (past ++ ss))) (then_ok (item_in (Step i) (view x)) table _ _ found (then_ok (step_in names before (Step i) table) s _ _ read refl))
-      ∙ one-more past s (steps_from names s.at (i + 1) (items_view (drop (i + 1) vs)))
+  pub step-read : (table : Members) (s : X) (past : List X) → item_in (Step i) (view x) ≡ Ok table → read before (Step i) table ≡ Ok s
+      → and_then (items_from read at before i (items_view (drop i vs))) (λ ss. Ok (past ++ ss))
+      ≡ and_then (items_from read at (at s) (i + 1) (items_view (drop (i + 1) vs))) (λ ss. Ok ((past ++ s ∷ []) ++ ss))
+  unfolding items_from
+  step-read table s past found was =
+      ap (λ ds. and_then (items_from read at before i ds) (λ ss. Ok (past ++ ss))) (front vs i x within is)
+      ∙ ap (λ r. and_then r (λ ss. Ok (past ++ ss))) (then_ok (item_in (Step i) (view x)) table _ _ found (then_ok (read before (Step i) table) s _ _ was refl))
+      ∙ one-more past s (items_from read at (at s) (i + 1) (items_view (drop (i + 1) vs)))
 
   -- the item is no table
-  pub no-step : (f : ScenarioFault) (past : List Planned) → Tells f (item_in (Step i) (view x)) → Tells f (and_then (steps_from names before i (items_view (drop i vs))) (λ ss. Ok (past ++ ss)))
-  unfolding steps_from
-  no-step f past told = subst (λ ds. Tells f (and_then (steps_from names before i ds) (λ (ss : List Planned). Ok (past ++ ss)))) (sym (front vs i x within is))
+  pub no-step : (f : ScenarioFault) (past : List X) → Tells f (item_in (Step i) (view x)) → Tells f (and_then (items_from read at before i (items_view (drop i vs))) (λ ss. Ok (past ++ ss)))
+  unfolding items_from
+  no-step f past told = subst (λ ds. Tells f (and_then (items_from read at before i ds) (λ (ss : List X). Ok (past ++ ss)))) (sym (front vs i x within is))
       (then_tells f _ _ (then_tells f (item_in (Step i) (view x)) _ told))
 
   -- the table describes no step
-  pub bad-step : (f : ScenarioFault) (table : Members) (past : List Planned) → item_in (Step i) (view x) ≡ Ok table → Tells f (step_in names before (Step i) table)
-      → Tells f (and_then (steps_from names before i (items_view (drop i vs))) (λ ss. Ok (past ++ ss)))
-  unfolding steps_from
-  bad-step f table past found told = subst (λ ds. Tells f (and_then (steps_from names before i ds) (λ (ss : List Planned). Ok (past ++ ss)))) (sym (front vs i x within is))
-      (then_tells f _ _ (then_tells_next f (item_in (Step i) (view x)) table _ found (then_tells f (step_in names before (Step i) table) _ told)))
+  pub bad-step : (f : ScenarioFault) (table : Members) (past : List X) → item_in (Step i) (view x) ≡ Ok table → Tells f (read before (Step i) table)
+      → Tells f (and_then (items_from read at before i (items_view (drop i vs))) (λ ss. Ok (past ++ ss)))
+  unfolding items_from
+  bad-step f table past found told = subst (λ ds. Tells f (and_then (items_from read at before i ds) (λ (ss : List X). Ok (past ++ ss)))) (sym (front vs i x within is))
+      (then_tells f _ _ (then_tells_next f (item_in (Step i) (view x)) table _ found (then_tells f (read before (Step i) table) _ told)))
 
-no-steps : (names : List (List ℕ)) (before place : ℕ) (past : List Planned) → and_then (steps_from names before place no_items) (λ ss. Ok (past ++ ss)) ≡ Ok past
-unfolding steps_from
-no-steps names before place past = ap (λ l. Ok l) (append-nil past)
+no-steps : {X : Type 0} (read : ℕ → Section → Members → Result X Fault) (at : X → ℕ) (before place : ℕ) (past : List X) → and_then (items_from read at before place no_items) (λ ss. Ok (past ++ ss)) ≡ Ok past
+unfolding items_from
+no-steps read at before place past = ap (λ l. Ok l) (append-nil past)
 
 -- all steps are read
-pub steps-read : (names : List (List ℕ)) (before i : ℕ) (vs : List Value) (past : List Planned) → length vs ≤ i → and_then (steps_from names before i (items_view (drop i vs))) (λ ss. Ok (past ++ ss)) ≡ Ok past
-steps-read names before i vs past all = ap (λ ds. and_then (steps_from names before i ds) (λ ss. Ok (past ++ ss))) (nothing-left vs i all) ∙ no-steps names before i past
+pub steps-read : {X : Type 0} (read : ℕ → Section → Members → Result X Fault) (at : X → ℕ) (before i : ℕ) (vs : List Value) (past : List X) → length vs ≤ i → and_then (items_from read at before i (items_view (drop i vs))) (λ ss. Ok (past ++ ss)) ≡ Ok past
+steps-read read at before i vs past all = ap (λ ds. and_then (items_from read at before i ds) (λ ss. Ok (past ++ ss))) (nothing-left vs i all) ∙ no-steps read at before i past

@@ -7,6 +7,7 @@ use Rattle.law_model.specs.World as model
 use Rattle.law_runs.specs.Scenarios.{Deed, Happens, Withhold, Planned}
 use Rattle.law_runs.specs.Laws.{deed_is_from_outside, AreFromOutside}
 use Rattle.pb_scenario.specs.Walks.{AreFrom}
+use Rattle.pb_scenario.specs.declared.keys.Key.{Key}
 use Rattle.pb_scenario.specs.declared.keys.Key.TheVariants as key
 use Rattle.pb_scenario.specs.declared.keys.Section.{Section}
 use Rattle.pb_scenario.specs.declared.keys.Section.TheVariants.{Step}
@@ -15,10 +16,10 @@ use Rattle.pb_scenario.specs.declared.words.Word.TheVariants as word
 use Rattle.pb_scenario.specs.Keys.{step_keys}
 use Rattle.pb_scenario.specs.Words.{word_of}
 use Rattle.pb_scenario.specs.Fields.{Fault, StepOrder, and_then, known, meant, path_of}
-use Rattle.pb_scenario.specs.Files.{number, word32, tap_at, request_in, if_there, some_octet, item_in, deed_in, in_order, step_in, steps_from}
+use Rattle.pb_scenario.specs.Files.{number, word32, tap_at, request_in, if_there, some_octet, item_in, deed_in, in_order, step_by, step_in, items_from, steps_from}
 use Rattle.pb_scenario.proofs.Chains.{then-all, then-each}
 
-abbrev IsOutside : Deed → Type 0
+abbrev pub IsOutside : Deed → Type 0
 IsOutside d = deed_is_from_outside d ≡ true
 
 deed-outside : (names : List (List ℕ)) (at : Section) (table : Members) (w : Word) → IfOk (deed_in names at table w) IsOutside
@@ -52,29 +53,33 @@ moment-later before at n = by (nat_lt n before) refl
     by true e = tt
     by false e = grind (arith, nat_tests)
 
-abbrev IsLater : ℕ → Planned → Type 0
+abbrev pub IsLater : ℕ → Planned → Type 0
 IsLater before s = (before ≤ s.at) × IsOutside s.deed
+
+pub step-by-later : (names : List (List ℕ)) (before : ℕ) (at : Section) (table : Members) (does : Word) (keys : List Key) → IfOk (step_by names before at table does keys) (IsLater before)
+unfolding step_by
+step-by-later names before at table does keys =
+    let made : ℕ → Deed → Result Planned Fault = λ moment deed. Ok (record { at = moment; deed = deed }) in
+    let with_deed : ℕ → Result Planned Fault = λ moment. and_then (deed_in names at table does) (made moment) in
+    let with_moment : ℕ → Result Planned Fault = λ n. and_then (in_order before at n) with_deed in
+    let with_at : Unit {0} → Result Planned Fault = λ known. and_then (number 0 18446744073709551615 at key.At table) with_moment in
+    then-each (IsLater before) (known keys at table) with_at (λ known.
+    then-each (IsLater before) (number 0 18446744073709551615 at key.At table) with_moment (λ n.
+    then-all (λ m. before ≤ m) (IsLater before) (in_order before at n) with_deed (moment-later before at n) (λ moment later.
+    then-all IsOutside (IsLater before) (deed_in names at table does) (made moment) (deed-outside names at table does) (λ deed outside. (later, outside)))))
 
 step-later : (names : List (List ℕ)) (before : ℕ) (at : Section) (table : Members) → IfOk (step_in names before at table) (IsLater before)
 unfolding step_in
 step-later names before at table =
-    let made : ℕ → Deed → Result Planned Fault = λ moment deed. Ok (record { at = moment; deed = deed }) in
-    let with_deed : Word → ℕ → Result Planned Fault = λ does moment. and_then (deed_in names at table does) (made moment) in
-    let with_moment : Word → ℕ → Result Planned Fault = λ does n. and_then (in_order before at n) (with_deed does) in
-    let with_at : Word → Unit {0} → Result Planned Fault = λ does keys. and_then (number 0 18446744073709551615 at key.At table) (with_moment does) in
-    let with_keys : Word → Result Planned Fault = λ does. and_then (known (step_keys does) at table) (with_at does) in
-    then-each (IsLater before) (meant word_of as_str at key.Do table) with_keys (λ does.
-    then-each (IsLater before) (known (step_keys does) at table) (with_at does) (λ keys.
-    then-each (IsLater before) (number 0 18446744073709551615 at key.At table) (with_moment does) (λ n.
-    then-all (λ m. before ≤ m) (IsLater before) (in_order before at n) (with_deed does) (moment-later before at n) (λ moment later.
-    then-all IsOutside (IsLater before) (deed_in names at table does) (made moment) (deed-outside names at table does) (λ deed outside. (later, outside))))))
+    then-each (IsLater before) (meant word_of as_str at key.Do table) (λ does. step_by names before at table does (step_keys does)) (λ does.
+    step-by-later names before at table does (step_keys does))
 
 pub record AreLater (before : ℕ) (steps : List Planned) : Type 0 where
   pub order : AreFrom before steps
   pub outside : AreFromOutside steps
 
 pub steps-later : (names : List (List ℕ)) (before place : ℕ) (items : Items) → IfOk (steps_from names before place items) (AreLater before)
-unfolding steps_from
+unfolding items_from
 steps-later names before place no_items = record { order = tt; outside = tt }
 steps-later names before place (item d ds) =
     let with_rest : Planned → List Planned → Result (List Planned) Fault = λ s ss. Ok (s ∷ ss) in

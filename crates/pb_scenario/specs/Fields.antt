@@ -13,7 +13,8 @@ use Rattle.pb_scenario.specs.declared.keys.Path.TheVariants as path
 use Rattle.pb_scenario.specs.declared.faults.ScenarioFault.{ScenarioFault}
 use Rattle.pb_scenario.specs.declared.faults.ScenarioFault.TheVariants as fault
 use Rattle.pb_scenario.specs.Keys.{key_name, is_named}
-use Rattle.pb_scenario.specs.Words.{is_name}
+use Rattle.pb_scenario.specs.declared.versions.Version.{Version}
+use Rattle.pb_scenario.specs.Words.{is_name_in}
 
 abbrev pub number_of : ScenarioFault → ℕ
 number_of fault.NotToml = 1
@@ -93,8 +94,8 @@ in_range least most (negsuc n) = None
 abbrev pub octets_in : List ℕ → Option (List ℕ)
 octets_in text = if nat_le (length text) (2 * 246) then result_ok (decode_of text) else None
 
-abbrev pub as_name : List ℕ → Option (List ℕ)
-as_name text = if is_name text then Some text else None
+abbrev pub as_name : Version → List ℕ → Option (List ℕ)
+as_name version text = if is_name_in version text then Some text else None
 
 -- ---- the keys that a table may have
 

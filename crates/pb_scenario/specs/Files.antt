@@ -26,7 +26,7 @@ use Rattle.pb_scenario.specs.declared.keys.Path.TheVariants as path
 use Rattle.pb_scenario.specs.declared.faults.ScenarioFault.{ScenarioFault}
 use Rattle.pb_scenario.specs.declared.faults.ScenarioFault.TheVariants as fault
 use Rattle.pb_scenario.specs.declared.versions.Version.{Version}
-use Rattle.pb_scenario.specs.declared.versions.Version.TheVariants.{Undelayed, Delayed}
+use Rattle.pb_scenario.specs.declared.versions.Version.TheVariants.{Undelayed, Delayed, Repeating}
 use Rattle.pb_scenario.specs.declared.words.Word.{Word}
 use Rattle.pb_scenario.specs.declared.words.Word.TheVariants as word
 use Rattle.pb_scenario.specs.Keys.{key_name, top_keys, bus_keys, tap_keys, step_keys}
@@ -70,6 +70,7 @@ checked p (Some f) = Err (ParamsFault f)
 abbrev pub delay_in : Version → Section → Members → Result ℕ Fault
 delay_in Undelayed at bus = Ok 0
 delay_in Delayed at bus = word32 at key.Ttd bus
+delay_in Repeating at bus = word32 at key.Ttd bus
 
 unfoldable pub params_in : Version → Section → Members → Result Params Fault
 params_in version at bus =
@@ -96,10 +97,10 @@ pub record NamedTap : Type 0 where
 abbrev pub unless_taken : List (List ℕ) → Path → List ℕ → Result (List ℕ) Fault
 unless_taken names at name = if list_any (bytes_eq name) names then Err (Twice at) else Ok name
 
-unfoldable pub tap_in : List (List ℕ) → Section → Members → Result NamedTap Fault
-tap_in names at table =
+unfoldable pub tap_in : Version → List (List ℕ) → Section → Members → Result NamedTap Fault
+tap_in version names at table =
     and_then (known tap_keys at table) (λ _.
-    and_then (meant as_name as_str at key.Name table) (λ text.
+    and_then (meant (as_name version) as_str at key.Name table) (λ text.
     and_then (unless_taken names (path_of at key.Name) text) (λ name.
     and_then (meant kind_of as_str at key.Kind table) (λ kind.
     and_then (octet at key.Address table) (λ address.
@@ -107,12 +108,12 @@ tap_in names at table =
     Ok (record { name = name; spec = record { address = address; master = is_master kind; reply = reply } })))))))
 
 -- the taps of some list elements, the first of them at an index, after others with names
-unfoldable pub taps_from : List (List ℕ) → ℕ → Items → Result (List NamedTap) Fault
-taps_from names tap no_items = Ok []
-taps_from names tap (item d ds) =
+unfoldable pub taps_from : Version → List (List ℕ) → ℕ → Items → Result (List NamedTap) Fault
+taps_from version names tap no_items = Ok []
+taps_from version names tap (item d ds) =
     and_then (item_in (Tap tap) d) (λ table.
-    and_then (tap_in names (Tap tap) table) (λ t.
-    and_then (taps_from (names ++ t.name ∷ []) (tap + 1) ds) (λ ts.
+    and_then (tap_in version names (Tap tap) table) (λ t.
+    and_then (taps_from version (names ++ t.name ∷ []) (tap + 1) ds) (λ ts.
     Ok (t ∷ ts))))
 
 -- names and as many definitions of taps, paired
@@ -124,9 +125,10 @@ named (name ∷ names) (spec ∷ specs) = record { name = name; spec = spec } �
 abbrev pub most_taps : Version → ℕ
 most_taps Undelayed = 32
 most_taps Delayed = 127
+most_taps Repeating = 127
 
 abbrev pub taps_in : Version → Items → Result (List NamedTap) Fault
-taps_in version items = if nat_lt (most_taps version) (count items) then Err TooMany else taps_from [] 0 items
+taps_in version items = if nat_lt (most_taps version) (count items) then Err TooMany else taps_from version [] 0 items
 
 -- ---- the steps
 
@@ -177,23 +179,30 @@ deed_in names at table word.Withhold =
 abbrev pub in_order : ℕ → Section → ℕ → Result ℕ Fault
 in_order before at n = if nat_lt n before then Err (StepOrder (path_of at key.At)) else Ok n
 
--- a step that must not be earlier than a moment
-unfoldable pub step_in : List (List ℕ) → ℕ → Section → Members → Result Planned Fault
-step_in names before at table =
-    and_then (meant word_of as_str at key.Do table) (λ does.
-    and_then (known (step_keys does) at table) (λ _.
+-- a step with this word in a table with these keys; it must not be earlier than a moment
+unfoldable pub step_by : List (List ℕ) → ℕ → Section → Members → Word → List Key → Result Planned Fault
+step_by names before at table does keys =
+    and_then (known keys at table) (λ _.
     and_then (number 0 18446744073709551615 at key.At table) (λ n.
     and_then (in_order before at n) (λ moment.
     and_then (deed_in names at table does) (λ deed.
-    Ok (record { at = moment; deed = deed }))))))
+    Ok (record { at = moment; deed = deed })))))
 
-unfoldable pub steps_from : List (List ℕ) → ℕ → ℕ → Items → Result (List Planned) Fault
-steps_from names before place no_items = Ok []
-steps_from names before place (item d ds) =
+-- a step that must not be earlier than a moment
+unfoldable pub step_in : List (List ℕ) → ℕ → Section → Members → Result Planned Fault
+step_in names before at table = and_then (meant word_of as_str at key.Do table) (λ does. step_by names before at table does (step_keys does))
+
+-- what list elements describe, one after another, the first of them at an index; none is earlier than the one before
+unfoldable pub items_from : {X : Type 0} → (ℕ → Section → Members → Result X Fault) → (X → ℕ) → ℕ → ℕ → Items → Result (List X) Fault
+items_from read at before place no_items = Ok []
+items_from read at before place (item d ds) =
     and_then (item_in (Step place) d) (λ table.
-    and_then (step_in names before (Step place) table) (λ s.
-    and_then (steps_from names s.at (place + 1) ds) (λ ss.
+    and_then (read before (Step place) table) (λ s.
+    and_then (items_from read at (at s) (place + 1) ds) (λ ss.
     Ok (s ∷ ss))))
+
+abbrev pub steps_from : List (List ℕ) → ℕ → ℕ → Items → Result (List Planned) Fault
+steps_from names = items_from (step_in names) (λ (s : Planned). s.at)
 
 abbrev pub steps_in : List (List ℕ) → Items → Result (List Planned) Fault
 steps_in names items = if nat_lt 10000 (count items) then Err TooMany else steps_from names 0 0 items
@@ -240,22 +249,26 @@ pub record IsToml (file : List ℕ) (top : Members) : Type 0 where
   pub text : IsUtf8 file
   pub document : parse_document file ≡ Some top
 
--- the file describes a scenario
+-- the file describes this, by a reading of tables
+abbrev pub DescribesBy : {X : Type 0} → (Members → Result X Fault) → List ℕ → X → Type 0
+DescribesBy read file x = (top : Members) × IsToml file top × (read top ≡ Ok x)
+
+-- why it describes nothing: it is not TOML, or its table has this fault; or memory was refused
+abbrev pub RefusesBy : {X : Type 0} → (Members → Result X Fault) → List ℕ → ScenarioFault → Type 0
+RefusesBy read file fault.NotToml = (top : Members) → IsToml file top → ⊥
+RefusesBy read file fault.NoMemory = Unit {0}
+RefusesBy read file f = (top : Members) × IsToml file top × Tells f (read top)
+
+-- the file describes a scenario, or why not
 abbrev pub Describes : List ℕ → ScenarioView → Type 0
-Describes file s = (top : Members) × IsToml file top × (scenario_in top ≡ Ok s)
+Describes file s = DescribesBy scenario_in file s
 
--- why it describes none: it is not TOML, or its table has this fault; or memory was refused
 abbrev pub RefusesFile : List ℕ → ScenarioFault → Type 0
-RefusesFile file fault.NotToml = (top : Members) → IsToml file top → ⊥
-RefusesFile file fault.NoMemory = Unit {0}
-RefusesFile file f = (top : Members) × IsToml file top × Tells f (scenario_in top)
+RefusesFile file f = RefusesBy scenario_in file f
 
--- the file describes a bus
+-- the file describes a bus, or why not
 abbrev pub DescribesBus : List ℕ → Params → Type 0
-DescribesBus file p = (top : Members) × IsToml file top × (bus_in top ≡ Ok p)
+DescribesBus file p = DescribesBy bus_in file p
 
--- why it describes none
 abbrev pub RefusesBus : List ℕ → ScenarioFault → Type 0
-RefusesBus file fault.NotToml = (top : Members) → IsToml file top → ⊥
-RefusesBus file fault.NoMemory = Unit {0}
-RefusesBus file f = (top : Members) × IsToml file top × Tells f (bus_in top)
+RefusesBus file f = RefusesBy bus_in file f

@@ -4,7 +4,7 @@ use Rattle.std.specs.List.{list_any}
 use Rattle.pb_scenario.specs.declared.keys.Key.{Key}
 use Rattle.pb_scenario.specs.declared.keys.Key.TheVariants as key
 use Rattle.pb_scenario.specs.declared.versions.Version.{Version}
-use Rattle.pb_scenario.specs.declared.versions.Version.TheVariants.{Undelayed, Delayed}
+use Rattle.pb_scenario.specs.declared.versions.Version.TheVariants.{Undelayed, Delayed, Repeating}
 use Rattle.pb_scenario.specs.declared.words.Word.{Word}
 use Rattle.pb_scenario.specs.declared.words.Word.TheVariants as word
 
@@ -37,6 +37,8 @@ key_name key.Unit = codes "unit"
 key_name key.Speaker = codes "speaker"
 key_name key.Place = codes "place"
 key_name key.Bits = codes "bits"
+key_name key.Every = codes "every"
+key_name key.Count = codes "count"
 
 -- a text is the name of one of some keys
 abbrev pub is_named : List Key → List ℕ → Bool
@@ -49,6 +51,7 @@ top_keys = key.Version ∷ key.Until ∷ key.Bus ∷ key.Tap ∷ key.Step ∷ []
 abbrev pub bus_keys : Version → List Key
 bus_keys Undelayed = key.Tsl ∷ key.Tid1 ∷ key.Tid2 ∷ key.Tsdr ∷ key.Lag ∷ key.Ttr ∷ key.Gap ∷ key.Hsa ∷ key.Retries ∷ []
 bus_keys Delayed = key.Tsl ∷ key.Tid1 ∷ key.Tid2 ∷ key.Tsdr ∷ key.Lag ∷ key.Ttr ∷ key.Gap ∷ key.Hsa ∷ key.Retries ∷ key.Ttd ∷ []
+bus_keys Repeating = key.Tsl ∷ key.Tid1 ∷ key.Tid2 ∷ key.Tsdr ∷ key.Lag ∷ key.Ttr ∷ key.Gap ∷ key.Hsa ∷ key.Retries ∷ key.Ttd ∷ []
 
 abbrev pub tap_keys : List Key
 tap_keys = key.Name ∷ key.Kind ∷ key.Address ∷ key.Reply ∷ []

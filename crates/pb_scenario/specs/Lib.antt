@@ -8,6 +8,7 @@ pub mod Looks
 pub mod Reading
 pub mod Nexts
 pub mod Scenarios
+pub mod Repeats
 pub mod Kept
 pub mod Texts
 pub mod Lines
@@ -23,3 +24,9 @@ pub mod Judged
 pub mod Fields
 pub mod Tables
 pub mod Files
+pub mod StreamFiles
+pub mod StreamLaws
+pub mod Rounds
+pub mod StreamWalking
+pub mod StreamKept
+pub mod RepeatedTables

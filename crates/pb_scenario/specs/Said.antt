@@ -12,3 +12,7 @@ said_in AfterTurns deed = event_after deed
 
 abbrev pub said_by : When → List Planned → List Event
 said_by when steps = filter_map (λ s. said_in when s.deed) steps
+
+-- the same of deeds
+abbrev pub said_of : When → List Deed → List Event
+said_of when deeds = filter_map (said_in when) deeds

@@ -1,11 +1,13 @@
 -- The meaning of the words of a scenario file.
-use Rattle.std.specs.Prelude.{ℕ, Bool, ◌&&◌, nat_le, List, length, codes, bytes_eq, Option, Some, None, if◌then◌else◌}
+use Rattle.std.specs.Prelude.{ℕ, Bool, ◌&&◌, ◌||◌, ◌==◌, nat_le, List, length, codes, bytes_eq, Option, Some, None, if◌then◌else◌}
 use Rattle.std.specs.List.{list_all}
 use Rattle.std.specs.Char.{is_ascii_alphanumeric}
 use Rattle.pb_cycles.specs.declared.services.Service.{Service}
 use Rattle.pb_cycles.specs.declared.services.Service.TheVariants.{Sda, Sdn, Srd}
 use Rattle.pb_taps.specs.declared.taps.Kind.{Kind}
 use Rattle.pb_taps.specs.declared.taps.Kind.TheVariants.{Master, Passive}
+use Rattle.pb_scenario.specs.declared.versions.Version.{Version}
+use Rattle.pb_scenario.specs.declared.versions.Version.TheVariants.{Undelayed, Delayed, Repeating}
 use Rattle.pb_scenario.specs.declared.words.Word.{Word}
 use Rattle.pb_scenario.specs.declared.words.Word.TheVariants as word
 
@@ -37,3 +39,16 @@ service_of text =
 -- 1 to 16 ASCII letters or digits
 unfoldable pub is_name : List ℕ → Bool
 is_name text = (nat_le 1 (length text) && nat_le (length text) 16) && list_all is_ascii_alphanumeric text
+
+-- 1 to 32 ASCII letters, digits, '-' or '_'
+abbrev pub is_of_long_names : ℕ → Bool
+is_of_long_names octet = is_ascii_alphanumeric octet || (octet == 45 || octet == 95)
+
+unfoldable pub is_long_name : List ℕ → Bool
+is_long_name text = (nat_le 1 (length text) && nat_le (length text) 32) && list_all is_of_long_names text
+
+-- the names of a version
+abbrev pub is_name_in : Version → List ℕ → Bool
+is_name_in Undelayed text = is_name text
+is_name_in Delayed text = is_name text
+is_name_in Repeating text = is_long_name text

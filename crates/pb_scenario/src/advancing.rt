@@ -1,9 +1,10 @@
 //! Advances a walk through steps, and keeps until when each tap is withheld.
 
-ghost use Rattle.std.specs.Prelude.{◌≡◌, ◌<◌, ◌≤◌, ◌^◌, nat_lt};
+ghost use Rattle.std.specs.Prelude.{◌≡◌, ◌<◌, ◌≤◌, ◌^◌, map, nat_lt};
 ghost use Rattle.std.specs.List.{prefix_len};
 ghost use Rattle.pb_timers.specs.Timers.{last_moment};
 ghost use Rattle.pb_scenario.specs.Cutting.{CutsAt};
+ghost use Rattle.pb_scenario.specs.Rounds.{hold_deeds};
 ghost use Rattle.pb_scenario.specs.Steps.{deed_of, steps_of};
 ghost use Rattle.pb_scenario.specs.Walks.{AreBefore, AreFrom, hold_tap, hold_one, hold_all};
 
@@ -36,18 +37,28 @@ fn hold(held: &mut [u64], steps: &[Step])
     ensures { held.new ≡ hold_all held.old (steps_of steps.now) }
 {
     for step in steps {
-        hold_one(held, step);
+        hold_one(held, step.at, &step.deed);
     }
 }
 
-/// Updates until when a step withholds a tap.
-fn hold_one(held: &mut [u64], step: &Step)
-    requires { step.now.at < 2 ^ 63 }
-    ensures { held.new ≡ hold_one held.old step.now.at (deed_of step.now.deed) }
+/// Updates until when some deeds of a moment withhold the taps.
+pub(crate) fn hold_deeds(held: &mut [u64], at: u64, deeds: &[&Deed])
+    requires { at < 2 ^ 63 }
+    ensures { held.new ≡ hold_deeds held.old at (map (λ d. deed_of d.now) deeds.now) }
 {
-    match step.deed {
+    for deed in deeds {
+        hold_one(held, at, deed);
+    }
+}
+
+/// Updates until when a deed of a moment withholds a tap.
+fn hold_one(held: &mut [u64], at: u64, deed: &Deed)
+    requires { at < 2 ^ 63 }
+    ensures { held.new ≡ hold_one held.old at (deed_of deed.now) }
+{
+    match deed {
         Deed::Happens(_) => {}
-        Deed::Withhold { tap, bits } => hold_tap(held, tap, step.at + u64::from(bits)),
+        Deed::Withhold { tap, bits } => hold_tap(held, *tap, at + u64::from(*bits)),
     }
 }
 

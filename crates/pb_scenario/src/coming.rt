@@ -38,12 +38,21 @@ pub(crate) fn next_instant(
     ensures next { result ≡ onward_to until now (first_of (steps_of later.now) change turn) }
     ensures bounds { IfSome result (λ at. (now < at) × (at ≤ until)) }
 {
-    let change = bits_of(change);
-    onward(
-        now,
-        until,
-        earlier(first_moment(later), earlier(change, turn)),
-    )
+    next_moment(now, until, first_moment(later), change, turn)
+}
+
+/// The next instant, given the moment of the next step.
+pub(crate) fn next_moment(
+    now: u64,
+    until: u64,
+    step: Option<u64>,
+    change: Option<Moment>,
+    turn: Option<u64>,
+) -> Option<u64>
+    ensures next { result ≡ onward_to until now (earlier step (earlier change turn)) }
+    ensures bounds { IfSome result (λ at. (now < at) × (at ≤ until)) }
+{
+    onward(now, until, earlier(step, earlier(bits_of(change), turn)))
 }
 
 /// The moment of the first of some steps.

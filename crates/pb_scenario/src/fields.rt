@@ -6,7 +6,7 @@ ghost use Rattle.pb_scenario.specs.Fields.{Tells, in_range, known_or, octets_in}
 
 use crate::faults::ScenarioFault;
 use crate::keys::{Key, Path, Section, UnknownKey};
-use crate::words::is_name;
+use crate::versions::Version;
 use arrayvec::ArrayVec;
 use std::alloc::Global;
 use toml::{Table, Value};
@@ -156,14 +156,14 @@ impl<'a> Fields<'a> {
         }
     }
 
-    /// The name of a tap.
+    /// The name of a tap, in a file of a version.
     #[tactic(auto, unfolding(crate::specs::Fields::meant))]
-    pub(crate) fn name(&self) -> Result<&'a str, ScenarioFault>
+    pub(crate) fn name(&self, version: Version) -> Result<&'a str, ScenarioFault>
         ensures { Answers (λ t. t.now) result
-            (meant as_name as_str self.now.section Key.Name (members self.now)) }
+            (meant (as_name version) as_str self.now.section Key.Name (members self.now)) }
     {
         let name = self.text(Key::Name)?;
-        if is_name(name) {
+        if version.is_name(name) {
             Ok(name)
         } else {
             Err(ScenarioFault::BadValue(self.path(Key::Name)))

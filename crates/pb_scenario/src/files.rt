@@ -25,9 +25,9 @@ use std::alloc::Global;
 use toml::{Table, Value};
 
 /// The last moment at which a scenario may end, in bit times.
-const LAST_END: u64 = 10_000_000;
+pub(crate) const LAST_END: u64 = 10_000_000;
 
-const TOP_KEYS: [Key; 5] = [Key::Version, Key::Until, Key::Bus, Key::Tap, Key::Step];
+pub(crate) const TOP_KEYS: [Key; 5] = [Key::Version, Key::Until, Key::Bus, Key::Tap, Key::Step];
 
 /// Reads the scenario that a TOML file describes. In version 1 a bus has no cable delay and at most 32 taps. In version
 /// 2 the file gives the cable delay, in bit times, and there are at most 127 taps.
@@ -84,7 +84,7 @@ fn bus_in(alloc: Global, table: &Table) -> Result<BusParams, ScenarioFault>
 
 /// The scenario that the table of a whole file describes.
 #[tactic(auto, unfolding(crate::specs::Files::scenario_in), using(crate::proofs::Chains::then_ok, crate::proofs::Chains::then_tells, crate::proofs::Chains::then_tells_next))]
-fn scenario_in(alloc: Global, table: &Table) -> Result<Scenario, ScenarioFault>
+pub(crate) fn scenario_in(alloc: Global, table: &Table) -> Result<Scenario, ScenarioFault>
     ensures { Answers (λ s. s) result (files.scenario_in (table_view table.now)) }
 {
     let top = Fields {
@@ -124,7 +124,11 @@ fn steps_at(
 
 /// The parameters of the bus.
 #[tactic(auto, unfolding(crate::specs::Files::params_in), using(crate::proofs::Chains::then_ok, crate::proofs::Chains::then_tells, crate::proofs::Chains::then_tells_next))]
-fn params_in(alloc: Global, bus: Fields<'_>, version: Version) -> Result<BusParams, ScenarioFault>
+pub(crate) fn params_in(
+    alloc: Global,
+    bus: Fields<'_>,
+    version: Version,
+) -> Result<BusParams, ScenarioFault>
     ensures { Answers (λ p. p) result (files.params_in version bus.entry.section (members bus.entry)) }
 {
     bus.known(alloc, version.bus_keys())?;
@@ -152,7 +156,7 @@ fn delay_in(bus: Fields<'_>, version: Version) -> Result<u32, ScenarioFault>
 {
     match version {
         Version::Undelayed => Ok(0),
-        Version::Delayed => parameter(bus, Key::Ttd),
+        Version::Delayed | Version::Repeating => parameter(bus, Key::Ttd),
     }
 }
 

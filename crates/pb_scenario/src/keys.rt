@@ -33,6 +33,8 @@ pub enum Key {
     Speaker,
     Place,
     Bits,
+    Every,
+    Count,
 }
 
 impl Key {
@@ -73,6 +75,8 @@ impl Key {
             Key::Speaker => "speaker",
             Key::Place => "place",
             Key::Bits => "bits",
+            Key::Every => "every",
+            Key::Count => "count",
         }
     }
 }

@@ -27,7 +27,7 @@ use std::alloc::Global;
 use toml::Value;
 
 /// The most steps of a scenario.
-const MOST_STEPS: usize = 10_000;
+pub(crate) const MOST_STEPS: usize = 10_000;
 
 const POWER_KEYS: [Key; 3] = [Key::At, Key::Do, Key::Tap];
 
@@ -50,7 +50,7 @@ const UNHEARD_KEYS: [Key; 4] = [Key::At, Key::Do, Key::Tap, Key::Speaker];
 const WITHHOLD_KEYS: [Key; 4] = [Key::At, Key::Do, Key::Tap, Key::Bits];
 
 /// The steps that a list describes, on taps with these names.
-#[tactic(auto, unfolding(crate::specs::Files::steps_from))]
+#[tactic(auto, unfolding(crate::specs::Files::items_from))]
 pub(crate) fn steps_in(
     alloc: Global,
     items: &[Value],
@@ -88,7 +88,23 @@ fn step_in(
         (files.step_in (names_of names.now.keys) before fields.entry.section (members fields.entry)) }
 {
     let word = word(fields)?;
-    fields.known(alloc, keys_of(word))?;
+    step_by(alloc, fields, names, before, word, keys_of(word))
+}
+
+/// The step with this word that a table with these keys describes. It must not be earlier than `before`.
+#[tactic(auto, unfolding(crate::specs::Files::step_by), using(crate::proofs::Chains::then_ok, crate::proofs::Chains::then_tells, crate::proofs::Chains::then_tells_next))]
+pub(crate) fn step_by(
+    alloc: Global,
+    fields: Fields<'_>,
+    names: &IndexSet<String>,
+    before: u64,
+    word: Word,
+    keys: &[Key],
+) -> Result<Step, ScenarioFault>
+    ensures { Answers planned_of result
+        (files.step_by (names_of names.now.keys) before fields.entry.section (members fields.entry) word keys.now) }
+{
+    fields.known(alloc, keys)?;
     let at = fields.number(Key::At, 0, u64::MAX)?;
     if at < before {
         return Err(ScenarioFault::StepOrder(fields.path(Key::At)));
@@ -128,7 +144,7 @@ fn deed_in(fields: Fields<'_>, names: &IndexSet<String>, word: Word) -> Result<D
 }
 
 /// The keys of a step with this word.
-fn keys_of(word: Word) -> &'static [Key]
+pub(crate) fn keys_of(word: Word) -> &'static [Key]
     ensures { result.now ≡ step_keys word }
 {
     match word {
@@ -143,7 +159,7 @@ fn keys_of(word: Word) -> &'static [Key]
 
 /// The word of a step.
 #[tactic(auto, unfolding(crate::specs::Fields::meant))]
-fn word(fields: Fields<'_>) -> Result<Word, ScenarioFault>
+pub(crate) fn word(fields: Fields<'_>) -> Result<Word, ScenarioFault>
     ensures { Answers (λ w. w) result
         (meant words.word_of as_str fields.entry.section keys.Do (members fields.entry)) }
 {

@@ -52,7 +52,7 @@ pub(crate) fn taps_in(
     };
     for (tap, value) in items.iter().enumerate() {
         let fields = item(value, Section::Tap(tap))?;
-        let added = tap_in(alloc, fields, &taps.names)?;
+        let added = tap_in(alloc, fields, &taps.names, version)?;
         if taps.add(added).is_err() {
             return Err(ScenarioFault::NoMemory);
         }
@@ -89,20 +89,21 @@ impl Taps {
     }
 }
 
-/// The tap that a table describes. Its name must not be one of `names`.
+/// The tap that a table describes, in a file of a version. Its name must not be one of `names`.
 #[tactic(auto, unfolding(crate::specs::Files::tap_in), using(crate::proofs::Chains::then_ok, crate::proofs::Chains::then_tells, crate::proofs::Chains::then_tells_next))]
 fn tap_in(
     alloc: Global,
     fields: Fields<'_>,
     names: &IndexSet<String>,
+    version: Version,
 ) -> Result<NamedTap, ScenarioFault>
     ensures tap { Answers tap_of result
-        (files.tap_in (names_of names.now.keys) fields.entry.section (members fields.entry)) }
+        (files.tap_in version (names_of names.now.keys) fields.entry.section (members fields.entry)) }
     ensures new { IfOk result
         (λ tap. list_any (bytes_eq (string_bytes tap.name)) (names_of names.now.keys) ≡ false) }
 {
     fields.known(alloc, &TAP_KEYS)?;
-    let name = name_in(fields, names)?;
+    let name = name_in(fields, names, version)?;
     let kind = kind(fields)?;
     let address = fields.number(Key::Address, 0, 255)? as u8;
     let reply = reply(fields)?;
@@ -120,13 +121,17 @@ fn tap_in(
 }
 
 /// The name of a tap, which no other tap has.
-fn name_in<'a>(fields: Fields<'a>, names: &IndexSet<String>) -> Result<&'a str, ScenarioFault>
+fn name_in<'a>(
+    fields: Fields<'a>,
+    names: &IndexSet<String>,
+    version: Version,
+) -> Result<&'a str, ScenarioFault>
     ensures name { Answers (λ t. t.now) result
-        (and_then (meant as_name as_str fields.entry.section keys.Name (members fields.entry))
+        (and_then (meant (as_name version) as_str fields.entry.section keys.Name (members fields.entry))
         (files.unless_taken (names_of names.now.keys) (path_of fields.entry.section keys.Name))) }
     ensures new { IfOk result (λ name. list_any (bytes_eq name.now) (names_of names.now.keys) ≡ false) }
 {
-    let name = fields.name()?;
+    let name = fields.name(version)?;
     if names.contains(name) {
         Err(ScenarioFault::Twice(fields.path(Key::Name)))
     } else {

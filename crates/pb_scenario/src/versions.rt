@@ -8,6 +8,7 @@ ghost use Rattle.pb_scenario.specs.Tables.{members};
 use crate::faults::ScenarioFault;
 use crate::fields::Fields;
 use crate::keys::Key;
+use crate::words::{is_long_name, is_name};
 
 /// The version of a file, by what it may say about its bus.
 #[derive(Clone, Copy, Debug, PartialEq, Eq)]
@@ -16,6 +17,8 @@ pub(crate) enum Version {
     Undelayed,
     /// 2: a bus with a cable delay and with at most 127 taps.
     Delayed,
+    /// 3: as 2, for streams; steps may repeat, and names are longer.
+    Repeating,
 }
 
 const UNDELAYED_KEYS: [Key; 9] = [
@@ -43,7 +46,7 @@ const DELAYED_KEYS: [Key; 10] = [
     Key::Ttd,
 ];
 
-/// The version of a file.
+/// The version of a file whose steps happen once.
 pub(crate) fn version_in(top: Fields<'_>) -> Result<Version, ScenarioFault>
     ensures { Answers (λ v. v) result (files.version_in top.entry.section (members top.entry)) }
 {
@@ -58,6 +61,7 @@ impl Version {
     ghost use Rattle.std.specs.Prelude.{◌≡◌};
     ghost use Rattle.pb_scenario.specs.Files.{most_taps};
     ghost use Rattle.pb_scenario.specs.Keys.{bus_keys};
+    ghost use Rattle.pb_scenario.specs.Words.{is_name_in};
 
     /// The keys that the table of the bus has.
     pub(crate) fn bus_keys(self) -> &'static [Key]
@@ -65,7 +69,7 @@ impl Version {
     {
         match self {
             Version::Undelayed => &UNDELAYED_KEYS,
-            Version::Delayed => &DELAYED_KEYS,
+            Version::Delayed | Version::Repeating => &DELAYED_KEYS,
         }
     }
 
@@ -75,7 +79,16 @@ impl Version {
     {
         match self {
             Version::Undelayed => 32,
-            Version::Delayed => 127,
+            Version::Delayed | Version::Repeating => 127,
+        }
+    }
+    /// Whether a text may be the name of a tap.
+    pub(crate) fn is_name(self, text: &str) -> bool
+        ensures { result ≡ is_name_in self text.now }
+    {
+        match self {
+            Version::Undelayed | Version::Delayed => is_name(text),
+            Version::Repeating => is_long_name(text),
         }
     }
 }

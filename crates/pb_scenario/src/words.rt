@@ -3,7 +3,7 @@
 ghost use Rattle.std.specs.Prelude.{◌≡◌};
 ghost use Rattle.std.specs.List.{list_all};
 ghost use Rattle.std.specs.Char.{is_ascii_alphanumeric};
-ghost use Rattle.pb_scenario.specs.Words.{word_of, kind_of, service_of, is_name};
+ghost use Rattle.pb_scenario.specs.Words.{word_of, kind_of, service_of, is_name, is_long_name, is_of_long_names};
 
 use pb_cycles::Service;
 use pb_taps::Kind;
@@ -81,6 +81,27 @@ pub(crate) fn is_name(text: &str) -> bool
 {
     let octets = text.as_bytes();
     1 <= octets.len() && octets.len() <= 16 && are_letters_or_digits(octets)
+}
+
+/// Whether a text may be the name of a tap in version 3: 1 to 32 ASCII letters, digits, `-` or `_`.
+#[tactic(auto, unfolding(crate::specs::Words::is_long_name))]
+pub(crate) fn is_long_name(text: &str) -> bool
+    ensures { result ≡ is_long_name text.now }
+{
+    let octets = text.as_bytes();
+    1 <= octets.len() && octets.len() <= 32 && are_of_long_names(octets)
+}
+
+fn are_of_long_names(octets: &[u8]) -> bool
+    ensures { result ≡ list_all is_of_long_names octets.now }
+{
+    octets.iter().all(|octet| is_of_long_names(*octet))
+}
+
+fn is_of_long_names(octet: u8) -> bool
+    ensures { result ≡ is_of_long_names octet }
+{
+    octet.is_ascii_alphanumeric() || octet == b'-' || octet == b'_'
 }
 
 fn are_letters_or_digits(octets: &[u8]) -> bool

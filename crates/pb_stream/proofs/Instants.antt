@@ -1,9 +1,10 @@
 -- What is played at a moment is an instant of the stream.
-use Rattle.std.proofs.Common.{◌≡◌, ◌∙◌, refl, ℕ, suc, ◌<◌, ◌≤◌, List, length, Option, Some, Ok, Err}
-use Rattle.std.specs.Prelude.{IfSome}
+use Rattle.std.proofs.Common.{◌≡◌, ◌∙◌, refl, sym, subst, arith, ℕ, suc, ◌<◌, ◌≤◌, Bool, true, false, min, List, length, Option, Some, None, Ok, Err}
+use Rattle.std.specs.Prelude.{IfSome, nat_lt, nat_le, ◌&&◌, if◌then◌else◌}
+use Rattle.law_turn.specs.Stations.{earlier}
 use Rattle.law_model.specs.World.{World, Event, Fault}
 use Rattle.pb_taps.specs.declared.faults.WorldFault.{WorldFault}
-use Rattle.law_runs.specs.Runs.{all, next, passing, run, turns}
+use Rattle.law_runs.specs.Runs.{all, next, next_turn, onward, passing, run, turns}
 use Rattle.law_runs.specs.Bus.{bus, dues, next_change}
 use Rattle.law_runs.specs.Scenarios.{At}
 use Rattle.law_streams.specs.Streams.{telling_bus, streamed_of}
@@ -22,6 +23,24 @@ count-told now es w u ok = count-all now es w u (untold-ok now es w u ok)
 pub pass-told : (walk : WalkView) (t : Option ℕ) → passing bus (plan_in walk) walk.clock t ≡ passing telling_bus (plan_in walk) walk.clock t
 pass-told walk t = same-passing telling_bus bus refl (plan_in walk) walk.clock t
 
+-- the next instant is not past the next step
+onward-not-past : (walk : WalkView) (other t : Option ℕ) → t ≡ onward (plan_in walk) walk.clock (earlier ((plan_in walk).later walk.clock) other)
+    → IfSome t (λ moment. IfSome ((plan_in walk).later walk.clock) (λ step. moment ≤ step))
+onward-not-past walk other t is = subst (λ o. IfSome o (λ moment. IfSome ((plan_in walk).later walk.clock) (λ step. moment ≤ step))) (sym is) (by ((plan_in walk).later walk.clock) other)
+  where
+    of : (o : Option ℕ) (m : ℕ) → IfSome o (λ step. m ≤ step) → IfSome (onward (plan_in walk) walk.clock (Some m)) (λ moment. IfSome o (λ step. moment ≤ step))
+    of o m le = cut (nat_lt walk.clock m && nat_le m walk.until)
+      where
+        cut : (b : Bool) → IfSome (if b then Some m else None) (λ moment. IfSome o (λ step. moment ≤ step))
+        cut true = le
+        cut false = tt
+
+    by : (step other : Option ℕ) → IfSome (onward (plan_in walk) walk.clock (earlier step other)) (λ moment. IfSome step (λ s. moment ≤ s))
+    by None None = tt
+    by None (Some m) = of None m tt
+    by (Some s) None = of (Some s) s (omega arith)
+    by (Some s) (Some m) = of (Some s) (min s m) (omega arith)
+
 pub goes-on : (walk : WalkView) (old a b c d : World) (t : Option ℕ)
     → all telling_bus walk.clock ((plan_in walk).early walk.clock) old ≡ Ok a
     → all telling_bus walk.clock (turns telling_bus (plan_in walk) walk.clock a) a ≡ Ok b
@@ -36,6 +55,7 @@ goes-on walk old a b c d t one two three is later four =
     record {
       rest = λ left. instant-streams left p now old a b c d t one two three is four;
       later = later;
+      not_past = onward-not-past walk (earlier (next_change c) (next_turn (plan_in walk) walk.clock 0 (dues c))) t is;
       taps = count-told now (passing telling_bus p now t) c d four ∙ count-told now (p.late now) b c three
           ∙ count-told now (turns telling_bus p now a) a b two ∙ count-told now (p.early now) old a one;
     }

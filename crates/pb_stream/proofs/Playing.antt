@@ -1,7 +1,10 @@
 -- Events that are played one after another, up to the one that is refused.
-use Rattle.std.proofs.Common.{◌≡◌, ◌∙◌, ap, sym, refl, arith, ℕ, zero, suc, ◌+◌, ◌<◌, ◌≤◌, ◌-◌, List, [], ◌∷◌, ◌++◌, length, map, take, drop, slice_get, Bool, true, false, if◌then◌else◌, Option, Some, None, Result, Ok, Err}
+use Rattle.std.proofs.Common.{◌≡◌, ◌∙◌, ap, sym, refl, arith, ℕ, zero, suc, ◌+◌, ◌<◌, ◌≤◌, ◌-◌, List, [], ◌∷◌, ◌++◌, length, map, take, drop, get_or, slice_get, Bool, true, false, if◌then◌else◌, Option, Some, None, Result, Ok, Err}
 use Rattle.std.specs.Prelude.{IfSome}
-use Rattle.std.proofs.lemmas.List.{length-map}
+use Rattle.std.specs.List.{cons_option}
+use Rattle.std.proofs.lemmas.List.{drop_more, length-map, map-append, take-append-drop, take_more}
+use Rattle.std.proofs.lemmas.List.Elements.{filter_map-append}
+use Rattle.law_runs.specs.Scenarios.{Deed}
 use Rattle.std.specs.Option.{option_and_then, option_to_list}
 use Rattle.law_model.specs.Medium.{Tap}
 use Rattle.law_model.specs.World.{World, Event, Turn, Reply, Fault}
@@ -13,14 +16,11 @@ use Rattle.law_runs.specs.Runs.{Plan, all, and_then, one_by_one, turns, wants}
 use Rattle.law_runs.specs.Bus.{due_in, dues}
 use Rattle.law_streams.specs.Streams.{in_world, telling_bus}
 use Rattle.law_streams.proofs.Instants.{told-append, told-one, told-one-by-one, told-refused, told-stops}
-use Rattle.pb_scenario.specs.declared.deeds.Step.{Step}
 use Rattle.pb_scenario.specs.declared.deeds.When.{When}
 use Rattle.pb_scenario.specs.Faults.{model_fault}
 use Rattle.pb_scenario.specs.Plays.{turn_if}
-use Rattle.pb_scenario.specs.Said.{said_in, said_by}
-use Rattle.pb_scenario.specs.Steps.{deed_of, steps_of}
+use Rattle.pb_scenario.specs.Said.{said_in, said_of}
 use Rattle.pb_scenario.proofs.Playing.{refused-by}
-use Rattle.pb_scenario.proofs.Said.{said-cut, said-more}
 use Rattle.pb_stream.specs.Plays.{Plays, Stops, StopsAt}
 
 -- ---- refusals
@@ -47,24 +47,45 @@ one-played w next e (Err fault) sent (same, refuses) =
 
 -- ---- steps
 
-pub step-played : (when : When) (i : ℕ) (steps : List Step) (s : Step) (a b c : World) → slice_get steps i ≡ Some s
-    → ((now : ℕ) → all telling_bus now (said_by when (steps_of (take i steps))) a ≡ Ok b)
-    → ((now : ℕ) → all telling_bus now (option_to_list (said_in when (deed_of s.deed))) b ≡ Ok c)
-    → (now : ℕ) → all telling_bus now (said_by when (steps_of (take (i + 1) steps))) a ≡ Ok c
-step-played when i steps s a b c found before one now =
-    ap (λ es. all telling_bus now es a) (said-more when i steps s found)
-    ∙ told-append now (said_by when (steps_of (take i steps))) (option_to_list (said_in when (deed_of s.deed))) a b (before now) ∙ one now
+-- one deed more has happened, of things that do some
+module _ {X : Type 0} (f : X → Deed) (when : When) (i : ℕ) (xs : List X) (x : X) (less : i < length xs) (is : x ≡ get_or xs i x) where
+  said-one : said_of when (map f (x ∷ [])) ≡ option_to_list (said_in when (f x))
+  said-one = by (said_in when (f x))
+    where
+      by : (o : Option Event) → cons_option o [] ≡ option_to_list o
+      by None = refl
+      by (Some e) = refl
 
-pub step-refused : (when : When) (i : ℕ) (steps : List Step) (s : Step) (a b c : World) (fault : WorldFault) → slice_get steps i ≡ Some s
-    → ((now : ℕ) → all telling_bus now (said_by when (steps_of (take i steps))) a ≡ Ok b)
-    → Stops b (option_to_list (said_in when (deed_of s.deed))) fault c → Stops a (said_by when (steps_of steps)) fault c
-step-refused when i steps s a b c fault found before stops =
-    let here = option_to_list (said_in when (deed_of s.deed)) in
-    let rest = said_by when (steps_of (drop (i + 1) steps)) in
-    let past = said_by when (steps_of (take i steps)) in
-    stops-so fault (λ f. (now : ℕ) → all telling_bus now here b ≡ Err (now, (c, f))) (λ f. (now : ℕ) → all telling_bus now (said_by when (steps_of steps)) a ≡ Err (now, (c, f)))
-    (λ f err now. ap (λ es. all telling_bus now es a) (said-cut when i steps s found)
-    ∙ told-append now past (here ++ rest) a b (before now) ∙ told-stops now here rest b (now, (c, f)) (err now)) stops
+  said-join : (ys zs : List X) → said_of when (map f (ys ++ zs)) ≡ said_of when (map f ys) ++ said_of when (map f zs)
+  said-join ys zs = ap (said_of when) (map-append f ys zs) ∙ filter_map-append (said_in when) (map f ys) (map f zs)
+
+  said-more : said_of when (map f (take (i + 1) xs)) ≡ said_of when (map f (take i xs)) ++ option_to_list (said_in when (f x))
+  said-more =
+      ap (λ ys. said_of when (map f ys)) (take_more xs i x less) ∙ ap (λ y. said_of when (map f (take i xs ++ y ∷ []))) (sym is)
+      ∙ said-join (take i xs) (x ∷ []) ∙ ap (λ es. said_of when (map f (take i xs)) ++ es) said-one
+
+  said-cut : said_of when (map f xs) ≡ said_of when (map f (take i xs)) ++ (option_to_list (said_in when (f x)) ++ said_of when (map f (drop (i + 1) xs)))
+  said-cut =
+      ap (λ ys. said_of when (map f ys)) (sym (take-append-drop i xs) ∙ ap (λ ys. take i xs ++ ys) (drop_more xs i x less ∙ ap (λ y. y ∷ drop (i + 1) xs) (sym is)))
+      ∙ said-join (take i xs) (x ∷ drop (i + 1) xs)
+      ∙ ap (λ es. said_of when (map f (take i xs)) ++ es) (said-join (x ∷ []) (drop (i + 1) xs) ∙ ap (λ es. es ++ said_of when (map f (drop (i + 1) xs))) said-one)
+
+  pub deed-played : (a b c : World) → ((now : ℕ) → all telling_bus now (said_of when (map f (take i xs))) a ≡ Ok b)
+      → ((now : ℕ) → all telling_bus now (option_to_list (said_in when (f x))) b ≡ Ok c)
+      → (now : ℕ) → all telling_bus now (said_of when (map f (take (i + 1) xs))) a ≡ Ok c
+  deed-played a b c before one now =
+      ap (λ es. all telling_bus now es a) said-more
+      ∙ told-append now (said_of when (map f (take i xs))) (option_to_list (said_in when (f x))) a b (before now) ∙ one now
+
+  pub deed-refused : (a b c : World) (fault : WorldFault) → ((now : ℕ) → all telling_bus now (said_of when (map f (take i xs))) a ≡ Ok b)
+      → Stops b (option_to_list (said_in when (f x))) fault c → Stops a (said_of when (map f xs)) fault c
+  deed-refused a b c fault before stops =
+      let here = option_to_list (said_in when (f x)) in
+      let rest = said_of when (map f (drop (i + 1) xs)) in
+      let past = said_of when (map f (take i xs)) in
+      stops-so fault (λ g. (now : ℕ) → all telling_bus now here b ≡ Err (now, (c, g))) (λ g. (now : ℕ) → all telling_bus now (said_of when (map f xs)) a ≡ Err (now, (c, g)))
+      (λ g err now. ap (λ es. all telling_bus now es a) said-cut
+      ∙ told-append now past (here ++ rest) a b (before now) ∙ told-stops now here rest b (now, (c, g)) (err now)) stops
 
 -- ---- turns
 

@@ -32,6 +32,7 @@ Plays old es result new = MatchResult result (λ _. (now : ℕ) → all telling_
 pub record GoesOn (walk : WalkView) (old : World) (next : Option ℕ) (new : World) : Type 0 where
   pub rest : (left : ℕ) → streamed_of (run (suc left) telling_bus (plan_in walk) walk.clock old) ≡ stream_on (plan_in walk) left next new
   pub later : IfSome next (λ moment. (walk.clock < moment) × (moment ≤ walk.until))
+  pub not_past : IfSome next (λ moment. IfSome ((plan_in walk).later walk.clock) (λ step. moment ≤ step))
   pub taps : length new.taps ≡ length old.taps
 
 -- an event of the instant is refused in a world, and that ends the stream

@@ -2,7 +2,6 @@
 use Rattle.std.specs.Prelude.{◌≡◌, ℕ, ◌+◌, ◌<◌, ◌≤◌, List, ◌++◌, length, max, Option, Some, None, IfSome}
 use Rattle.law_model.specs.Trace.{Entry}
 use Rattle.law_runs.specs.Runs.{run}
-use Rattle.law_runs.specs.Scenarios as runs
 use Rattle.law_runs.specs.Scenarios.{At}
 use Rattle.law_streams.specs.Streams.{Streamed, telling_bus, streamed_of}
 use Rattle.law_streams.specs.Limits.{stream_behind}
@@ -22,12 +21,8 @@ use Rattle.pb_stream.specs.declared.streams.Stream.{Stream}
 abbrev pub stream_end : ℕ
 stream_end = 1000000000000
 
--- a scenario that ends at another moment
-abbrev pub up_to : ℕ → runs.Scenario → runs.Scenario
-up_to until s = record s { until = until }
-
 abbrev pub names_of : Stream → List (List ℕ)
-names_of s = s.scenario.now.names
+names_of s = s.scenario.now.once.names
 
 abbrev pub clock_of : Stream → ℕ
 clock_of s = s.walk.clock

@@ -5,7 +5,7 @@ ghost use Rattle.pb_world.specs.Buses.{IsKept};
 ghost use Rattle.pb_stream.specs.Streams.{HandsOn, IsShort};
 
 use crate::plays::play_instant;
-use pb_scenario::{NewFault, Scenario, Walk, WorldFault, push_trace};
+use pb_scenario::{NewFault, Scenario, StreamScenario, StreamWalk, WorldFault, push_trace};
 use pb_world::{Bus, new_bus_within};
 use std::alloc::{AllocError, Global};
 
@@ -35,9 +35,9 @@ pub enum Progress {
 /// not over, and fewer than a block of others ([`advance`](Stream::advance)), whatever time has passed.
 #[derive(Drop)]
 pub struct Stream<'a> {
-    pub(crate) scenario: &'a Scenario,
+    pub(crate) scenario: &'a StreamScenario,
     pub(crate) bus: Bus,
-    pub(crate) walk: Walk<'a>,
+    pub(crate) walk: StreamWalk<'a>,
 }
 
 impl<'a> Stream<'a> {
@@ -45,22 +45,28 @@ impl<'a> Stream<'a> {
     ghost use Rattle.law_model.specs.World.{new_world};
     ghost use Rattle.law_streams.specs.Streams.{stream_limit, stream_within};
     ghost use Rattle.pb_taps.specs.Faults.{RefusesNew};
-    ghost use Rattle.pb_stream.specs.Streams.{IsStreaming, KeepsFew, Tells, clock_of, names_of, rest_of, stream_end, up_to};
+    ghost use Rattle.pb_stream.specs.Streams.{IsStreaming, KeepsFew, Tells, clock_of, names_of, rest_of, stream_end};
+    ghost use Rattle.pb_scenario.specs.Repeats.{unrolled};
 
     /// The stream of a scenario at 0, up to the moment `until`, in bit times, in place of the scenario's own.
     ///
     /// Faults: those of a new world ([`NewFault`]), the first that applies.
-    pub fn new(alloc: Global, scenario: &'a Scenario, until: u64) -> Result<Stream<'a>, NewFault>
+    pub fn new(
+        alloc: Global,
+        scenario: &'a StreamScenario,
+        until: u64,
+    ) -> Result<Stream<'a>, NewFault>
         requires { until ≤ stream_end }
         ensures rest { IfOk result
-            (λ s. rest_of s ≡ stream_within stream_limit (up_to until scenario.now.scenario)) }
-        ensures names { IfOk result (λ s. names_of s ≡ scenario.now.names) }
+            (λ s. rest_of s ≡ stream_within stream_limit (unrolled until scenario.now)) }
+        ensures names { IfOk result (λ s. names_of s ≡ scenario.now.once.names) }
         ensures ready { IfOk result IsStreaming }
         ensures fault { IfErr result
-            (RefusesNew (new_world scenario.now.scenario.params scenario.now.scenario.taps)) }
+            (RefusesNew (new_world scenario.now.once.scenario.params scenario.now.once.scenario.taps)) }
     {
-        let bus = new_bus_within(alloc, *scenario.params(), scenario.taps(), ENTRIES)?;
-        match Walk::new(alloc, scenario.steps(), scenario.taps().len(), until) {
+        let once = scenario.once();
+        let bus = new_bus_within(alloc, *once.params(), once.taps(), ENTRIES)?;
+        match scenario.walk(alloc, until) {
             Ok(walk) => Ok(Stream {
                 scenario,
                 bus,
@@ -98,16 +104,16 @@ impl<'a> Stream<'a> {
         match play_instant(alloc, &mut self.bus, &self.walk) {
             Ok(Some(at)) => {
                 self.walk.go_to(at);
-                hand_on(&mut self.bus, self.scenario, text, block)?;
+                hand_on(&mut self.bus, self.scenario.once(), text, block)?;
                 Ok(Progress::Goes)
             }
             Ok(None) => {
-                push_trace(text, self.scenario, self.bus.trace.entries())?;
+                push_trace(text, self.scenario.once(), self.bus.trace.entries())?;
                 Ok(Progress::Ended)
             }
             Err(WorldFault::NoMemory) => Err(AllocError),
             Err(fault) => {
-                push_trace(text, self.scenario, self.bus.trace.entries())?;
+                push_trace(text, self.scenario.once(), self.bus.trace.entries())?;
                 Ok(Progress::Refused {
                     clock: self.walk.now(),
                     fault,

@@ -4,7 +4,7 @@ ghost use Rattle.std.specs.Prelude.{◌≤◌};
 ghost use Rattle.pb_stream.specs.Streams.{stream_end};
 
 use crate::{Progress, STREAM_END, Stream};
-use pb_scenario::{Scenario, WorldFault, events_of, read, trace_text};
+use pb_scenario::{Scenario, StreamScenario, WorldFault, events_of, read, read_stream, trace_text};
 use pb_world::{World, run};
 use std::alloc::{AllocGlobal, Global};
 use std::process::Abort;
@@ -28,7 +28,7 @@ const MANY: usize = 100_000;
 fn streamed(
     rt: &impl Abort,
     alloc: Global,
-    scenario: &Scenario,
+    scenario: &StreamScenario,
     until: u64,
     block: usize,
 ) -> (Vec<u8>, Progress)
@@ -57,8 +57,8 @@ fn run_text(rt: &impl Abort, alloc: Global, scenario: &Scenario) -> Vec<u8> {
 #[test]
 fn a_stream_has_the_lines_of_the_run(rt: HostRuntime) {
     let alloc = rt.alloc();
-    let scenario = read(alloc, FILE).expect(&rt, "a scenario");
-    let text = run_text(&rt, alloc, &scenario);
+    let scenario = read_stream(alloc, FILE).expect(&rt, "a scenario");
+    let text = run_text(&rt, alloc, scenario.once());
     let (one, end) = streamed(&rt, alloc, &scenario, 4000, 1);
     assert!(rt; one.as_slice() == text.as_slice() && end == Progress::Ended);
     let (many, end) = streamed(&rt, alloc, &scenario, 4000, 7);
@@ -69,11 +69,11 @@ fn a_stream_has_the_lines_of_the_run(rt: HostRuntime) {
 #[test]
 fn a_refused_stream_has_what_came_before(rt: HostRuntime) {
     let alloc = rt.alloc();
-    let scenario = read(alloc, FILE).expect(&rt, "a scenario");
+    let scenario = read_stream(alloc, FILE).expect(&rt, "a scenario");
     let (text, end) = streamed(&rt, alloc, &scenario, STREAM_END, 64);
     assert!(rt;
         text.as_slice()
-            .starts_with(run_text(&rt, alloc, &scenario).as_slice())
+            .starts_with(run_text(&rt, alloc, scenario.once()).as_slice())
     );
     let refused = Progress::Refused {
         clock: 4200,
@@ -83,7 +83,7 @@ fn a_refused_stream_has_what_came_before(rt: HostRuntime) {
 }
 
 /// How many entries a stream keeps between instants, at most.
-fn most_kept(rt: &impl Abort, alloc: Global, scenario: &Scenario, block: usize) -> usize {
+fn most_kept(rt: &impl Abort, alloc: Global, scenario: &StreamScenario, block: usize) -> usize {
     let mut stream = Stream::new(alloc, scenario, 4000).expect(rt, "a stream");
     let mut text = Vec::new(alloc);
     let mut most = 0;
@@ -100,8 +100,46 @@ fn most_kept(rt: &impl Abort, alloc: Global, scenario: &Scenario, block: usize) 
 #[test]
 fn a_stream_keeps_less_than_a_block(rt: HostRuntime) {
     let alloc = rt.alloc();
-    let scenario = read(alloc, FILE).expect(&rt, "a scenario");
+    let scenario = read_stream(alloc, FILE).expect(&rt, "a scenario");
     assert_eq!(rt; most_kept(&rt, alloc, &scenario, 0), 1);
     assert_eq!(rt; most_kept(&rt, alloc, &scenario, 1), 1);
     assert_eq!(rt; most_kept(&rt, alloc, &scenario, 7), 7);
+}
+
+/// The head of two files; steps follow.
+const HEAD: &str = "
+until = 4000
+bus = { tsl = 100, tid1 = 37, tid2 = 60, tsdr = 11, lag = 0, ttr = 10000, gap = 10, hsa = 5, retries = 1, ttd = 0 }
+tap = [{ name = 'a', kind = 'master', address = 1 }, { name = 'p', kind = 'passive', address = 2, reply = '0102' }]
+";
+
+/// Steps that repeat, without and with a number of times.
+const REPEATED: &str = "step = [
+    { at = 0, do = 'start', tap = 'a' }, { at = 0, do = 'start', tap = 'p' },
+    { at = 1000, do = 'queue', tap = 'a', service = 'srd', to = 2, high = true, unit = '', every = 1000 },
+    { at = 1000, do = 'queue', tap = 'a', service = 'sdn', to = 2, high = true, unit = '', every = 500, count = 2 },
+]";
+
+/// The same with each happening written out.
+const WRITTEN: &str = "step = [
+    { at = 0, do = 'start', tap = 'a' }, { at = 0, do = 'start', tap = 'p' },
+    { at = 1000, do = 'queue', tap = 'a', service = 'srd', to = 2, high = true, unit = '' },
+    { at = 1000, do = 'queue', tap = 'a', service = 'sdn', to = 2, high = true, unit = '' },
+    { at = 1500, do = 'queue', tap = 'a', service = 'sdn', to = 2, high = true, unit = '' },
+    { at = 2000, do = 'queue', tap = 'a', service = 'srd', to = 2, high = true, unit = '' },
+    { at = 3000, do = 'queue', tap = 'a', service = 'srd', to = 2, high = true, unit = '' },
+    { at = 4000, do = 'queue', tap = 'a', service = 'srd', to = 2, high = true, unit = '' },
+]";
+
+/// Steps that repeat happen as if each happening were a step.
+#[test]
+fn steps_repeat(rt: HostRuntime) {
+    let alloc = rt.alloc();
+    let repeated = format!(in alloc; "version = 3{HEAD}{REPEATED}").expect(&rt, "memory");
+    let written = format!(in alloc; "version = 2{HEAD}{WRITTEN}").expect(&rt, "memory");
+    let scenario = read_stream(alloc, repeated.as_bytes()).expect(&rt, "a scenario");
+    let plain = read(alloc, written.as_bytes()).expect(&rt, "a scenario");
+    let (text, end) = streamed(&rt, alloc, &scenario, 4000, 1);
+    assert!(rt; text.as_slice() == run_text(&rt, alloc, &plain).as_slice());
+    assert!(rt; end == Progress::Ended);
 }

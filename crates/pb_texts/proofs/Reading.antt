@@ -6,12 +6,11 @@ use Rattle.std.specs.Str.{is_utf8}
 use Rattle.toml.specs.Data.{Members}
 use Rattle.toml.specs.Parse.{parse_document}
 use Rattle.pb_scenario.specs.Fields.{Fault}
-use Rattle.pb_scenario.specs.Files.{IsToml, Describes, RefusesFile, scenario_in}
-use Rattle.pb_scenario.specs.Scenarios.{ScenarioView}
+use Rattle.pb_scenario.specs.Files.{IsToml, DescribesBy, RefusesBy}
 use Rattle.pb_scenario.specs.declared.faults.ScenarioFault.{ScenarioFault}
 use Rattle.pb_scenario.specs.declared.faults.ScenarioFault.TheVariants as code
 use Rattle.pb_texts.specs.Faults.{table_fault}
-use Rattle.pb_texts.specs.Files.{Refuses, table_of, in_table, described, scenario_of}
+use Rattle.pb_texts.specs.Files.{table_of, in_table, described}
 
 table_of-toml : (file : List ℕ) (top : Members) → IsToml file top → table_of file ≡ Some top
 table_of-toml file top toml =
@@ -27,32 +26,33 @@ table_of-none file none =
     no_table (is_utf8 file) (parse_document file)
     (λ top text document. none top (record { text = IsUtf8-from_is_utf8 file text; document = document }))
 
-of_table : (file : List ℕ) (top : Members) (r : Result ScenarioView Fault) → IsToml file top → scenario_in top ≡ r → scenario_of file ≡ in_table r
-of_table file top r toml is = ap described (table_of-toml file top toml) ∙ ap in_table is
+module _ {X : Type 0} (read : Members → Result X Fault) where
+  of_table : (file : List ℕ) (top : Members) (r : Result X Fault) → IsToml file top → read top ≡ r → described read (table_of file) ≡ in_table r
+  of_table file top r toml is = ap (described read) (table_of-toml file top toml) ∙ ap in_table is
 
-scenario_of-described : (file : List ℕ) (s : ScenarioView) → Describes file s → scenario_of file ≡ Ok s
-scenario_of-described file s d = of_table file d.0 (Ok s) d.1 d.2
+  is_described : (file : List ℕ) (s : X) → DescribesBy read file s → described read (table_of file) ≡ Ok s
+  is_described file s d = of_table file d.0 (Ok s) d.1 d.2
 
-scenario_of-refused : (file : List ℕ) (f : ScenarioFault) → RefusesFile file f → f ≢ code.NoMemory → scenario_of file ≡ Err (table_fault f)
-scenario_of-refused file code.NotToml none told = ap described (table_of-none file none)
-scenario_of-refused file code.BadVersion r told = of_table file r.0 _ r.1 r.2
-scenario_of-refused file (code.Missing path) r told = of_table file r.0 _ r.1 r.2
-scenario_of-refused file (code.BadKind path) r told = of_table file r.0 _ r.1 r.2
-scenario_of-refused file (code.BadValue path) r told = of_table file r.0 _ r.1 r.2
-scenario_of-refused file (code.Unknown key) r told = of_table file r.0 _ r.1 r.2
-scenario_of-refused file (code.Twice path) r told = of_table file r.0 _ r.1 r.2
-scenario_of-refused file (code.NoSuchName path) r told = of_table file r.0 _ r.1 r.2
-scenario_of-refused file (code.StepOrder path) r told = of_table file r.0 _ r.1 r.2
-scenario_of-refused file (code.Params f) r told = of_table file r.0 _ r.1 r.2
-scenario_of-refused file code.TooMany r told = of_table file r.0 _ r.1 r.2
-scenario_of-refused file code.NoMemory r told = absurd (told refl)
+  is_refused : (file : List ℕ) (f : ScenarioFault) → RefusesBy read file f → f ≢ code.NoMemory → described read (table_of file) ≡ Err (table_fault f)
+  is_refused file code.NotToml none told = ap (described read) (table_of-none file none)
+  is_refused file code.BadVersion r told = of_table file r.0 _ r.1 r.2
+  is_refused file (code.Missing path) r told = of_table file r.0 _ r.1 r.2
+  is_refused file (code.BadKind path) r told = of_table file r.0 _ r.1 r.2
+  is_refused file (code.BadValue path) r told = of_table file r.0 _ r.1 r.2
+  is_refused file (code.Unknown key) r told = of_table file r.0 _ r.1 r.2
+  is_refused file (code.Twice path) r told = of_table file r.0 _ r.1 r.2
+  is_refused file (code.NoSuchName path) r told = of_table file r.0 _ r.1 r.2
+  is_refused file (code.StepOrder path) r told = of_table file r.0 _ r.1 r.2
+  is_refused file (code.Params f) r told = of_table file r.0 _ r.1 r.2
+  is_refused file code.TooMany r told = of_table file r.0 _ r.1 r.2
+  is_refused file code.NoMemory r told = absurd (told refl)
 
--- ---- the answer of a reader
+  -- the answer of a reader
+  pub answers-scenario : (file : List ℕ) (r : Result X ScenarioFault) → IfOk r (DescribesBy read file) → IfOk r (λ s. described read (table_of file) ≡ Ok s)
+  answers-scenario file (Ok s) d = is_described file s d
+  answers-scenario file (Err f) d = d
 
-pub answers-scenario : (file : List ℕ) (r : Result ScenarioView ScenarioFault) → IfOk r (Describes file) → IfOk r (λ s. scenario_of file ≡ Ok s)
-answers-scenario file (Ok s) d = scenario_of-described file s d
-answers-scenario file (Err f) d = d
-
-pub answers-fault : (file : List ℕ) (r : Result ScenarioView ScenarioFault) → IfErr r (RefusesFile file) → IfErr r (Refuses file)
-answers-fault file (Ok s) refuses = refuses
-answers-fault file (Err f) refuses = scenario_of-refused file f refuses
+  pub answers-fault : (file : List ℕ) (r : Result X ScenarioFault) → IfErr r (RefusesBy read file)
+      → IfErr r (λ f. f ≢ code.NoMemory → described read (table_of file) ≡ Err (table_fault f))
+  answers-fault file (Ok s) refuses = refuses
+  answers-fault file (Err f) refuses = is_refused file f refuses

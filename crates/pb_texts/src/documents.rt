@@ -86,10 +86,20 @@ impl<'a> Document<'a> {
         }
     }
 
-    /// Whether the file is of the version whose bus has a cable delay.
+    /// Whether the file is of a version whose bus has a cable delay.
     pub(crate) fn has_delay(&self) -> bool {
+        self.is_of_version(b"2") || self.has_repeats()
+    }
+
+    /// Whether the file is of the version whose steps may repeat.
+    pub(crate) fn has_repeats(&self) -> bool {
+        self.is_of_version(b"3")
+    }
+
+    /// Whether the file says that it is of this version.
+    fn is_of_version(&self, version: &[u8]) -> bool {
         match self.entry(Section::Top, Key::Version) {
-            Some(entry) => entry.text == b"2".as_slice(),
+            Some(entry) => entry.text == version,
             None => false,
         }
     }

@@ -3,7 +3,7 @@
 use crate::documents::Document;
 use crate::file_hints::of_file;
 use crate::run_hints::of_run;
-use pb_scenario::{ScenarioFault, read, read_bus};
+use pb_scenario::{ScenarioFault, read, read_bus, read_stream};
 use std::alloc::{AllocError, Global};
 
 /// How many events the history of a run may have.
@@ -35,6 +35,19 @@ pub fn explain(
 pub fn explain_bus(alloc: Global, name: &str, file: &[u8]) -> Result<String, AllocError> {
     let document = Document { alloc, name, file };
     match read_bus(alloc, file) {
+        Ok(_) => Ok(String::new(alloc)),
+        Err(ScenarioFault::NoMemory) => Err(AllocError),
+        Err(fault) => of_file(&document, &fault),
+    }
+}
+
+/// Why a scenario file is refused for a stream, for people: a line with the place, what was found and what is wanted; no
+/// text if it is not refused. `name` is the file's name as people gave it.
+///
+/// Fault: memory was refused.
+pub fn explain_stream(alloc: Global, name: &str, file: &[u8]) -> Result<String, AllocError> {
+    let document = Document { alloc, name, file };
+    match read_stream(alloc, file) {
         Ok(_) => Ok(String::new(alloc)),
         Err(ScenarioFault::NoMemory) => Err(AllocError),
         Err(fault) => of_file(&document, &fault),

@@ -78,10 +78,16 @@ fn not_toml(document: &Document<'_>, error: &toml::de::Error) -> Result<String, 
 /// A version that this program doesn't know.
 fn bad_version(document: &Document<'_>) -> Result<String, AllocError> {
     let found = document.value(Section::Top, Key::Version);
+    if document.has_repeats() {
+        return document.at(
+            found.spot,
+            "version 3 is for the command stream; the others read 1 and 2, without 'every' and 'count'",
+        );
+    }
     let text = found.text_or("the version");
     document.at(
         found.spot,
-        format_args!("version {text} is unknown; this program reads 1 and 2"),
+        format_args!("version {text} is unknown; this program reads 1 and 2, and 3 in a stream"),
     )
 }
 
@@ -91,7 +97,10 @@ fn missing(document: &Document<'_>, top: &Table, path: Path) -> Result<String, A
         Path::Item(section) => return no_table(document, section),
         Path::Key(section, key) => (section, key),
     };
-    let (table, wanted) = (table_name(section), wanted(section, key));
+    let (table, wanted) = (
+        table_name(section),
+        wanted(section, key, document.has_repeats()),
+    );
     if let Some(near) = near_key(document, top, section, key)? {
         return document.at(
             document.unknown(section, near),
@@ -101,7 +110,7 @@ fn missing(document: &Document<'_>, top: &Table, path: Path) -> Result<String, A
     if key == Key::Ttd {
         return document.at(
             document.table(section),
-            "a bus of version 2 has a cable delay; wanted: ttd = 0 for none, or version = 1",
+            "a bus of version 2 or 3 has a cable delay; wanted: ttd = 0 for none, or version = 1",
         );
     }
     document.at(
@@ -150,7 +159,7 @@ fn bad_value(document: &Document<'_>, path: Path) -> Result<String, AllocError> 
             format_args!("[{key}] is a single table; wanted: [[{key}]], a list of tables"),
         );
     }
-    let wanted = wanted(section, key);
+    let wanted = wanted(section, key, document.has_repeats());
     let found = document.value(section, key);
     let near = near_value(document, key, found.text)?;
     match found.text {
@@ -192,7 +201,10 @@ fn unknown_key(document: &Document<'_>, unknown: &UnknownKey) -> Result<String, 
             "a bus of version 1 has no cable delay 'ttd'; write version = 2",
         );
     }
-    let keys = keys_of(*section, document.has_delay(), deed);
+    if let Some(why) = no_repeat(document, *section, key.as_str()) {
+        return document.at(document.unknown(*section, key.as_str()), why);
+    }
+    let keys = keys_of(*section, document, deed);
     let near = suggestion(document, key.as_str(), keys)?;
     let (table, allowed) = (
         table_name(*section),
@@ -202,6 +214,19 @@ fn unknown_key(document: &Document<'_>, unknown: &UnknownKey) -> Result<String, 
         document.unknown(*section, key.as_str()),
         format_args!("unknown key '{key}' in {table}{near}; allowed: {allowed}"),
     )
+}
+
+/// Why the table of a step may not have a key with which steps repeat; `None` for another table or key.
+fn no_repeat(document: &Document<'_>, section: Section, key: &str) -> Option<&'static str> {
+    let is_of_repeats = key == Key::Every.name() || key == Key::Count.name();
+    match section {
+        Section::Step(_) if is_of_repeats => Some(if document.has_repeats() {
+            "'count' says how often a step repeats; wanted: 'every' too, after how many bit times"
+        } else {
+            "a step repeats in version 3 alone, which is for the command stream; write version = 3"
+        }),
+        _ => None,
+    }
 }
 
 /// A name that another tap has.

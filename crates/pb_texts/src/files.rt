@@ -3,14 +3,16 @@
 ghost use Rattle.std.specs.Prelude.{◌≡◌, ◌≢◌, Ok, IfErr, IfOk, OnOk};
 ghost use Rattle.pb_texts.specs.Audits.{audit_of_scenario};
 ghost use Rattle.pb_texts.specs.Faults.{scenario_line, table_fault};
-ghost use Rattle.pb_texts.specs.Files.{Refuses, audit_of, scenario_of};
+ghost use Rattle.pb_texts.specs.Files.{Refuses, RefusesStream, audit_of, scenario_of, stream_scenario_of};
 ghost use Rattle.pb_texts.specs.Shown.{refusal, shown_of};
 
 use crate::audits::findings;
 use crate::faults::{run_line, scenario_line};
 use crate::shown::Shown;
 use law_runs::the_events_of_a_run_lead_to_its_end;
-use pb_scenario::{Reasons, Scenario, ScenarioFault, read, reasons_of};
+use pb_scenario::{
+    Reasons, Scenario, ScenarioFault, StreamScenario, read, read_stream, reasons_of,
+};
 use std::alloc::{AllocError, Global};
 
 /// The text for the audit of a scenario file: a line for the first premise that its run on one thread breaks, and a
@@ -39,6 +41,16 @@ pub fn described(alloc: Global, file: &[u8]) -> Result<Scenario, ScenarioFault>
     ensures fault { IfErr result (Refuses file.now) }
 {
     read(alloc, file)
+}
+
+/// The scenario that a file describes for a stream.
+///
+/// Faults: the first that applies, as for [`read_stream`]; or `NoMemory`.
+pub fn described_stream(alloc: Global, file: &[u8]) -> Result<StreamScenario, ScenarioFault>
+    ensures scenario { IfOk result (λ s. stream_scenario_of file.now ≡ Ok s) }
+    ensures fault { IfErr result (RefusesStream file.now) }
+{
+    read_stream(alloc, file)
 }
 
 /// The text for a refused file. For refused memory there is no line: the result is that fault too.

@@ -1,5 +1,6 @@
 //! What the keys of a scenario file may be, in words.
 
+use crate::documents::Document;
 use pb_scenario::{Key, Section};
 
 const TOP: [&str; 5] = ["version", "until", "bus", "tap", "step"];
@@ -10,17 +11,20 @@ const BUS: [&str; 10] = [
 
 const TAP: [&str; 4] = ["name", "kind", "address", "reply"];
 
-const POWER: [&str; 3] = ["at", "do", "tap"];
+// The keys of steps end with the two of steps that repeat.
+const POWER: [&str; 5] = ["at", "do", "tap", "every", "count"];
 
-const QUEUE: [&str; 7] = ["at", "do", "tap", "service", "to", "high", "unit"];
+const QUEUE: [&str; 9] = [
+    "at", "do", "tap", "service", "to", "high", "unit", "every", "count",
+];
 
-const DAMAGE: [&str; 5] = ["at", "do", "tap", "speaker", "place"];
+const DAMAGE: [&str; 7] = ["at", "do", "tap", "speaker", "place", "every", "count"];
 
-const NOISE: [&str; 3] = ["at", "do", "bits"];
+const NOISE: [&str; 5] = ["at", "do", "bits", "every", "count"];
 
-const UNHEARD: [&str; 4] = ["at", "do", "tap", "speaker"];
+const UNHEARD: [&str; 6] = ["at", "do", "tap", "speaker", "every", "count"];
 
-const WITHHOLD: [&str; 4] = ["at", "do", "tap", "bits"];
+const WITHHOLD: [&str; 6] = ["at", "do", "tap", "bits", "every", "count"];
 
 /// What a step may do.
 const DEEDS: [&str; 7] = [
@@ -55,14 +59,19 @@ pub(crate) fn words_of(key: Key) -> &'static [&'static str] {
     }
 }
 
-/// The keys that a table of a version may have; those of a step by what it does.
-pub(crate) fn keys_of(section: Section, is_delayed: bool, deed: &[u8]) -> &'static [&'static str] {
+/// The keys that a table of a document may have; those of a step by what it does.
+pub(crate) fn keys_of(
+    section: Section,
+    document: &Document<'_>,
+    deed: &[u8],
+) -> &'static [&'static str] {
     match section {
         Section::Top => &TOP,
-        Section::Bus if is_delayed => &BUS,
+        Section::Bus if document.has_delay() => &BUS,
         Section::Bus => &BUS[..9],
         Section::Tap(_) => &TAP,
-        Section::Step(_) => step_keys(deed),
+        Section::Step(_) if document.has_repeats() => step_keys(deed),
+        Section::Step(_) => without_repeats(step_keys(deed)),
     }
 }
 
@@ -86,10 +95,21 @@ fn step_keys(deed: &[u8]) -> &'static [&'static str] {
     }
 }
 
-/// What a key of a table may have for its value.
-pub(crate) fn wanted(section: Section, key: Key) -> &'static str {
+/// The keys of a step that happens once.
+fn without_repeats(keys: &'static [&'static str]) -> &'static [&'static str] {
+    match keys {
+        [once @ .., _, _] => once,
+        _ => keys,
+    }
+}
+
+/// What a key of a table may have for its value, in a file whose steps may repeat or in another one.
+pub(crate) fn wanted(section: Section, key: Key, has_repeats: bool) -> &'static str {
     match key {
-        Key::Version => "1 or 2",
+        Key::Version => "1 or 2; 3 in a stream",
+        Key::Until if has_repeats => {
+            "an integer from 1 to 1000000000000, in bit times, without quotes"
+        }
         Key::Until => "an integer from 1 to 10000000, in bit times, without quotes",
         Key::Bus => "a table, [bus]",
         Key::Tap => match section {
@@ -100,6 +120,9 @@ pub(crate) fn wanted(section: Section, key: Key) -> &'static str {
         Key::Tsl | Key::Tid1 | Key::Tid2 | Key::Tsdr | Key::Lag | Key::Ttr | Key::Ttd | Key::Bits =>
             { "an integer from 0 to 4294967295, in bit times, without quotes" }
         Key::Gap | Key::Hsa | Key::Retries => "an integer from 0 to 4294967295, without quotes",
+        Key::Name if has_repeats => {
+            "1 to 32 ASCII letters, digits, '-' or '_' and nothing else, in quotes"
+        }
         Key::Name => "1 to 16 ASCII letters or digits and nothing else, in quotes",
         Key::Kind => "\"master\" or \"passive\"",
         Key::Address | Key::Place => "an integer from 0 to 255, without quotes",
@@ -111,5 +134,7 @@ pub(crate) fn wanted(section: Section, key: Key) -> &'static str {
         Key::To => "an integer from 0 to 126, or 127 with the service \"sdn\"",
         Key::High => "true or false",
         Key::Speaker => "the name of a tap, in quotes",
+        Key::Every => "an integer from 1, in bit times, without quotes",
+        Key::Count => "an integer from 1, how often in all, without quotes",
     }
 }

@@ -32,11 +32,11 @@ pub use bounds::{
     silence_bound, take_margin,
 };
 pub use captures::captured;
-pub use explaining::{MOST_EVENTS, explain, explain_bus};
+pub use explaining::{MOST_EVENTS, explain, explain_bus, explain_stream};
 pub use faults::{new_line, refused_line};
-pub use files::{audited, described, refused_file};
+pub use files::{audited, described, described_stream, refused_file};
 pub use json::bounds_json;
-pub use pb_scenario::{Reasons, Scenario};
+pub use pb_scenario::{Reasons, Scenario, StreamScenario};
 pub use plays::traced;
 pub use shown::Shown;
 pub use texts::bounds_text;

@@ -19,8 +19,7 @@ use pb_cli::{
     export_file, monitor, play, read_input, stream_file, write_out,
 };
 use pb_export::Export;
-use pb_scenario::read;
-use pb_texts::{MOST_EVENTS, explain, explain_audit, explain_bus, warn};
+use pb_texts::{MOST_EVENTS, explain, explain_audit, explain_bus, explain_stream, warn};
 use std::alloc::{AllocError, Global};
 use std::fmt::Display;
 use std::fs::Files;
@@ -268,9 +267,11 @@ fn stream<T: AllocGlobal + Clock + Eprint + Files + Input + Print>(
     let answer = stream_file(rt.alloc(), &file, until, flush, &mut writer, &mut line);
     line.end();
     let status = answer?;
-    // A stream goes further than the run that a hint would play.
-    if !is_quiet && read(rt.alloc(), &file).is_err() {
-        hint(rt, explain(rt.alloc(), shown(path), &file, None));
+    // Of the file alone: a stream goes further than the run that a hint would play.
+    if let Status::Refused = status
+        && !is_quiet
+    {
+        hint(rt, explain_stream(rt.alloc(), shown(path), &file));
     }
     Ok(status)
 }

@@ -1,7 +1,7 @@
 use Rattle.std.proofs.Common.{◌≡◌, Option, subst, rules}
 use Rattle.std.specs.Io.KnownBytes.{Appends}
 use Rattle.law_streams.specs.Streams.{stream_limit, stream_within}
-use Rattle.pb_stream.specs.Streams.{up_to}
+use Rattle.pb_scenario.specs.Repeats.{unrolled}
 use Rattle.pb_cli.specs.Streaming.{StepsOn}
 use Rattle.pb_cli.specs.declared.faults.Status.{Status}
 use Rattle.pb_cli.proofs.Written.{begins, ends, goes_on, no_world}
@@ -17,19 +17,19 @@ returns-in-Err-clause-text g c =
 
 pub returns-in-Some-clause-text : goal.returns-in-Some-clause-text
 returns-in-Some-clause-text g c =
-    let whole = stream_within stream_limit (up_to c.args.until c.args.scenario.now.scenario) in
+    let whole = stream_within stream_limit (unrolled c.args.until c.args.scenario.now) in
     let mid = g.W.Sink.contents c.loop-text.writer in
     let after = g.W.Sink.contents c.step.new.writer in
-    ends c.args.scenario.now.names whole c.loop-text.stream (g.W.Sink.contents c.args.writer.now) mid after c.in-Some.status c.loop-text.invariant.streams
+    ends c.args.scenario.now.once.names whole c.loop-text.stream (g.W.Sink.contents c.args.writer.now) mid after c.in-Some.status c.loop-text.invariant.streams
     (subst (λ (o : Option Status). StepsOn c.loop-text.stream c.step.new.stream mid after o) c.in-Some.is c.in_ok-ended.ensures.steps)
 
 pub loop-text-preserved : goal.loop-text-preserved
 loop-text-preserved g c =
-    let whole = stream_within stream_limit (up_to c.args.until c.args.scenario.now.scenario) in
+    let whole = stream_within stream_limit (unrolled c.args.until c.args.scenario.now) in
     let mid = g.W.Sink.contents c.loop-text.writer in
     let after = g.W.Sink.contents c.step.new.writer in
     record {
-      streams = goes_on c.args.scenario.now.names whole c.loop-text.stream c.step.new.stream (g.W.Sink.contents c.args.writer.now) mid after c.loop-text.invariant.streams
+      streams = goes_on c.args.scenario.now.once.names whole c.loop-text.stream c.step.new.stream (g.W.Sink.contents c.args.writer.now) mid after c.loop-text.invariant.streams
           (subst (λ (o : Option Status). StepsOn c.loop-text.stream c.step.new.stream mid after o) c.in-None.is c.in_ok-ended.ensures.steps);
       unfailed = search rules;
     }

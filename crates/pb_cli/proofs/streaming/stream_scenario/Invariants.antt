@@ -1,13 +1,13 @@
 -- Some of the stream is written, and the rest is to come.
 use Rattle.std.proofs.Common.{◌≡◌, ◌-◌}
 use Rattle.law_streams.specs.Streams.{stream_limit, stream_within}
-use Rattle.pb_stream.specs.Streams.{up_to}
+use Rattle.pb_scenario.specs.Repeats.{unrolled}
 use Rattle.pb_cli.proofs.Written.{Streams}
 use Rattle.pb_cli.proofs.streaming.stream_scenario.Given as goal
 
 abbrev pub invariant-loop-text : goal.invariant-loop-text
 invariant-loop-text g l = record {
-  streams : Streams l.scenario.names (stream_within stream_limit (up_to l.until l.scenario.scenario)) l.stream
+  streams : Streams l.scenario.once.names (stream_within stream_limit (unrolled l.until l.scenario)) l.stream
       (g.W.Sink.contents l.initial.writer) (g.W.Sink.contents l.writer);
   unfailed : g.W.Sink.failures l.writer ≡ g.W.Sink.failures l.initial.writer;
 }

@@ -19,10 +19,10 @@ returns-in_err-fields-clause-taps c =
     let vs = c.args.items.now in
     let l = c.loop-tap in
     let f = c.in_err-fields.field-0.0 in
-    let whole = few-items (most_taps c.args.version) vs (taps_from [] 0 (items_view vs)) (omega (arith, c.if-items-most_taps.false, c.most_taps.ensures)) ∙ l.invariant.taps in
+    let whole = few-items (most_taps c.args.version) vs (taps_from c.args.version [] 0 (items_view vs)) (omega (arith, c.if-items-most_taps.false, c.most_taps.ensures)) ∙ l.invariant.taps in
     in-err _ _ c.from_residual.result f c.from_residual.ensures.0 c.from_residual.ensures.1
     (subst (λ r. Tells f r) (sym whole)
-    (no-tap (names_of l.taps.names.keys) l.tap vs c.index-items-tap.result c.loop-tap-test.true c.index-items-tap.is f (taps_of l.taps) c.in_err-fields.ensures.members))
+    (no-tap c.args.version (names_of l.taps.names.keys) l.tap vs c.index-items-tap.result c.loop-tap-test.true c.index-items-tap.is f (taps_of l.taps) c.in_err-fields.ensures.members))
 
 pub returns-in_err-added-clause-taps : goal.returns-in_err-added-clause-taps
 returns-in_err-added-clause-taps c =
@@ -31,11 +31,11 @@ returns-in_err-added-clause-taps c =
     let names = names_of l.taps.names.keys in
     let f = c.in_err-added.field-0.0 in
     let fields = c.in_ok-fields.fields in
-    let whole = few-items (most_taps c.args.version) vs (taps_from [] 0 (items_view vs)) (omega (arith, c.if-items-most_taps.false, c.most_taps.ensures)) ∙ l.invariant.taps in
-    let told = subst (λ at. Tells f (tap_in names at (members fields))) c.in_ok-fields.ensures.section c.in_err-added.ensures.tap in
+    let whole = few-items (most_taps c.args.version) vs (taps_from c.args.version [] 0 (items_view vs)) (omega (arith, c.if-items-most_taps.false, c.most_taps.ensures)) ∙ l.invariant.taps in
+    let told = subst (λ at. Tells f (tap_in c.args.version names at (members fields))) c.in_ok-fields.ensures.section c.in_err-added.ensures.tap in
     in-err _ _ c.from_residual-in_err-added.result f c.from_residual-in_err-added.ensures.0 c.from_residual-in_err-added.ensures.1
     (subst (λ r. Tells f r) (sym whole)
-    (bad-tap names l.tap vs c.index-items-tap.result c.loop-tap-test.true c.index-items-tap.is f (members fields) (taps_of l.taps) c.in_ok-fields.ensures.members told))
+    (bad-tap c.args.version names l.tap vs c.index-items-tap.result c.loop-tap-test.true c.index-items-tap.is f (members fields) (taps_of l.taps) c.in_ok-fields.ensures.members told))
 
 pub loop-tap-preserved : goal.loop-tap-preserved
 loop-tap-preserved c =
@@ -47,16 +47,16 @@ loop-tap-preserved c =
     let new = c.add.new.self in
     let t = tap_of c.in_ok-added.added in
     let fields = c.in_ok-fields.fields in
-    let read = subst (λ at. tap_in old at (members fields) ≡ Ok t) c.in_ok-fields.ensures.section c.in_ok-added.ensures.tap in
+    let read = subst (λ at. tap_in c.args.version old at (members fields) ≡ Ok t) c.in_ok-fields.ensures.section c.in_ok-added.ensures.tap in
     let names : names_of new.names.keys ≡ old ++ t.name ∷ [] = on-ok _ c.add.result c.add.ensures.names c.if-is_err.ensures.value in
     let known : map spec_of new.specs.items ≡ specs ++ t.spec ∷ [] = on-ok _ c.add.result c.add.ensures.specs c.if-is_err.ensures.value in
     let as_many : length old ≡ length specs = count-names l.taps.names.keys ∙ l.invariant.named ∙ sym (length-map l.taps.specs.items spec_of) in
     let added : taps_of new ≡ taps_of l.taps ++ t ∷ [] = tap-added old (names_of new.names.keys) specs (map spec_of new.specs.items) t as_many names known in
     record {
       taps = l.invariant.taps
-          ∙ tap-read old i vs c.index-items-tap.result c.loop-tap-test.true c.index-items-tap.is (members fields) t (taps_of l.taps) c.in_ok-fields.ensures.members read
-          ∙ ap (λ ns. and_then (taps_from ns (i + 1) (items_view (drop (i + 1) vs))) (λ ts. Ok ((taps_of l.taps ++ t ∷ []) ++ ts))) (sym names)
-          ∙ ap (λ before. and_then (taps_from (names_of new.names.keys) (i + 1) (items_view (drop (i + 1) vs))) (λ ts. Ok (before ++ ts))) (sym added);
+          ∙ tap-read c.args.version old i vs c.index-items-tap.result c.loop-tap-test.true c.index-items-tap.is (members fields) t (taps_of l.taps) c.in_ok-fields.ensures.members read
+          ∙ ap (λ ns. and_then (taps_from c.args.version ns (i + 1) (items_view (drop (i + 1) vs))) (λ ts. Ok ((taps_of l.taps ++ t ∷ []) ++ ts))) (sym names)
+          ∙ ap (λ before. and_then (taps_from c.args.version (names_of new.names.keys) (i + 1) (items_view (drop (i + 1) vs))) (λ ts. Ok (before ++ ts))) (sym added);
       named = sym (count-names new.names.keys) ∙ ap length names ∙ length-append old (t.name ∷ []) ∙ ap (λ n. n + 1) as_many ∙ sym (length-append specs (t.spec ∷ []))
           ∙ ap length (sym known) ∙ length-map new.specs.items spec_of;
     }
@@ -65,4 +65,4 @@ pub returns-clause-taps : goal.returns-clause-taps
 returns-clause-taps c =
     let vs = c.args.items.now in
     let l = c.loop-tap in
-    few-items (most_taps c.args.version) vs (taps_from [] 0 (items_view vs)) (omega (arith, c.if-items-most_taps.false, c.most_taps.ensures)) ∙ l.invariant.taps ∙ taps-read (names_of l.taps.names.keys) l.tap vs (taps_of l.taps) c.loop-tap-test.false
+    few-items (most_taps c.args.version) vs (taps_from c.args.version [] 0 (items_view vs)) (omega (arith, c.if-items-most_taps.false, c.most_taps.ensures)) ∙ l.invariant.taps ∙ taps-read c.args.version (names_of l.taps.names.keys) l.tap vs (taps_of l.taps) c.loop-tap-test.false

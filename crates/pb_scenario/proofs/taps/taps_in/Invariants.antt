@@ -9,7 +9,7 @@ use Rattle.pb_scenario.proofs.taps.taps_in.Given as goal
 
 abbrev pub invariant-loop-tap : goal.invariant-loop-tap
 invariant-loop-tap l = record {
-  taps : taps_from [] 0 (items_view l.items)
-      ≡ and_then (taps_from (names_of l.taps.names.keys) l.tap (items_view (drop l.tap l.items))) (λ ts. Ok (taps_of l.taps ++ ts));
+  taps : taps_from l.version [] 0 (items_view l.items)
+      ≡ and_then (taps_from l.version (names_of l.taps.names.keys) l.tap (items_view (drop l.tap l.items))) (λ ts. Ok (taps_of l.taps ++ ts));
   named : length l.taps.names.keys ≡ length l.taps.specs.items;
 }

@@ -1,15 +1,17 @@
 -- What is appended are the next entries of the stream.
-use Rattle.std.proofs.Common.{◌≡◌, ◌∙◌, Some, None, length, ap, arith, refl, subst, sym, ◌++◌}
+use Rattle.std.proofs.Common.{◌≡◌, ◌∙◌, Some, None, length, map, ap, arith, refl, subst, sym, ◌++◌}
 use Rattle.std.specs.Prelude.{IfSome}
 use Rattle.law_model.specs.World.{World}
 use Rattle.law_runs.specs.Scenarios.{At}
+use Rattle.pb_medium.specs.Entries.{entry_of}
 use Rattle.pb_medium.specs.Traces.{entries_of}
 use Rattle.pb_scenario.specs.Faults.{model_fault}
+use Rattle.pb_scenario.specs.Scenarios.{ScenarioView}
 use Rattle.pb_scenario.specs.Texts.{entries_text}
 use Rattle.pb_scenario.specs.Walks.{WalkView}
 use Rattle.pb_world.specs.Buses.{world_of}
 use Rattle.pb_stream.specs.Plays as plays
-use Rattle.pb_stream.specs.Streams.{names_of, rest_of}
+use Rattle.pb_stream.specs.Streams.{Appends, names_of, rest_of}
 use Rattle.pb_stream.proofs.Streaming.{ends-rest, goes-rest, stops-rest}
 use Rattle.pb_stream.proofs.streams.Stream.advance.Goals as goal
 
@@ -29,7 +31,7 @@ returns-in_ok-hand_on-in-Ok-Some-clause-tells c =
     let until = ap (λ (w : WalkView). w.until) moved in
     record {
       entries = entries;
-      text = text;
+      text = subst (λ (v : ScenarioView). Appends v.names entries c.args.text.now.items c.hand_on.new.text.items) c.once.ensures text;
       rest = goes-rest walk after old mid new at entries moved goes lets.whole lets.past;
       ready = record {
         kept = lets.kept;
@@ -49,7 +51,9 @@ returns-in_ok-push_trace-in-Ok-None-clause-tells c =
     let mid = world_of bus in
     let goes : plays.GoesOn s.walk old None mid = subst (λ o. plays.GoesOn s.walk old o mid) c.in-Ok-None.field-0-is c.in-Ok-None.ensures.goes in (
       entries_of bus.trace,
-      c.in_ok-push_trace-in-Ok-None.ensures ∙ ap (λ es. c.args.text.now.items ++ entries_text (names_of s) es) c.entries.ensures,
+      c.in_ok-push_trace-in-Ok-None.ensures
+          ∙ ap (λ (v : ScenarioView). c.args.text.now.items ++ entries_text v.names (map entry_of c.entries.result.now)) c.once-in-Ok-None.ensures
+          ∙ ap (λ es. c.args.text.now.items ++ entries_text (names_of s) es) c.entries.ensures,
       ends-rest s.walk old mid goes,
     )
 
@@ -60,7 +64,9 @@ returns-in_ok-push_trace-in-Err-clause-tells c =
     let bus = c.play_instant.new.bus in
     let mid = world_of bus in (
       entries_of bus.trace,
-      c.in_ok-push_trace-in-Err.ensures ∙ ap (λ es. c.args.text.now.items ++ entries_text (names_of s) es) c.entries-in-Err.ensures,
+      c.in_ok-push_trace-in-Err.ensures
+          ∙ ap (λ (v : ScenarioView). c.args.text.now.items ++ entries_text v.names (map entry_of c.entries-in-Err.result.now)) c.once-in-Err.ensures
+          ∙ ap (λ es. c.args.text.now.items ++ entries_text (names_of s) es) c.entries-in-Err.ensures,
       subst (λ m. IfSome (model_fault c.in-Err.fault) (λ f. rest_of s ≡ Some (record { entries = entries_of bus.trace; fault = Some (At m f) }))) (sym c.now.ensures)
           (stops-rest s.walk old mid c.in-Err.fault c.in-Err.ensures.goes),
     )
