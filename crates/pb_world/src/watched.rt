@@ -119,7 +119,8 @@ impl Watched {
             × Refuses (world_in self.old) (event_of event.now)
             (step (world_in self.old) (event_of event.now)) fault) }
     {
-        follow(&mut self.watch, alloc, &mut self.bus, event)?;
+        let Watched { bus, watch } = self;
+        follow(watch, alloc, bus, event)?;
         Ok(())
     }
 
