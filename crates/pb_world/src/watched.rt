@@ -119,8 +119,7 @@ impl Watched {
             × Refuses (world_in self.old) (event_of event.now)
             (step (world_in self.old) (event_of event.now)) fault) }
     {
-        let Watched { bus, watch } = self;
-        follow(watch, alloc, bus, event)?;
+        follow(&mut self.watch, alloc, &mut self.bus, event)?;
         Ok(())
     }
 
