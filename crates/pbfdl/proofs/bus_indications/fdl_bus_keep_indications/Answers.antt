@@ -1,4 +1,4 @@
-use Rattle.std.proofs.Common.{◌×◌, Option, Result, subst, sym}
+use Rattle.std.proofs.Common.{Option, Result, subst, sym}
 use Rattle.std.specs.Prelude.{IfSome, MatchResult}
 use Rattle.pb_world.specs.Driven.{KeepsFrom, RefusesToKeep, StaysBut}
 use Rattle.pb_world.specs.declared.watched.Watched.{Watched}
