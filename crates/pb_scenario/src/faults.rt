@@ -13,7 +13,7 @@ pub enum ScenarioFault {
     /// 1: the file is not TOML.
     #[error("NotToml")]
     NotToml,
-    /// 2: the version is neither 1 nor 2.
+    /// 2: the version is neither 1 nor 2, nor, for a stream, 3.
     #[error("BadVersion")]
     BadVersion,
     /// 3: a key is missing.
@@ -40,7 +40,7 @@ pub enum ScenarioFault {
     /// 10: the parameters of the bus are refused.
     #[error("Params {number}", number = .0.number())]
     Params(ParamFault),
-    /// 11: there are more than 32 taps (127 in version 2), or more than 10,000 steps.
+    /// 11: there are more than 32 taps (127 from version 2 on), or more than 10,000 steps.
     #[error("TooMany")]
     TooMany,
     /// 12: memory was refused.

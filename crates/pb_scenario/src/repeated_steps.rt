@@ -143,7 +143,8 @@ fn repeated_step_in(
     before: u64,
 ) -> Result<RepeatedStep, ScenarioFault>
     ensures { Answers repeated_of result
-        (files.repeated_step_in (names_of names.now.keys) before fields.entry.section (members fields.entry)) }
+        (files.repeated_step_in (names_of names.now.keys) before fields.entry.section
+        (members fields.entry)) }
 {
     let word = word(fields)?;
     let step = step_by(alloc, fields, names, before, word, keys_in(fields, word))?;

@@ -102,7 +102,8 @@ pub(crate) fn step_by(
     keys: &[Key],
 ) -> Result<Step, ScenarioFault>
     ensures { Answers planned_of result
-        (files.step_by (names_of names.now.keys) before fields.entry.section (members fields.entry) word keys.now) }
+        (files.step_by (names_of names.now.keys) before fields.entry.section (members fields.entry) word
+        keys.now) }
 {
     fields.known(alloc, keys)?;
     let at = fields.number(Key::At, 0, u64::MAX)?;

@@ -42,7 +42,8 @@ pub(crate) fn play_instant(
 /// Plays the events that some deeds trigger before or after the turns.
 fn play_deeds(alloc: Global, bus: &mut Bus, deeds: &[&Deed], when: When) -> Result<(), WorldFault>
     requires { IsKept bus.old }
-    ensures plays { Plays (world_of bus.old) (said_of when (map (λ d. deed_of d.now) deeds.now)) result (world_of bus.new) }
+    ensures plays { Plays (world_of bus.old) (said_of when (map (λ d. deed_of d.now) deeds.now)) result
+        (world_of bus.new) }
     ensures kept { IsKept bus.new }
 {
     for deed in deeds {
