@@ -11,7 +11,9 @@ use crate::words::{Ask, AskFault, Asked};
 use clap::builder::ValueParser;
 use clap::error::ErrorKind;
 use clap::{Arg, ArgAction, ArgMatches, Command, Error, value_parser};
-use pb_export::{Export, Form as Output, LATEST, Link, Strings, Window};
+use pb_export::{
+    CaptureExport, CaptureForm, Export, Form as Output, LATEST, Link, Strings, Window,
+};
 use pb_monitor::{Classes, Form, Options, SummaryForm};
 use std::alloc::{AllocError, Global};
 
@@ -89,6 +91,9 @@ const PROGRESS: &str = "progress";
 /// The forms of an export.
 static OUTPUTS: [&str; 5] = ["svg", "pcapng", "pcap", "vcd", "json"];
 
+/// The forms of an export of a capture.
+static CAPTURE_OUTPUTS: [&str; 3] = ["pcapng", "pcap", "json"];
+
 /// The link types of a capture file.
 static LINKS: [&str; 2] = ["147", "257"];
 
@@ -142,10 +147,7 @@ fn asked(alloc: Global, matches: &ArgMatches<'_>) -> Result<Ask, AskFault>
             baud: baud_in(bounds),
             json: bounds.get_flag(JSON),
         }),
-        Some((MONITOR, monitor)) => Ok(Ask::Monitor {
-            file: text_in(alloc, monitor, FILE)?,
-            options: options_in(monitor),
-        }),
+        Some((MONITOR, monitor)) => asked_monitor(alloc, monitor),
         Some((CAPTURE, capture)) => Ok(Ask::Capture {
             file: file_in(alloc, capture)?,
             tap: text_in(alloc, capture, TAP)?,
@@ -158,6 +160,42 @@ fn asked(alloc: Global, matches: &ArgMatches<'_>) -> Result<Ask, AskFault>
         }),
         _ => Ok(Ask::Decode),
     }
+}
+
+/// The monitor that valid words ask for. An export is of a bus with the usual baud rate, if no other is given, so packets
+/// have moments.
+///
+/// Faults: those of `asked`.
+fn asked_monitor(alloc: Global, matches: &ArgMatches<'_>) -> Result<Ask, AskFault>
+    ensures { IfOk result IsWithinLimits }
+{
+    let export = capture_export_in(matches);
+    let mut options = options_in(matches);
+    if let Some(export) = &export {
+        options.baud = Some(export.baud);
+    }
+    Ok(Ask::Monitor {
+        file: text_in(alloc, matches, FILE)?,
+        options,
+        export,
+    })
+}
+
+/// The form in which a capture is to be written, if one is given.
+fn capture_export_in(matches: &ArgMatches<'_>) -> Option<CaptureExport>
+    ensures { IfSome result (λ export. IsBaud export.baud) }
+{
+    let form = match matches.get_str(TO) {
+        Some("pcapng") => CaptureForm::Pcapng,
+        Some("pcap") => CaptureForm::Pcap,
+        Some("json") => CaptureForm::Json,
+        _ => return None,
+    };
+    Some(CaptureExport {
+        form,
+        baud: baud_in(matches),
+        link: link_of(matches.get_str(LINK).unwrap_or("")),
+    })
 }
 
 /// The export that valid words ask for.
@@ -414,7 +452,22 @@ fn monitor_command<'a>(alloc: Global) -> Result<Command<'a>, AllocError> {
         .arg(choice(alloc, SUMMARY, "FORMAT", &SUMMARIES).help(
             "Prints the summary alone, as text, one JSON object or a table of the stations",
         ))?
-        .arg(baud(alloc).help("Bits a second, 9600 to 12000000, for the moments of packets"))?
+        .arg(
+            choice(alloc, TO, "FORM", CAPTURE_OUTPUTS.as_slice())
+                .conflicts_with(SUMMARY)?
+                .conflicts_with(EVERY)?
+                .help("Writes the capture in this form, in place of lines and a summary"),
+        )?
+        .arg(baud(alloc).help(
+            "Bits a second, 9600 to 12000000, for the moments of packets [default with --to: 1500000]",
+        ))?
+        .arg(
+            choice(alloc, LINK, "N", LINKS.as_slice())
+                .requires_arg(TO)?
+                .help(
+                    "The link type of pcap and pcapng: 147 for a dissector of one's own, 257 for PROFIBUS [default: 147]",
+                ),
+        )?
         .arg(slack(alloc))?
         .arg(quiet(alloc))
 }

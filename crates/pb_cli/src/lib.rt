@@ -2,7 +2,7 @@
 //!
 //! [`ask`] reads the program's words, [`decode_lines`] decodes lines of hex, [`play`] plays a scenario file with some
 //! workers, [`audit_file`] judges its run, [`bounds_file`] computes the bounds of its bus, [`export_file`] writes its trace
-//! for other tools, and [`monitor`] reads captures. The contracts name the bytes:
+//! for other tools, [`monitor`] reads captures, and [`export_capture`] writes them for other tools. The contracts name the bytes:
 //! what is written is a stated function of what is read, and `Read`, `TooLong` and `Write` are returned only if their
 //! cause is there. A [`Source`] is read from and a [`Sink`] is written to; [`CountedReader`] and [`CountedWriter`] make
 //! them from any reader and writer of std.
@@ -37,7 +37,7 @@ pub use counted_writer::CountedWriter;
 pub use decoding::decode_lines;
 pub use exporting::export_file;
 pub use faults::{CliFault, Status};
-pub use monitoring::{Bus, bus_of, monitor};
+pub use monitoring::{Bus, Notes, bus_of, export_capture, monitor};
 pub use playing::play;
 pub use progress::{Observer, Progress};
 pub use reading::read_input;

@@ -3,7 +3,7 @@
 ghost use Rattle.std.specs.Prelude.{◌≡◌};
 ghost use Rattle.pb_cli.specs.declared.words.AskFault.TheVariants.{NoMemory};
 
-use pb_export::Export;
+use pb_export::{CaptureExport, Export};
 pub use pb_monitor::Options;
 use std::alloc::AllocError;
 use thiserror::Error;
@@ -42,6 +42,8 @@ pub enum Ask {
         file: Option<String>,
         /// What the monitor is asked for.
         options: Options,
+        /// The form in which the capture is written, in place of lines of text; 9,600 to 12,000,000 bits a second.
+        export: Option<CaptureExport>,
     },
     /// Print what a listener hears of the run of a scenario file.
     Capture {

@@ -1,5 +1,6 @@
 pub mod Outcomes
 pub mod Appending
+pub mod Cut
 pub mod Loops
 pub mod Waving
 pub mod Around

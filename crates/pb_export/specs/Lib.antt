@@ -1,4 +1,8 @@
 pub mod Boxes
+pub mod Bursts
+pub mod BurstJson
+pub mod BurstPackets
+pub mod Captures
 pub mod Exports
 pub mod Holders
 pub mod Gone

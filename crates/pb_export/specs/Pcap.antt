@@ -17,11 +17,14 @@ link_number Profibus = 257
 abbrev pub header : Link → List ℕ
 header link = word 0xa1b23c4d ++ half 2 ++ half 4 ++ word 0 ++ word 0 ++ word 65535 ++ word (link_number link)
 
--- seconds, nanoseconds, the number of octets that were sent and of those that were to be sent, and the former
+-- seconds and nanoseconds of a moment in nanoseconds, the number of octets that are there and of those that should be, and
+-- the former
+abbrev pub packet_of : (at : ℕ) (octets : List ℕ) (count : ℕ) → List ℕ
+packet_of at octets count = word (at / 1000000000) ++ word (at % 1000000000) ++ word (length octets) ++ word count ++ octets
+
+-- the octets that were sent, of those that were to be sent
 abbrev pub packet : (baud : ℕ) → Record → List ℕ
-packet baud r =
-    word (nanos baud r.begin / 1000000000) ++ word (nanos baud r.begin % 1000000000)
-    ++ word (length (sent_octets r)) ++ word (length r.octets) ++ sent_octets r
+packet baud r = packet_of (nanos baud r.begin) (sent_octets r) (length r.octets)
 
 -- noise has no packet
 abbrev pub entry_packet : (baud : ℕ) → Entry → List ℕ

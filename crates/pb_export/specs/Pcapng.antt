@@ -49,19 +49,18 @@ comment_text s r =
 abbrev pub length_of : (octets comment : List ℕ) → ℕ
 length_of octets comment = 40 + padded (length octets) + padded (length comment)
 
--- the first interface, a moment in nanoseconds, the number of octets that were sent and of those that were to be sent, the
--- former, and the comment (option 1)
-abbrev pub block : (at : ℕ) (comment : List ℕ) → Record → List ℕ
-block at comment r =
-    let octets = sent_octets r in
+-- the first interface, a moment in nanoseconds, the number of octets that are there and of those that should be, the former,
+-- and the comment (option 1)
+abbrev pub block : (at : ℕ) (comment octets : List ℕ) (count : ℕ) → List ℕ
+block at comment octets count =
     all_of (word 6 ∷ word (length_of octets comment) ∷ word 0 ∷ word (at / 4294967296) ∷ word at
-    ∷ word (length octets) ∷ word (length r.octets) ∷ octets ∷ padding (length octets)
+    ∷ word (length octets) ∷ word count ∷ octets ∷ padding (length octets)
     ∷ half 1 ∷ half (length comment) ∷ comment ∷ padding (length comment)
     ∷ word 0 ∷ word (length_of octets comment) ∷ [])
 
--- a comment is cut to the length that its field can say
+-- the octets that were sent, of those that were to be sent; a comment is cut to the length that its field can say
 abbrev pub packet_block : (baud : ℕ) → ScenarioView → Record → List ℕ
-packet_block baud s r = block (nanos baud r.begin) (take 65535 (comment_text s r)) r
+packet_block baud s r = block (nanos baud r.begin) (take 65535 (comment_text s r)) (sent_octets r) (length r.octets)
 
 -- noise has no packet
 abbrev pub entry_block : (baud : ℕ) → ScenarioView → Entry → List ℕ

@@ -5,6 +5,7 @@ ghost use Rattle.pb_telegram.specs.declared.chars.RxChar.TheVariants.{Good};
 ghost use Rattle.law_turn.specs.Arrivals.{arrival_of};
 ghost use Rattle.pb_medium.specs.Entries.{entry_of, heard_of, record_of};
 ghost use Rattle.pb_taps.specs.Taps.{spec_of};
+ghost use Rattle.pb_transitions.specs.Arrivals.{brings};
 ghost use Rattle.pb_export.specs.Windows.{if_shown, shown_in};
 ghost use Rattle.pb_export.specs.Json as json;
 
@@ -14,7 +15,7 @@ use crate::pieces::{Piece, push_pieces};
 use crate::saying::{is_request, sent_octets};
 use crate::words::{heard_words, reply_words, request_words, station_words, truth};
 use pb_scenario::{Entry, Kind, Scenario, TapSpec};
-use pb_telegram::Telegram;
+use pb_telegram::{Telegram, VarTelegram};
 use pb_timers::BusParams;
 use pb_transitions::spelled_telegram;
 use pb_world::{Heard, Reception, Record};
@@ -88,7 +89,7 @@ fn push_bus(text: &mut Vec<u8>, scenario: &Scenario) -> Result<(), AllocError>
 }
 
 /// Appends the parameters of the bus, with the begin of its object.
-fn push_params(text: &mut Vec<u8>, params: &BusParams) -> Result<(), AllocError>
+pub(crate) fn push_params(text: &mut Vec<u8>, params: &BusParams) -> Result<(), AllocError>
     ensures { OnOk result (text.new.items ≡ text.old.items ++ json.params_text params.now) }
 {
     push_pieces(
@@ -188,7 +189,7 @@ fn push_entry(text: &mut Vec<u8>, scenario: &Scenario, entry: &Entry) -> Result<
 }
 
 /// Appends begin and end, with the begin of their object.
-fn push_span(text: &mut Vec<u8>, begin: u64, end: u64) -> Result<(), AllocError>
+pub(crate) fn push_span(text: &mut Vec<u8>, begin: u64, end: u64) -> Result<(), AllocError>
     ensures { OnOk result (text.new.items ≡ text.old.items ++ json.span_text begin end) }
 {
     push_pieces(
@@ -244,16 +245,34 @@ fn push_said(text: &mut Vec<u8>, octets: &[u8]) -> Result<(), AllocError>
     ensures { OnOk result (text.new.items
         ≡ text.old.items ++ json.said_text (arrival_of (map Good octets.now))) }
 {
-    match spelled_telegram(octets) {
+    push_telegram(text, &spelled_telegram(octets))
+}
+
+/// Appends what a telegram says, if there is one.
+pub(crate) fn push_telegram(
+    text: &mut Vec<u8>,
+    telegram: &Option<Telegram>,
+) -> Result<(), AllocError>
+    ensures { OnOk result (text.new.items ≡ text.old.items ++ json.said_text (brings telegram.now)) }
+{
+    match telegram {
         Some(Telegram::Token(token)) => push_token(text, token.da, token.sa),
         Some(Telegram::Ack) => text.extend_from_slice(b",\"kind\":\"acknowledgement\""),
         Some(Telegram::Short(short)) => push_framed(text, short.da, short.sa, short.fc, b""),
-        Some(Telegram::Var(var)) => push_framed(text, var.da, var.sa, var.fc, &var.unit),
+        Some(Telegram::Var(var)) => push_var(text, var),
         Some(Telegram::Fixed8(fixed)) => {
             push_framed(text, fixed.da, fixed.sa, fixed.fc, &fixed.unit)
         }
         None => text.extend_from_slice(b",\"kind\":\"other\""),
     }
+}
+
+/// Appends what a telegram with data of variable length says.
+fn push_var(text: &mut Vec<u8>, var: &VarTelegram) -> Result<(), AllocError>
+    ensures { OnOk result (text.new.items
+        ≡ text.old.items ++ json.framed_text var.now.da var.now.sa var.now.fc var.now.unit.items) }
+{
+    push_framed(text, var.da, var.sa, var.fc, &var.unit)
 }
 
 /// Appends what a token says.

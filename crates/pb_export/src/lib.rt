@@ -1,8 +1,12 @@
 //! A trace in the forms that other tools read, and that people look at: JSON lines, pcap and pcapng for Wireshark, VCD for
-//! GTKWave and PulseView, and SVG. Contracts name the bytes of each form.
+//! GTKWave and PulseView, and SVG; and a capture, burst by burst. Contracts name the bytes of each form.
 #![tactic(auto)]
 
 mod boxes;
+mod burst_json;
+mod burst_packets;
+mod bursts;
+mod captures;
 mod exports;
 mod files;
 mod holders;
@@ -26,6 +30,7 @@ mod vcd;
 mod waves;
 mod words;
 
+pub use captures::{CaptureExport, CaptureForm, push_bursts, push_capture_bus, push_capture_head};
 pub use exports::exported;
 pub use files::exported_file;
 pub use holders::{Tenure, tenures_of};

@@ -74,7 +74,7 @@ fn push_shown(
 }
 
 /// Appends the header: version 2.4, times in UTC.
-fn push_header(file: &mut Vec<u8>, link: Link) -> Result<(), AllocError>
+pub(crate) fn push_header(file: &mut Vec<u8>, link: Link) -> Result<(), AllocError>
     ensures { OnOk result (file.new.items ≡ file.old.items ++ pcap.header link) }
 {
     push_pieces(
@@ -107,15 +107,31 @@ fn push_packet(file: &mut Vec<u8>, telegram: &Record, baud: u32) -> Result<(), A
     requires { 0 < baud }
     ensures { OnOk result (file.new.items ≡ file.old.items ++ pcap.packet baud (record_of telegram.now)) }
 {
-    let at = nanos(baud, telegram.begin);
-    let octets = sent_octets(telegram);
+    let count = telegram.octets.len() as u64;
+    push_octets(
+        file,
+        nanos(baud, telegram.begin),
+        sent_octets(telegram),
+        count,
+    )
+}
+
+/// Appends the packet of some octets at a moment in nanoseconds; `count` is how many there should be.
+pub(crate) fn push_octets(
+    file: &mut Vec<u8>,
+    at: u64,
+    octets: &[u8],
+    count: u64,
+) -> Result<(), AllocError>
+    ensures { OnOk result (file.new.items ≡ file.old.items ++ pcap.packet_of at octets.now count) }
+{
     push_pieces(
         file,
         &[
             Piece::Word(at / SECOND),
             Piece::Word(at % SECOND),
             Piece::Word(octets.len() as u64),
-            Piece::Word(telegram.octets.len() as u64),
+            Piece::Word(count),
             Piece::Text(octets),
         ],
     )

@@ -16,7 +16,7 @@ use pb_world::{Reception, Record};
 use std::alloc::{AllocError, Global};
 
 /// The most octets of a comment, so that its length fits its field.
-const LONGEST_COMMENT: usize = 65_535;
+pub(crate) const LONGEST_COMMENT: usize = 65_535;
 
 /// Appends a trace as a pcapng file with one interface: a packet for each telegram that is shown, at the moment of its
 /// begin in nanoseconds, with a comment. Its octets are those that were sent, its original length counts those that were
@@ -81,7 +81,7 @@ fn push_shown(
 }
 
 /// Appends the block of the section: version 1.0, of a length that is not said, by `ringplay`.
-fn push_section(file: &mut Vec<u8>) -> Result<(), AllocError>
+pub(crate) fn push_section(file: &mut Vec<u8>) -> Result<(), AllocError>
     ensures { OnOk result (file.new.items ≡ file.old.items ++ pcapng.section) }
 {
     push_pieces(
@@ -104,7 +104,7 @@ fn push_section(file: &mut Vec<u8>) -> Result<(), AllocError>
 }
 
 /// Appends the block of the interface: its name, its speed, and that times are in nanoseconds.
-fn push_interface(file: &mut Vec<u8>, baud: u32, link: Link) -> Result<(), AllocError>
+pub(crate) fn push_interface(file: &mut Vec<u8>, baud: u32, link: Link) -> Result<(), AllocError>
     ensures { OnOk result (file.new.items ≡ file.old.items ++ pcapng.interface baud link) }
 {
     push_pieces(
@@ -164,7 +164,14 @@ fn push_packet(
     let mut comment = Vec::new(alloc);
     push_comment(&mut comment, scenario, telegram)?;
     let comment = &comment[..comment.len().min(LONGEST_COMMENT)];
-    push_block(file, telegram, nanos(baud, telegram.begin), comment)
+    let count = telegram.octets.len() as u64;
+    push_block(
+        file,
+        nanos(baud, telegram.begin),
+        comment,
+        sent_octets(telegram),
+        count,
+    )
 }
 
 /// Appends the comment of a telegram: when it began in bit times, who sent it, and how it reached each tap.
@@ -199,18 +206,19 @@ fn push_letters(text: &mut Vec<u8>, heard: &Reception) -> Result<(), AllocError>
     Ok(())
 }
 
-/// Appends the block of a telegram with a comment, at a moment in nanoseconds.
-fn push_block<'a>(
+/// Appends the block of some octets with a comment, at a moment in nanoseconds; `count` is how many octets there should be.
+pub(crate) fn push_block<'a>(
     file: &mut Vec<u8>,
-    telegram: &'a Record,
     at: u64,
     comment: &'a [u8],
+    octets: &'a [u8],
+    count: u64,
 ) -> Result<(), AllocError>
-    requires { length comment.now ≤ 65535 }
+    requires comment { length comment.now ≤ 65535 }
+    requires octets { length octets.now ≤ 256 }
     ensures { OnOk result (file.new.items
-        ≡ file.old.items ++ pcapng.block at comment.now (record_of telegram.now)) }
+        ≡ file.old.items ++ pcapng.block at comment.now octets.now count) }
 {
-    let octets = sent_octets(telegram);
     let length = 40 + padded(octets.len()) + padded(comment.len());
     push_pieces(
         file,
@@ -221,7 +229,7 @@ fn push_block<'a>(
             Piece::Word(at / 4_294_967_296),
             Piece::Word(at),
             Piece::Word(octets.len() as u64),
-            Piece::Word(telegram.octets.len() as u64),
+            Piece::Word(count),
             Piece::Text(octets),
             Piece::Text(padding(octets.len())),
             Piece::Half(1),

@@ -4,11 +4,12 @@ ghost use Rattle.std.specs.Prelude.{◌≡◌};
 
 use crate::bursts::Burst;
 use crate::cutting::Cut;
+use crate::heard_bursts::Known;
 use crate::monitors::Monitor;
-use crate::pcap::{Item, PcapFault, Stamp};
+use crate::pcap::{Item, Part, PcapFault, Stamp};
 use crate::reports::{push_content, push_refused};
 use crate::texts::push_number;
-use pb_telegram::TelegramFault;
+use pb_telegram::{RxChar, Telegram, TelegramFault, write};
 use std::alloc::AllocError;
 
 impl Monitor {
@@ -103,7 +104,28 @@ impl Monitor {
         if self.is_told() {
             push_cut(text, offset, burst)?;
         }
+        if self.kept.is_wanted()
+            && let Ok(telegram) = &burst.telegram
+        {
+            self.keep_cut(telegram)?;
+        }
         Ok(())
+    }
+
+    /// Keeps a telegram that is cut off, to hand it on.
+    #[inline(never)]
+    fn keep_cut(&mut self, telegram: &Telegram) -> Result<(), AllocError>
+        ensures { self.new.cutter ≡ self.old.cutter }
+    {
+        let octets = write(telegram);
+        self.kept.note_octets(&octets);
+        self.kept.end(Known {
+            span: None,
+            count: octets.len() as u64,
+            before: None,
+            holder: None,
+            alarm: None,
+        })
     }
 
     /// The bytes of a file of packets come.
@@ -113,11 +135,26 @@ impl Monitor {
         text: &mut Vec<u8>,
     ) -> Result<(), AllocError> {
         for byte in bytes {
+            if self.kept.is_wanted() {
+                self.note_octet(*byte);
+            }
             if let Some(item) = self.packets.read(*byte, &mut self.receiver) {
                 self.hear_item(item, text)?;
             }
         }
         Ok(())
+    }
+
+    /// The next octet comes, which may be one of a packet.
+    fn note_octet(&mut self, octet: u8) {
+        if self.packets.part != Part::Packet {
+            self.kept.begin();
+            return;
+        }
+        if self.receiver.fed() == 0 {
+            self.kept.begin();
+        }
+        self.kept.note(RxChar::Good(octet));
     }
 
     /// A packet, or something that is refused.

@@ -34,8 +34,8 @@ pub(crate) enum Line<'a> {
     Blank,
     /// Something was missed here.
     Gap,
-    /// A burst, whose characters the receiver was fed.
-    Burst(When),
+    /// A burst, whose characters the receiver was fed, and their hex.
+    Burst(When, &'a [u8]),
     /// It is refused.
     Refused(LineFault<'a>),
 }
@@ -104,7 +104,7 @@ pub(crate) fn tell(line: Line<'_>, number: u64, text: &mut Vec<u8>) -> Result<To
     match line {
         Line::Blank => Ok(Told::Nothing),
         Line::Gap => Ok(Told::Gap),
-        Line::Burst(when) => Ok(Told::Burst(when)),
+        Line::Burst(when, _) => Ok(Told::Burst(when)),
         Line::Refused(fault) => {
             push_refused(text, b"line", number)?;
             fault.push(text)?;
@@ -173,7 +173,7 @@ fn read_timed<'a>(
 fn read_hex<'a>(hex: &'a [u8], when: When, receiver: &mut Receiver) -> Line<'a> {
     receiver.restart();
     if feed_characters(receiver, hex) {
-        Line::Burst(when)
+        Line::Burst(when, hex)
     } else {
         Line::Refused(LineFault::NotHex(hex))
     }

@@ -6,6 +6,7 @@ use crate::buffers::LineBuffer;
 use crate::bursts::Burst;
 use crate::cutting::Cutter;
 use crate::formats::{Form, Options};
+use crate::heard_bursts::{HeardBurst, Kept, Known, Named, named_before};
 use crate::judges::Judge;
 use crate::lines::{Line, LineFault, Told, When, read_line, tell};
 use crate::meanings::{Meaning, meaning_in};
@@ -34,6 +35,7 @@ pub struct Monitor {
     pub(crate) statistics: Statistics,
     pub(crate) receiver: Receiver,
     pub(crate) lines: LineBuffer,
+    pub(crate) kept: Kept,
     pub(crate) cutter: Cutter,
     pub(crate) packets: Packets,
     /// How many lines, octets or packets came before.
@@ -66,6 +68,7 @@ impl Monitor {
             statistics,
             receiver: Receiver::new(),
             lines: LineBuffer::new(alloc),
+            kept: Kept::new(alloc),
             cutter: Cutter::new(),
             packets: Packets::new(),
             place: 0,
@@ -101,7 +104,25 @@ impl Monitor {
             },
         }
         self.statistics.close();
+        if self.kept.is_wanted() {
+            return Ok(());
+        }
         push_summary(text, &self.statistics, self.options.summary)
+    }
+
+    /// From now on bursts are handed on, in place of a line for each and a summary.
+    pub fn hand_on(&mut self) {
+        self.kept.want();
+    }
+
+    /// The bursts that were heard since the last call of [`clear_heard`](Monitor::clear_heard), if they are handed on.
+    pub fn heard(&self) -> &[HeardBurst] {
+        self.kept.bursts()
+    }
+
+    /// Forgets the bursts that were handed on.
+    pub fn clear_heard(&mut self) {
+        self.kept.clear();
     }
 
     /// What is known of the bus.
@@ -138,6 +159,7 @@ impl Monitor {
             Some(line) => read_line(line, &mut self.receiver),
             None => Line::Refused(LineFault::TooLong),
         };
+        note_line(&mut self.kept, &read);
         let told = tell(read, self.place, text)?;
         self.lines.restart();
         self.hear_told(told, text)
@@ -145,7 +167,9 @@ impl Monitor {
 
     fn hear_line(&mut self, line: &[u8], text: &mut Vec<u8>) -> Result<(), AllocError> {
         self.place = self.place.saturating_add(1);
-        let told = tell(read_line(line, &mut self.receiver), self.place, text)?;
+        let read = read_line(line, &mut self.receiver);
+        note_line(&mut self.kept, &read);
+        let told = tell(read, self.place, text)?;
         self.hear_told(told, text)
     }
 
@@ -226,9 +250,17 @@ impl Monitor {
             telegram: self.receiver.answer(),
         };
         self.statistics.hear(&burst);
+        let before = if self.kept.is_wanted() {
+            self.named_before(begin)
+        } else {
+            None
+        };
         let raised = self.judge(&burst);
         if self.is_told() {
             self.push_burst(&burst, text)?;
+        }
+        if self.kept.is_wanted() {
+            self.keep(&burst, before, raised.as_ref())?;
         }
         if let Some(raised) = raised {
             self.tell_alarm(&raised, begin, text)?;
@@ -257,9 +289,37 @@ impl Monitor {
         }
     }
 
-    /// Whether bursts have lines: a summary alone is not wanted.
+    /// Whether bursts have lines: neither a summary alone is wanted, nor that bursts are handed on.
     pub(crate) fn is_told(&self) -> bool {
-        self.options.summary.is_none()
+        self.options.summary.is_none() && !self.kept.is_wanted()
+    }
+
+    /// Who may send tokens and requests just before a burst that begins at a moment.
+    fn named_before(&self, begin: u64) -> Option<Named> {
+        let params = self.params.as_ref()?;
+        let judge = self.judge.as_ref()?;
+        Some(named_before(params, self.options.slack, judge.state(), begin))
+    }
+
+    /// Keeps a burst with moments, to hand it on.
+    #[inline(never)]
+    fn keep(
+        &mut self,
+        burst: &Burst,
+        before: Option<Named>,
+        raised: Option<&Raised>,
+    ) -> Result<(), AllocError> {
+        let holder = match &self.judge {
+            Some(judge) => Some(judge.holder(burst.end)),
+            None => None,
+        };
+        self.kept.end(Known {
+            span: Some((burst.begin, burst.end)),
+            count: self.receiver.fed(),
+            before,
+            holder,
+            alarm: raised.map(|raised| raised.alarm),
+        })
     }
 
     /// Appends the line of a burst.
@@ -319,9 +379,16 @@ impl Monitor {
             push_untimed(&burst, text)?;
         }
         let last = self.order.last();
-        let raised = self.order.hear(meaning);
-        if self.params.is_none() || !self.options.classes.legality {
-            return Ok(());
+        let raised = self.judge_order(meaning);
+        if self.kept.is_wanted() {
+            let known = Known {
+                span: None,
+                count: self.receiver.fed(),
+                before: None,
+                holder: None,
+                alarm: raised.map(|wrong| wrong.alarm),
+            };
+            self.kept.end(known)?;
         }
         match raised {
             Some(Wrong { alarm, source }) => {
@@ -332,6 +399,15 @@ impl Monitor {
         }
     }
 
+    /// The alarm that a telegram without moments raises.
+    fn judge_order(&mut self, meaning: Meaning) -> Option<Wrong> {
+        let raised = self.order.hear(meaning);
+        if self.params.is_none() || !self.options.classes.legality {
+            return None;
+        }
+        raised
+    }
+
     /// Appends the begin of a line for input that is refused.
     pub(crate) fn push_place(&self, text: &mut Vec<u8>) -> Result<(), AllocError> {
         match self.options.form {
@@ -339,6 +415,17 @@ impl Monitor {
             Form::Raw => push_refused(text, b"offset", self.place),
             Form::Pcap => push_refused(text, b"packet", self.place),
         }
+    }
+}
+
+/// Keeps the characters of a line, if they are to be handed on.
+fn note_line(kept: &mut Kept, line: &Line<'_>) {
+    if !kept.is_wanted() {
+        return;
+    }
+    match line {
+        Line::Burst(_, hex) => kept.note_hex(hex),
+        Line::Blank | Line::Gap | Line::Refused(_) => {}
     }
 }
 

@@ -1,6 +1,6 @@
-//! What people see of a stream while it is played: lines at once, and how far it is.
+//! What people see beside the output: of a stream how far it is, of a capture the lines that its export has no place for.
 
-use pb_cli::{Flush, Observer, Progress};
+use pb_cli::{Flush, Notes, Observer, Progress};
 use std::rt::Clock;
 use std::time::Instant;
 
@@ -131,6 +131,31 @@ impl<T: Clock + Eprint> Observer for ProgressLine<'_, T> {
         self.look(start);
         if self.last.millis >= self.stays {
             self.show();
+        }
+    }
+}
+
+/// Lines on standard error.
+#[derive(Drop)]
+pub(crate) struct ErrorLines<'a, T> {
+    rt: &'a T,
+    is_quiet: bool,
+}
+
+impl<'a, T: Eprint> ErrorLines<'a, T> {
+    /// Nothing is printed where hints are suppressed.
+    pub(crate) fn new(rt: &'a T, is_quiet: bool) -> Self {
+        ErrorLines { rt, is_quiet }
+    }
+}
+
+impl<T: Eprint> Notes for ErrorLines<'_, T> {
+    /// Prints lines. If the write fails, they are dropped.
+    fn note(&mut self, lines: &[u8]) {
+        if !self.is_quiet
+            && let Ok(lines) = str::from_utf8(lines)
+        {
+            let _ = eprint!(self.rt; "{lines}");
         }
     }
 }

@@ -12,13 +12,13 @@ ghost use Rattle.pb_cli.specs.Playing.{IsUpTo, line_limit, worker_limit};
 ghost use Rattle.pb_stream.specs.Streams.{stream_end};
 ghost use Rattle.ringplay.specs.ExitStatus.{exit_status_of, words_status_of};
 
-use looking_on::{ProgressLine, Shown, Terminals};
+use looking_on::{ErrorLines, ProgressLine, Shown, Terminals};
 use pb_cli::{
     Ask, AskFault, Asked, Bus, CliFault, CountedReader, CountedWriter, Flush, Options, Status,
     VERSION, ask_with_options, audit_with_reasons, bounds_file, bus_of, capture_file, decode_lines,
-    export_file, monitor, play, read_input, stream_file, write_out,
+    export_capture, export_file, monitor, play, read_input, stream_file, write_out,
 };
-use pb_export::Export;
+use pb_export::{CaptureExport, Export};
 use pb_texts::{MOST_EVENTS, explain, explain_audit, explain_bus, explain_stream, warn};
 use std::alloc::{AllocError, Global};
 use std::fmt::Display;
@@ -94,7 +94,11 @@ fn answer<T: AllocGlobal + Clock + Eprint + Files + Input + Print + Threads + Wa
         } => run(rt, file.as_str(), workers, last, is_quiet),
         Ask::Audit { file } => audit(rt, file.as_str(), is_quiet),
         Ask::Bounds { file, baud, json } => bounds(rt, file.as_str(), baud, json, is_quiet),
-        Ask::Monitor { file, options } => watch(rt, file, options, is_quiet),
+        Ask::Monitor {
+            file,
+            options,
+            export,
+        } => watch(rt, file, options, export, is_quiet),
         Ask::Capture { file, tap } => capture(rt, file.as_str(), tap, is_quiet),
         Ask::Export { file, export } => export_to(rt, file.as_str(), &export, is_quiet),
         Ask::Stream {
@@ -182,13 +186,17 @@ fn bounds<T: AllocGlobal + Eprint + Files + Input + Print>(
     Ok(status)
 }
 
-/// `ringplay monitor [FILE]`, from standard input to standard output; hints go to standard error.
+/// `ringplay monitor [FILE]`, from standard input to standard output; hints, and what an export has no place for, go to
+/// standard error.
 fn watch<T: AllocGlobal + Eprint + Files + Input + Print>(
     rt: &T,
     path: Option<String>,
     options: Options,
+    export: Option<CaptureExport>,
     is_quiet: bool,
-) -> Result<Status, CliFault> {
+) -> Result<Status, CliFault>
+    requires { IfSome export (λ x. IsBaud x.baud) }
+{
     let mut writer = CountedWriter::new(io::writer(rt));
     let mut params = None;
     if let Some(path) = path {
@@ -205,7 +213,18 @@ fn watch<T: AllocGlobal + Eprint + Files + Input + Print>(
         }
     }
     let mut reader = CountedReader::new(rt.reader());
-    monitor(rt.alloc(), params, options, &mut reader, &mut writer)
+    match &export {
+        Some(export) => export_capture(
+            rt.alloc(),
+            params,
+            options,
+            export,
+            &mut reader,
+            &mut writer,
+            &mut ErrorLines::new(rt, is_quiet),
+        ),
+        None => monitor(rt.alloc(), params, options, &mut reader, &mut writer),
+    }
 }
 
 /// `ringplay capture FILE`, to standard output; hints go to standard error.

@@ -1,6 +1,5 @@
 use Rattle.std.proofs.Common.{◌≡◌, ◌∙◌, ◌+◌, ℕ, List, [], ◌∷◌, ap, length}
 use Rattle.std.specs.Prelude.{◌/◌}
-use Rattle.pb_medium.specs.Entries.{record_of}
 use Rattle.pb_texts.proofs.Pieces.{last}
 use Rattle.pb_export.specs.Pieces.{all_of, half, word}
 use Rattle.pb_export.specs.Pcapng.{block, length_of, padded, padding}
@@ -16,19 +15,16 @@ of_parts at comment long octets count behind end =
 
 pub returns : goal.returns
 returns c =
-    let r = record_of c.args.telegram.now in
     let at = c.args.at in
     let comment = c.args.comment.now in
-    let octets = c.sent_octets-octets.result.now in
-    let count = c.len.result in
+    let octets = c.args.octets.now in
+    let count = c.args.count in
     let behind = c.padding.result.now in
     let end = c.padding-2.result.now in
     let long : 40 + c.padded.result + c.padded-2.result ≡ length_of octets comment =
     ap (λ (n : ℕ). 40 + n + c.padded-2.result) c.padded.ensures.value ∙ ap (λ (n : ℕ). 40 + padded (length octets) + n) c.padded-2.ensures.value in
-    last c.push_pieces.result c.args.file.now.items c.push_pieces.new.text.items (of_parts at comment (40 + c.padded.result + c.padded-2.result) octets count behind end) (block at comment r)
+    last c.push_pieces.result c.args.file.now.items c.push_pieces.new.text.items (of_parts at comment (40 + c.padded.result + c.padded-2.result) octets count behind end) (block at comment octets count)
     (ap (λ (n : ℕ). of_parts at comment n octets count behind end) long
-    ∙ ap (λ (n : ℕ). of_parts at comment (length_of octets comment) octets n behind end) c.len.ensures.value
-    ∙ ap (λ (z : List ℕ). of_parts at comment (length_of octets comment) octets (length r.octets) z end) c.padding.ensures
-    ∙ ap (λ (z : List ℕ). of_parts at comment (length_of octets comment) octets (length r.octets) (padding (length octets)) z) c.padding-2.ensures
-    ∙ ap (λ (z : List ℕ). of_parts at comment (length_of z comment) z (length r.octets) (padding (length z)) (padding (length comment))) c.sent_octets-octets.ensures.octets)
+    ∙ ap (λ (z : List ℕ). of_parts at comment (length_of octets comment) octets count z end) c.padding.ensures
+    ∙ ap (λ (z : List ℕ). of_parts at comment (length_of octets comment) octets count (padding (length octets)) z) c.padding-2.ensures)
     c.push_pieces.ensures

@@ -1,17 +1,12 @@
-use Rattle.std.proofs.Common.{◌≡◌, ◌∙◌, ◌++◌, ℕ, List, ap, sym, arith, length}
+use Rattle.std.proofs.Common.{◌≡◌, ◌∙◌, ◌++◌, ℕ, List, ap, sym, length}
 use Rattle.std.specs.Prelude.{min, take}
-use Rattle.std.proofs.lemmas.List.{take_min}
 use Rattle.pb_medium.specs.Entries.{record_of}
 use Rattle.pb_texts.proofs.Pieces.{last}
+use Rattle.pb_export.proofs.Cut.{cut}
 use Rattle.pb_export.specs.Times.{nanos}
 use Rattle.pb_export.specs.Pcapng.{block, comment_text}
+use Rattle.pb_export.specs.Saying.{sent_octets}
 use Rattle.pb_export.proofs.pcapng.push_packet.Goals as goal
-
--- no more of a text than there is
-cut : (n : ℕ) (xs : List ℕ) → take (min (length xs) n) xs ≡ take n xs
-cut n xs =
-    let same : min (length xs) n ≡ min n (length xs) = omega arith in
-    ap (λ (k : ℕ). take k xs) same ∙ take_min n xs
 
 pub returns : goal.returns
 returns c =
@@ -21,5 +16,10 @@ returns c =
     let whole : text ≡ comment_text s r = c.deref.ensures.value ∙ c.in_ok-push_comment.ensures ∙ ap (λ (z : List ℕ). z ++ comment_text s r) c.new-comment.ensures.items in
     let count : c.min.result ≡ min (length text) 65535 = c.min.ensures ∙ ap (λ (n : ℕ). min n 65535) (c.len.ensures ∙ sym c.deref.ensures.len) in
     let short : take c.min.result text ≡ take 65535 (comment_text s r) = ap (λ (n : ℕ). take n text) count ∙ cut 65535 text ∙ ap (take 65535) whole in
-    last c.push_block.result c.args.file.now.items c.push_block.new.file.items (block c.nanos.result (take c.min.result text) r) (block (nanos c.args.baud r.begin) (take 65535 (comment_text s r)) r)
-    (ap (λ (n : ℕ). block n (take c.min.result text) r) c.nanos.ensures ∙ ap (λ (z : List ℕ). block (nanos c.args.baud r.begin) z r) short) c.push_block.ensures
+    let octets = c.sent_octets.result.now in
+    last c.push_block.result c.args.file.now.items c.push_block.new.file.items (block c.nanos.result (take c.min.result text) octets c.len-count.result) (block (nanos c.args.baud r.begin) (take 65535 (comment_text s r)) (sent_octets r) (length r.octets))
+    (ap (λ (n : ℕ). block n (take c.min.result text) octets c.len-count.result) c.nanos.ensures
+    ∙ ap (λ (z : List ℕ). block (nanos c.args.baud r.begin) z octets c.len-count.result) short
+    ∙ ap (λ (z : List ℕ). block (nanos c.args.baud r.begin) (take 65535 (comment_text s r)) z c.len-count.result) c.sent_octets.ensures.octets
+    ∙ ap (λ (n : ℕ). block (nanos c.args.baud r.begin) (take 65535 (comment_text s r)) (sent_octets r) n) c.len-count.ensures.value)
+    c.push_block.ensures
