@@ -4,6 +4,7 @@ mod edges;
 mod examples;
 mod indications;
 mod memory;
+mod past;
 mod reasons;
 mod replies;
 mod settled;
