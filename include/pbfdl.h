@@ -511,9 +511,10 @@ uint32_t fdl_bus_due(struct fdl_bus *bus, size_t tap, uint64_t *at);
  * Code: FDL_NO_BUS, with *at unchanged. */
 uint32_t fdl_bus_next_change(struct fdl_bus *bus, uint64_t *at);
 
-/* Whether the ring is settled goes to *settled: all running masters that are not offline agree on who belongs to it and have
- * had the token, one of them has it, no station has a reply to send, and nothing is on its way. From then on, as long as
- * nothing disturbs, each master gets the token within the bound of a rotation.
+/* Whether the ring is settled goes to *settled: all running masters that are not offline agree on who belongs to it and have had
+ * the token, one of them has it, no station has a reply to send, and nothing is on its way: so only between telegrams, as just
+ * after a token has arrived. If the events so far and those to come break no premise (fdl_bus_audit), and no damage, noise, start
+ * or stop comes, each master of the ring then gets the token within the rotation bound of 'ringplay bounds', again and again.
  * Code: FDL_NO_BUS, with *settled unchanged. */
 uint32_t fdl_bus_is_settled(struct fdl_bus *bus, bool *settled);
 

@@ -247,8 +247,9 @@ impl Bus {
         Ok(taken)
     }
 
-    /// Whether the ring is settled: its masters agree on who belongs to it and have had the token, one of them has it, and
-    /// nothing is on its way. Then each gets the token again within the bound of a rotation, while nothing disturbs.
+    /// Whether the ring is settled: its masters agree on who belongs to it and have had the token, one of them has it, no reply waits
+    /// and nothing is on its way, so only between telegrams. If no premise breaks ([`Bus::audit`]), each of them then gets the token
+    /// again and again within the bound of a rotation (`ringplay bounds`), while there is no damage, noise, start or stop.
     pub fn is_settled(&self) -> bool {
         let mut settled = false;
         let _ = unsafe { sys::fdl_bus_is_settled(self.at(), &mut settled) };
