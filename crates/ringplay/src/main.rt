@@ -213,12 +213,12 @@ fn watch<T: AllocGlobal + Eprint + Files + Input + Print>(
         }
     }
     let mut reader = CountedReader::new(rt.reader());
-    match &export {
+    match export {
         Some(export) => export_capture(
             rt.alloc(),
             params,
             options,
-            export,
+            &export,
             &mut reader,
             &mut writer,
             &mut ErrorLines::new(rt, is_quiet),
