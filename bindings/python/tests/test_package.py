@@ -121,29 +121,6 @@ class Receivers(unittest.TestCase):
 
 
 class Stations(unittest.TestCase):
-    def test_a_bus_keeps_what_a_slave_executes(self):
-        bus = self.ring()
-        with self.assertRaisesRegex(pbfdl.NoIndication, "call keep_indications.2. first"):
-            bus.indications(2)
-        with self.assertRaises(pbfdl.NoSuchTap):
-            bus.keep_indications(3)
-        with self.assertRaises(pbfdl.NoMemory):
-            bus.keep_indications(2, 2**60)
-        bus.keep_indications(2, room=1)
-        for octet in (7, 8):
-            bus.queue(0, 9, Service.SRD, bytes([octet]), high=True)
-        bus.run(4000)
-        self.assertEqual(bus.executed(2), 2)
-        self.assertEqual(bus.take_indications(2), [Indication(source=1, service=Service.SRD, high=True, data=b"\x07")])
-        self.assertEqual(bus.indications(2), [])
-
-    def test_a_ring_settles_as_its_second_master_gets_the_token(self):
-        bus = self.ring()
-        bus.run(1152)
-        self.assertFalse(bus.is_settled)
-        bus.run(1153)
-        self.assertTrue(bus.is_settled)
-
     def test_what_a_new_one_may_be(self):
         for address, words, fault in (
             (6, {}, pbfdl.BadStation),
@@ -249,6 +226,29 @@ class Buses(unittest.TestCase):
         for tap in range(3):
             bus.start(tap)
         return bus
+
+    def test_a_bus_keeps_what_a_slave_executes(self):
+        bus = self.ring()
+        with self.assertRaisesRegex(pbfdl.NoIndication, "call keep_indications.2. first"):
+            bus.indications(2)
+        with self.assertRaises(pbfdl.NoSuchTap):
+            bus.keep_indications(3)
+        with self.assertRaises(pbfdl.NoMemory):
+            bus.keep_indications(2, 2**60)
+        bus.keep_indications(2, room=1)
+        for octet in (7, 8):
+            bus.queue(0, 9, Service.SRD, bytes([octet]), high=True)
+        bus.run(4000)
+        self.assertEqual(bus.executed(2), 2)
+        self.assertEqual(bus.take_indications(2), [Indication(source=1, service=Service.SRD, high=True, data=b"\x07")])
+        self.assertEqual(bus.indications(2), [])
+
+    def test_a_ring_settles_as_its_second_master_gets_the_token(self):
+        bus = self.ring()
+        bus.run(1152)
+        self.assertFalse(bus.is_settled)
+        bus.run(1153)
+        self.assertTrue(bus.is_settled)
 
     def test_what_a_new_one_may_be(self):
         for taps, fault in (

@@ -1,5 +1,7 @@
 //! A capture over readers and writers that fail, are interrupted, or move one byte a call; and the words of `monitor`.
 
+ghost use Rattle.std.specs.Prelude.{◌≡◌};
+
 use super::equal;
 use super::streams::{ByteReader, ByteWriter};
 use pb_cli::{
@@ -147,7 +149,9 @@ fn notes() -> Compared {
     }
 }
 
-fn export(form: CaptureForm) -> CaptureExport {
+fn export(form: CaptureForm) -> CaptureExport
+    ensures { result.baud ≡ 1500000 }
+{
     CaptureExport {
         form,
         baud: 1_500_000,
