@@ -204,9 +204,10 @@ impl World {
 
     /// Whether the ring is settled, each station as it is once it has read its unread marks: all running masters that are
     /// not offline agree on who belongs to the ring, and have had the token; one of them has it; no station has a reply
-    /// to send; and nothing is on its way. From such a moment on, as long as nothing disturbs, each master of the ring
-    /// gets the token within the bound of a rotation (token passing: logical ring; target rotation time). Nothing is
-    /// changed or allocated.
+    /// to send; and nothing is on its way, so only between telegrams. If the events that led to this world and those to
+    /// come break no premise, each master of the ring gets the token within the bound of a rotation, again and again,
+    /// while there is no damage, noise, start or stop (law_rings; token passing: logical ring; target rotation time).
+    /// Nothing is changed or allocated.
     ///
     /// Telegrams that are over aren't looked at where the bus has no cable delay; else the answer takes time in
     /// proportion to the trace.
