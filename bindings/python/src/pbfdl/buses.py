@@ -51,7 +51,7 @@ class Tap:
     """A place on the bus with its station: a master, or a passive station."""
 
     address: int
-    """0 to `Params.hsa` for a master, 0 to 126 for a passive station. Two running taps need different ones."""
+    """0 to `Params.hsa` for a master, 0 to 126 for a passive station. Two running taps with one address break a premise (`audit`)."""
     master: bool = True
     reply: bytes = b""
     """What it replies to a request for data, at most 246 octets."""
@@ -132,12 +132,18 @@ class Bus(Handle):
     # ---- events
 
     def start(self, tap: int) -> None:
-        """The station starts, with nothing heard. Raises `Running`, also while a telegram of its own is on the bus."""
+        """The station starts, with nothing heard, no outcome and nothing executed; its reply and what is kept of its requests stay.
+
+        Raises `Running`, also while a telegram of its own is on the bus.
+        """
         why = "runs, or a telegram of its own is still on the bus: stop it, or run to the end of that"
         self._call("fdl_bus_start", self._tap(tap), texts=lambda: {Running: f"tap {tap} {why}"})
 
     def stop(self, tap: int) -> None:
-        """The station stops; a telegram that it is sending ends with the present character. Raises `NotRunning`."""
+        """The station stops; a telegram that it is sending ends with the present character. A start then forgets its queue.
+
+        Raises `NotRunning`.
+        """
         self._call("fdl_bus_stop", self._tap(tap), texts=self._stopped(tap))
 
     def turn(self, tap: int) -> None:
@@ -164,7 +170,7 @@ class Bus(Handle):
         }
 
     def noise(self, bits: int) -> None:
-        """Noise reaches all taps from now on, for 1 to 4,294,967,295 bit times; noise on the bus lasts at least as long.
+        """Noise reaches all taps from now on, for 1 to 4,294,967,295 bit times; with noise on the bus it is one, to the later end.
 
         Raises `TooFar` for more, `ZeroTime`, `TraceFull`, `NoMemory`.
         """
@@ -201,7 +207,7 @@ class Bus(Handle):
         return {NotRunning: f"tap {tap} {why}"}
 
     def set_reply(self, tap: int, reply: bytes) -> None:
-        """A tap replies to the next request for data (SRD) with at most 246 octets; with none, that it has no data.
+        """A tap replies to the next request for data (SRD) with at most 246 octets; with none it acknowledges (outcome ACKED).
 
         This is no event: nothing else changes, and `audit` judges the events alone. A repeat of the last request still gets the
         reply that was sent. Raises `LongData`.
@@ -212,7 +218,8 @@ class Bus(Handle):
     def keep_indications(self, tap: int, room: int = 1024) -> None:
         """Keeps the requests of others that the station at a tap executes from now on, without repeats: the first `room`.
 
-        `take_indications` makes room again. What was kept of this tap is forgotten. Raises `NoSuchTap`, `NoMemory`.
+        `take_indications` makes room again; `executed` counts also those for which there was none. What was kept of this tap is
+        forgotten. Raises `NoSuchTap`, `NoMemory`.
         """
         self._call("fdl_bus_keep_indications", self._tap(tap), number("room", room, 2**64 - 1))
 
@@ -284,7 +291,10 @@ class Bus(Handle):
         return self._number("fdl_bus_executed", c_uint64, self._tap(tap))
 
     def outcome(self, tap: int) -> Optional[Outcome]:
-        """What came of its last request that had an outcome; None where none has had one since its start."""
+        """What came of its last request that had an outcome; None where none has had one since its start.
+
+        Right after `queue` it is still that of an earlier request. A request without a reply (SDN) never has one.
+        """
         return Outcome._of(self._ask("fdl_bus_outcome", OutcomeStruct, self._tap(tap)))
 
     @property
