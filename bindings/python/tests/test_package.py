@@ -249,6 +249,9 @@ class Buses(unittest.TestCase):
         self.assertFalse(bus.is_settled)
         bus.run(1153)
         self.assertTrue(bus.is_settled)
+        self.assertEqual(bus.trace.text(["a", "b", "c"]).splitlines()[0], "800 833 a dc0101 -ww")
+        with self.assertRaisesRegex(ValueError, "names has 1; wanted: one for each of the 3 taps"):
+            bus.trace.text(["a"])
 
     def test_what_a_new_one_may_be(self):
         for taps, fault in (

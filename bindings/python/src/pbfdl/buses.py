@@ -48,13 +48,17 @@ ALL_CHARACTERS = 256
 
 @dataclass(frozen=True)
 class Tap:
-    """A place on the bus with its station: a master, or a passive station."""
+    """A place on the bus with its station: a master, or a passive station.
+
+    address  0 to `Params.hsa` for a master, 0 to 126 for a passive station (`BadStation`, by `Bus`); two running taps with one
+             address break a premise (`audit`)
+    master   whether it is a master
+    reply    what it replies to a request for data, at most 246 octets (`LongData`, by `Bus`)
+    """
 
     address: int
-    """0 to `Params.hsa` for a master, 0 to 126 for a passive station. Two running taps with one address break a premise (`audit`)."""
     master: bool = True
     reply: bytes = b""
-    """What it replies to a request for data, at most 246 octets."""
 
     def _struct(self) -> TapStruct:
         reply = octets_of("reply", self.reply)

@@ -15,6 +15,17 @@ from .faults import Fault
 class Params:
     """What all stations of a bus share (IEC 61158-4-3, timing parameters). Times are whole bit times.
 
+    tsl      slot time, 100 to 16383: how long a station waits for a reply
+    tid1     idle time before the next telegram, 33 and more
+    tid2     the same after a request that nobody answers, tid1 and more
+    tsdr     how long a station takes to reply, 11 and more
+    lag      how late a station may take its turn (a bound on the latency of software; 0 for a bus that runs by itself)
+    ttr      target rotation time of the token, 256 to 16777215
+    gap      GAP factor, 1 to 100: target rotation times from one search for new masters to the next
+    hsa      highest address that a master may have, 2 to 126
+    retries  how often a request is sent again, 0 to 7
+    ttd      cable delay: how much later the others hear a telegram
+
     Raises the first fault that applies: `ParamSlot`, `ParamIdleShort`, `ParamIdleOrder`, `ParamReplyShort`, `ParamRotation`,
     `ParamGapFactor`, `ParamHighest`, `ParamRetries`, `ParamTakeLate` (tid2 + lag + 2 * ttd has to be under tsl),
     `ParamReplyLate` (so has tsdr + lag + 2 * ttd).
@@ -24,25 +35,15 @@ class Params:
     """
 
     tsl: int
-    """Slot time, 100 to 16383: how long a station waits for a reply."""
     tid1: int
-    """Idle time before the next telegram, 33 and more."""
     tid2: int
-    """The same after a request that nobody answers, tid1 and more."""
     tsdr: int
-    """How long a station takes to reply, 11 and more."""
     lag: int
-    """How late a station may take its turn."""
     ttr: int
-    """Target rotation time of the token, 256 to 16777215."""
     gap: int
-    """GAP factor, 1 to 100: target rotation times from one search for new masters to the next."""
     hsa: int
-    """Highest address that a master may have, 2 to 126."""
     retries: int
-    """How often a request is sent again, 0 to 7."""
     ttd: int = 0
-    """Cable delay: how much later the others hear a telegram."""
 
     def __post_init__(self) -> None:
         given = self._struct()

@@ -160,8 +160,14 @@ class Trace(Sequence[Entry]):
         return [entry.row() for entry in self]
 
     def text(self, names: Optional[Sequence[str]] = None) -> str:
-        """The text that `ringplay run` prints, a line an entry. The names are the taps', their indices where None are given."""
-        shown = [str(index) for index in range(len(self._bus.taps))] if names is None else list(names)
+        """The text that `ringplay run` prints, a line an entry. The names are the taps', their indices where None are given.
+
+        Raises `ValueError` where there isn't one for each tap.
+        """
+        taps = len(self._bus.taps)
+        shown = [str(index) for index in range(taps)] if names is None else list(names)
+        if len(shown) != taps:
+            raise ValueError(f"names has {len(shown)}; wanted: one for each of the {taps} taps")
         return "".join(entry.text(shown) + "\n" for entry in self)
 
     def __repr__(self) -> str:
