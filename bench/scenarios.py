@@ -4,6 +4,7 @@ run and timed."""
 import collections
 import json
 import os
+import re
 import resource
 import subprocess
 import sys
@@ -11,7 +12,7 @@ import time
 
 TOP = os.path.dirname(os.path.dirname(os.path.abspath(__file__)))
 OURS = f"{TOP}/crates/ringplay/out/ringplay"
-BUS = {"tsl": 100, "tid1": 37, "tid2": 60, "tsdr": 11, "lag": 0, "ttr": 10_000, "gap": 10, "hsa": 5, "retries": 1}
+BUS = {"tsl": 100, "tid1": 37, "tid2": 60, "tsdr": 11, "lag": 0, "ttr": 10_000, "gap": 10, "hsa": 5, "retries": 1, "ttd": 0}
 
 # Seconds by the wall's clock, and of processors for all threads.
 Spent = collections.namedtuple("Spent", "wall processor")
@@ -51,6 +52,19 @@ def timed(program, data=b""):
     return Spent(time.perf_counter() - began, processor_time() - before)
 
 
+def instructions(program, data=b""):
+    """How many instructions a program takes, with all its threads."""
+    told = output(program, data, "valgrind", "--tool=callgrind", "--callgrind-out-file=/dev/null")[1]
+    return int(re.search(rb"Collected : (\d+)", told).group(1))
+
+
+def peak(program):
+    """The most memory that a program holds, in KiB."""
+    held = "import resource, subprocess, sys; subprocess.run(sys.argv[1:], stdout=subprocess.DEVNULL); "
+    held += "print(resource.getrusage(resource.RUSAGE_CHILDREN).ru_maxrss)"
+    return int(subprocess.run([sys.executable, "-c", held, *program], capture_output=True, check=True).stdout)
+
+
 def step(now, event):
     """What an event is as a step of a scenario, or None for turns and time."""
     if "Start" in event:
@@ -78,7 +92,7 @@ def scenario(data, until):
     ]
     written = ", ".join(f"{key} = {value}" for key, value in bus.items())
     tables = f"bus = {{ {written} }}\ntap = [{', '.join(taps)}]\nstep = [{', '.join(steps)}]\n"
-    return f"version = 1\nuntil = {until}\n{tables}"
+    return f"version = 2\nuntil = {until}\n{tables}"
 
 
 def make(plain, folder, kind, until):

@@ -1,4 +1,4 @@
-//! The jobs of `event_player`, and of `ringplay run` and `ringplay audit`, in plain Rust, written for speed, with std alone
+//! The jobs of `event_player`, and of `ringplay run`, `audit` and `stream`, in plain Rust, written for speed, with std alone
 //! and no proofs: what the bench measures a world and the program against.
 //!
 //!     world_plain < LIST                  all that comes of an event list
@@ -7,6 +7,7 @@
 //!     world_plain make KIND BITS          an event list: see `kind_of`
 //!     world_plain run < FILE              the trace of a scenario file as `scenarios.py` writes it
 //!     world_plain audit < FILE            what an audit of its run finds
+//!     world_plain stream < FILE           the trace as it settles; entries that are over are let go, their octets are not
 //!
 //! A telegram's octets are written once, behind all that were sent before (`Air`). What a tap hears is read once for
 //! all taps. Sets of addresses and of taps are masks.
@@ -22,6 +23,8 @@ const TRACE_LIMIT: usize = 100_000;
 const MARK_LIMIT: usize = 64;
 const QUEUE_LIMIT: usize = 16;
 const TAP_LIMIT: usize = 127;
+/// How many entries a stream writes at once, at least.
+const BLOCK: usize = 64;
 /// How often a token is tried at each successor.
 const TRIES: u8 = 3;
 /// How many tokens may skip a station in the ring before it listens anew.
@@ -39,8 +42,9 @@ fn main() -> ExitCode {
         ["make", kind, bits] => number(bits).and_then(|bits| make(kind, bits)),
         ["run"] => read_scenario().and_then(|scenario| run(scenario, None)),
         ["audit"] => read_scenario().and_then(|scenario| run(scenario, Some(Watch::new()))),
+        ["stream"] => read_scenario().and_then(stream),
         _ => Err(Fault::List(
-            "usage: world_plain [trace TIMES | audit TIMES] < LIST, make KIND BITS, or run | audit < FILE".into(),
+            "usage: world_plain [trace TIMES | audit TIMES] < LIST, make KIND BITS, or run | audit | stream < FILE".into(),
         )),
     };
     match text {
@@ -1735,7 +1739,12 @@ fn push_found(text: &mut String, found: &Finding) {
 }
 
 fn push_trace(text: &mut String, world: &World) {
-    for entry in &world.trace {
+    push_entries(text, world, world.trace.len());
+}
+
+/// The lines of the first entries.
+fn push_entries(text: &mut String, world: &World, count: usize) {
+    for entry in &world.trace[..count] {
         let _ = write!(text, "{} {} ", entry.begin, entry.end);
         let Some(record) = &entry.sent else {
             text.push_str("~ noise\n");
@@ -2052,31 +2061,55 @@ struct Scenario {
 fn run(mut scenario: Scenario, mut watch: Option<Watch>) -> Result<String, Fault> {
     let mut world = World::new(Params::new(&scenario.bus)?, &scenario.taps)?;
     let mut text = String::new();
-    loop {
-        let now = world.now;
-        while let Some((_, event)) = scenario.steps.pop_front_if(|(at, _)| *at <= now) {
-            happens(&mut world, &mut watch, &event)?;
-        }
-        let mut next = scenario.until;
-        for tap in 0..world.taps.len() {
-            let mut due = world.due(tap);
-            if due.is_some_and(|due| due <= now) {
-                happens(&mut world, &mut watch, &Event::Turn(tap))?;
-                due = world.due(tap);
-            }
-            next = due.filter(|due| *due > now).map_or(next, |due| due.min(next));
-        }
-        if now >= scenario.until {
-            break;
-        }
-        let step = scenario.steps.front().map(|(at, _)| *at);
-        next = world.next_change().into_iter().chain(step).fold(next, u64::min);
-        happens(&mut world, &mut watch, &Event::Pass(next - now))?;
-    }
+    while instant(&mut scenario, &mut world, &mut watch)? {}
     match watch {
         Some(watch) => push_found(&mut text, &Finding { premise: watch.broken, illegal: first_illegal(&world) }),
         None => push_trace(&mut text, &world),
     }
+    Ok(text)
+}
+
+/// Plays the instant that it is, and lets time pass to the next one; whether there is one.
+fn instant(scenario: &mut Scenario, world: &mut World, watch: &mut Option<Watch>) -> Result<bool, Fault> {
+    let now = world.now;
+    while let Some((_, event)) = scenario.steps.pop_front_if(|(at, _)| *at <= now) {
+        happens(world, watch, &event)?;
+    }
+    let mut next = scenario.until;
+    for tap in 0..world.taps.len() {
+        let mut due = world.due(tap);
+        if due.is_some_and(|due| due <= now) {
+            happens(world, watch, &Event::Turn(tap))?;
+            due = world.due(tap);
+        }
+        next = due.filter(|due| *due > now).map_or(next, |due| due.min(next));
+    }
+    if now >= scenario.until {
+        return Ok(false);
+    }
+    let step = scenario.steps.front().map(|(at, _)| *at);
+    next = world.next_change().into_iter().chain(step).fold(next, u64::min);
+    happens(world, watch, &Event::Pass(next - now))?;
+    Ok(true)
+}
+
+/// Plays a scenario, and writes the lines of its trace as they settle: as soon as a block of entries is over.
+fn stream(mut scenario: Scenario) -> Result<String, Fault> {
+    let mut world = World::new(Params::new(&scenario.bus)?, &scenario.taps)?;
+    let mut output = io::stdout().lock();
+    let mut text = String::new();
+    while instant(&mut scenario, &mut world, &mut None)? {
+        if world.over >= BLOCK {
+            push_entries(&mut text, &world, world.over);
+            if output.write_all(text.as_bytes()).is_err() {
+                return Err(Fault::List("write fault".into()));
+            }
+            text.clear();
+            world.trace.drain(..world.over);
+            world.over = 0;
+        }
+    }
+    push_trace(&mut text, &world);
     Ok(text)
 }
 

@@ -53,8 +53,8 @@ fn is_blank(byte: u8) -> bool
     byte == b' ' || byte == b'\t'
 }
 
-/// The character that two bytes spell: an octet or a damaged character.
-fn character(first: u8, second: u8) -> Option<RxChar>
+/// The character that two bytes of a line of hex spell: an octet, by digits of either case, or by `--` a damaged one.
+pub fn character(first: u8, second: u8) -> Option<RxChar>
     ensures { result ≡ character_of first second }
 {
     match octet(first, second) {

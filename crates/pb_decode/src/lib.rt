@@ -9,7 +9,7 @@ mod laws;
 mod lines;
 mod texts;
 
-pub use characters::feed_characters;
+pub use characters::{character, feed_characters};
 pub use laws::spelled_text_is_the_telegrams;
 pub use lines::{Decoded, decode};
 pub use texts::{push_fault, push_telegram};

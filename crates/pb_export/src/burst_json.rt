@@ -1,10 +1,10 @@
 //! A burst of a capture as a JSON object, a line.
 
-ghost use Rattle.std.specs.Prelude.{◌≡◌, ◌++◌, OnOk, decimal};
+ghost use Rattle.std.specs.Prelude.{◌≡◌, ◌++◌, OnOk};
 ghost use Rattle.std.specs.List.{flat_map};
 ghost use Rattle.pb_export.specs.BurstJson as json;
 
-use crate::bursts::is_damaged;
+use crate::bursts::{is_damaged, push_address};
 use crate::json::{push_params, push_span, push_telegram};
 use crate::pieces::{Piece, push_pieces};
 use crate::words::truth;
@@ -93,16 +93,6 @@ fn push_holder(text: &mut Vec<u8>, holder: Option<Holder>) -> Result<(), AllocEr
         Some(Holder::Nobody) => text.extend_from_slice(b",\"holder\":\"nobody\""),
         Some(Holder::Unknown) => text.extend_from_slice(b",\"holder\":\"unknown\""),
     }
-}
-
-/// Appends words and an address.
-fn push_address(text: &mut Vec<u8>, words: &[u8], address: u8) -> Result<(), AllocError>
-    ensures { OnOk result (text.new.items ≡ text.old.items ++ (words.now ++ decimal address)) }
-{
-    push_pieces(
-        text,
-        &[Piece::Text(words), Piece::Number(u64::from(address))],
-    )
 }
 
 /// Appends what is wrong with a telegram.

@@ -1,9 +1,9 @@
 //! A burst of a capture as a packet, in pcap or, with a comment, in pcapng.
 
-ghost use Rattle.std.specs.Prelude.{◌≡◌, ◌<◌, ◌≤◌, ◌++◌, OnOk, decimal, length};
+ghost use Rattle.std.specs.Prelude.{◌≡◌, ◌<◌, ◌≤◌, ◌++◌, OnOk, length};
 ghost use Rattle.pb_export.specs.BurstPackets as packets;
 
-use crate::bursts::{is_damaged, known_octets};
+use crate::bursts::{is_damaged, known_octets, push_address};
 use crate::pcap::push_octets;
 use crate::pcapng::{LONGEST_COMMENT, push_block};
 use crate::pieces::{Piece, push_pieces};
@@ -127,16 +127,6 @@ fn push_holder(text: &mut Vec<u8>, holder: Option<Holder>) -> Result<(), AllocEr
         Some(Holder::Nobody) => text.extend_from_slice(b", nobody"),
         Some(Holder::Unknown) => text.extend_from_slice(b", unknown"),
     }
-}
-
-/// Appends words and an address.
-pub(crate) fn push_address(text: &mut Vec<u8>, words: &[u8], address: u8) -> Result<(), AllocError>
-    ensures { OnOk result (text.new.items ≡ text.old.items ++ (words.now ++ decimal address)) }
-{
-    push_pieces(
-        text,
-        &[Piece::Text(words), Piece::Number(u64::from(address))],
-    )
 }
 
 /// Appends what is wrong with a telegram.

@@ -122,7 +122,6 @@ impl Monitor {
         self.kept.end(Known {
             span: None,
             count: octets.len() as u64,
-            before: None,
             holder: None,
             alarm: None,
         })

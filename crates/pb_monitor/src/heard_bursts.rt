@@ -1,15 +1,11 @@
 //! Bursts as a monitor hands them on, for exports.
 
-ghost use Rattle.std.specs.Prelude.{◌≡◌, ◌<◌, IfSome};
-ghost use Rattle.hex.specs.Hex.{hex_digit_value};
-ghost use Rattle.pb_decode.specs.Characters.{character_of};
-
 use crate::alarms::Alarm;
-use crate::holders::{Holder, named_holder};
-use crate::states::{State, live};
+use crate::holders::Holder;
 use arrayvec::ArrayVec;
+use pb_decode::character;
 use pb_telegram::RxChar;
-use pb_timers::{BusParams, CHARACTER_BITS};
+use pb_timers::CHARACTER_BITS;
 use std::alloc::{AllocError, Global};
 use std::mem::replace;
 
@@ -19,15 +15,6 @@ pub const MOST_CHARACTERS: usize = 256;
 
 /// How many bit times a bus is idle between two bursts without moments: as long as before a request, at least.
 const IDLE: u64 = 33;
-
-/// Who may send tokens and requests just before a burst.
-#[derive(Clone, Copy, Debug, PartialEq, Eq)]
-pub struct Named {
-    /// Who may.
-    pub holder: Holder,
-    /// Until when the one was named who was named behind the burst before, in bit times: at most the begin of this burst.
-    pub since: u64,
-}
 
 /// A burst that a monitor has heard, and what it knew then.
 #[derive(Clone, Debug, PartialEq, Eq, Drop)]
@@ -42,8 +29,6 @@ pub struct HeardBurst {
     pub chars: ArrayVec<RxChar, MOST_CHARACTERS>,
     /// How many characters it has.
     pub count: u64,
-    /// Who may send tokens and requests just before it, if that is judged and something was heard before.
-    pub before: Option<Named>,
     /// Who may send tokens and requests behind it, if that is judged.
     pub holder: Option<Holder>,
     /// What is wrong with its telegram.
@@ -57,7 +42,6 @@ pub(crate) struct Known {
     pub(crate) span: Option<(u64, u64)>,
     /// How many characters it has.
     pub(crate) count: u64,
-    pub(crate) before: Option<Named>,
     pub(crate) holder: Option<Holder>,
     pub(crate) alarm: Option<Alarm>,
 }
@@ -74,6 +58,8 @@ pub(crate) struct Kept {
 }
 
 impl Kept {
+    ghost use Rattle.std.specs.Prelude.{◌≡◌, [], true};
+
     /// None is wanted.
     pub(crate) fn new(alloc: Global) -> Kept {
         Kept {
@@ -85,7 +71,9 @@ impl Kept {
     }
 
     /// From now on they are wanted.
-    pub(crate) fn want(&mut self) {
+    pub(crate) fn want(&mut self)
+        ensures { self.new ≡ record self.old { is_wanted = true } }
+    {
         self.is_wanted = true;
     }
 
@@ -95,12 +83,16 @@ impl Kept {
     }
 
     /// Those that were not handed on yet.
-    pub(crate) fn bursts(&self) -> &[HeardBurst] {
+    pub(crate) fn bursts(&self) -> &[HeardBurst]
+        ensures { result.now ≡ self.now.bursts.items }
+    {
         &self.bursts
     }
 
     /// All were handed on.
-    pub(crate) fn clear(&mut self) {
+    pub(crate) fn clear(&mut self)
+        ensures { self.new.bursts.items ≡ [] }
+    {
         self.bursts.clear();
     }
 
@@ -121,7 +113,9 @@ impl Kept {
             if self.chars.is_full() {
                 return;
             }
-            self.note(character(hex[2 * place], hex[2 * place + 1]));
+            if let Some(char) = character(hex[2 * place], hex[2 * place + 1]) {
+                self.note(char);
+            }
         }
     }
 
@@ -138,7 +132,6 @@ impl Kept {
         let Known {
             span,
             count,
-            before,
             holder,
             alarm,
         } = known;
@@ -150,7 +143,6 @@ impl Kept {
             is_timed: span.is_some(),
             chars: replace(&mut self.chars, ArrayVec::new()),
             count,
-            before,
             holder,
             alarm,
         })?;
@@ -167,50 +159,7 @@ impl Kept {
     }
 }
 
-/// Who may send tokens and requests just before a burst that begins at a moment.
-pub(crate) fn named_before(params: &BusParams, slack: u32, state: State, begin: u64) -> Named {
-    Named {
-        holder: named_holder(params, slack, state, begin),
-        since: named_until(params, slack, state).min(begin),
-    }
-}
-
-/// Until when the one is named who is named behind the last burst, if nothing more is heard.
-fn named_until(params: &BusParams, slack: u32, state: State) -> u64 {
-    let silence = state.quiet.saturating_add(live(params, slack));
-    match state.last {
-        Some(last) if last.offered.is_some() => {
-            let slot = last.end.saturating_add(u64::from(params.tsl()));
-            slot.saturating_sub(u64::from(slack)).min(silence)
-        }
-        _ => silence,
-    }
-}
-
 /// How long so many characters take, in bit times.
 pub(crate) fn bits(count: u64) -> u64 {
     CHARACTER_BITS.saturating_mul(count)
-}
-
-/// The character that two bytes of valid hex spell.
-fn character(high: u8, low: u8) -> RxChar
-    ensures { IfSome (character_of high low) (λ char. result ≡ char) }
-{
-    match (digit(high), digit(low)) {
-        (Some(high), Some(low)) => RxChar::Good(high * 16 + low),
-        _ => RxChar::Bad,
-    }
-}
-
-/// The value of a hex digit of either case.
-fn digit(byte: u8) -> Option<u8>
-    ensures value { result ≡ hex_digit_value byte }
-    ensures bound { IfSome result (λ value. value < 16) }
-{
-    match byte {
-        0..=b'9' => byte.checked_sub(b'0'),
-        b'a'..=b'f' => Some(byte - b'a' + 10),
-        b'A'..=b'F' => Some(byte - b'A' + 10),
-        _ => None,
-    }
 }

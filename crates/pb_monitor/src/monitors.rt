@@ -6,7 +6,7 @@ use crate::buffers::LineBuffer;
 use crate::bursts::Burst;
 use crate::cutting::Cutter;
 use crate::formats::{Form, Options};
-use crate::heard_bursts::{HeardBurst, Kept, Known, Named, named_before};
+use crate::heard_bursts::{HeardBurst, Kept, Known, bits};
 use crate::judges::Judge;
 use crate::lines::{Line, LineFault, Told, When, read_line, tell};
 use crate::meanings::{Meaning, meaning_in};
@@ -20,7 +20,7 @@ use crate::summaries::{push_summary, push_text};
 use crate::texts::push_number;
 use bstr::ByteSlice;
 use pb_telegram::Receiver;
-use pb_timers::{BusParams, CHARACTER_BITS};
+use pb_timers::BusParams;
 use std::alloc::{AllocError, Global};
 
 /// Reads a capture as it comes, in constant memory: answers each burst with a line, judges it, and keeps statistics.
@@ -51,6 +51,8 @@ pub struct Monitor {
 }
 
 impl Monitor {
+    ghost use Rattle.std.specs.Prelude.{◌≡◌, [], true};
+
     /// A monitor of a bus with these parameters. Without parameters it decodes and counts, and judges nothing.
     ///
     /// Fault: memory was refused.
@@ -111,17 +113,23 @@ impl Monitor {
     }
 
     /// From now on bursts are handed on, in place of a line for each and a summary.
-    pub fn hand_on(&mut self) {
+    pub fn hand_on(&mut self)
+        ensures { self.new ≡ record self.old { kept = record self.old.kept { is_wanted = true } } }
+    {
         self.kept.want();
     }
 
     /// The bursts that were heard since the last call of [`clear_heard`](Monitor::clear_heard), if they are handed on.
-    pub fn heard(&self) -> &[HeardBurst] {
+    pub fn heard(&self) -> &[HeardBurst]
+        ensures { result.now ≡ self.now.kept.bursts.items }
+    {
         self.kept.bursts()
     }
 
     /// Forgets the bursts that were handed on.
-    pub fn clear_heard(&mut self) {
+    pub fn clear_heard(&mut self)
+        ensures { self.new.kept.bursts.items ≡ [] }
+    {
         self.kept.clear();
     }
 
@@ -202,7 +210,7 @@ impl Monitor {
 
     /// How long the characters of the receiver take, in bit times.
     pub(crate) fn receiver_bits(&self) -> u64 {
-        CHARACTER_BITS.saturating_mul(self.receiver.fed())
+        bits(self.receiver.fed())
     }
 
     // ---- bursts
@@ -250,17 +258,12 @@ impl Monitor {
             telegram: self.receiver.answer(),
         };
         self.statistics.hear(&burst);
-        let before = if self.kept.is_wanted() {
-            self.named_before(begin)
-        } else {
-            None
-        };
         let raised = self.judge(&burst);
         if self.is_told() {
             self.push_burst(&burst, text)?;
         }
         if self.kept.is_wanted() {
-            self.keep(&burst, before, raised.as_ref())?;
+            self.keep(&burst, raised.as_ref())?;
         }
         if let Some(raised) = raised {
             self.tell_alarm(&raised, begin, text)?;
@@ -294,21 +297,9 @@ impl Monitor {
         self.options.summary.is_none() && !self.kept.is_wanted()
     }
 
-    /// Who may send tokens and requests just before a burst that begins at a moment.
-    fn named_before(&self, begin: u64) -> Option<Named> {
-        let params = self.params.as_ref()?;
-        let judge = self.judge.as_ref()?;
-        Some(named_before(params, self.options.slack, judge.state(), begin))
-    }
-
     /// Keeps a burst with moments, to hand it on.
     #[inline(never)]
-    fn keep(
-        &mut self,
-        burst: &Burst,
-        before: Option<Named>,
-        raised: Option<&Raised>,
-    ) -> Result<(), AllocError> {
+    fn keep(&mut self, burst: &Burst, raised: Option<&Raised>) -> Result<(), AllocError> {
         let holder = match &self.judge {
             Some(judge) => Some(judge.holder(burst.end)),
             None => None,
@@ -316,7 +307,6 @@ impl Monitor {
         self.kept.end(Known {
             span: Some((burst.begin, burst.end)),
             count: self.receiver.fed(),
-            before,
             holder,
             alarm: raised.map(|raised| raised.alarm),
         })
@@ -384,7 +374,6 @@ impl Monitor {
             let known = Known {
                 span: None,
                 count: self.receiver.fed(),
-                before: None,
                 holder: None,
                 alarm: raised.map(|wrong| wrong.alarm),
             };

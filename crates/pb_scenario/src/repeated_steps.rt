@@ -18,7 +18,7 @@ use crate::fields::Fields;
 use crate::files::item;
 use crate::keys::{Key, Section};
 use crate::repeats::Repeat;
-use crate::steps::{MOST_STEPS, keys_of, step_by, word};
+use crate::steps::{MOST_STEPS, keys_of, repeated_keys_of, step_by, word};
 use crate::words::Word;
 use indexmap::IndexSet;
 use std::alloc::{AllocError, Global};
@@ -26,50 +26,6 @@ use toml::Value;
 
 /// The longest time after which a step repeats, in bit times, and the most often that it says it happens.
 const MOST: u64 = 9_223_372_036_854_775_807;
-
-const POWER_KEYS: [Key; 5] = [Key::At, Key::Do, Key::Tap, Key::Every, Key::Count];
-
-const QUEUE_KEYS: [Key; 9] = [
-    Key::At,
-    Key::Do,
-    Key::Tap,
-    Key::Service,
-    Key::To,
-    Key::High,
-    Key::Unit,
-    Key::Every,
-    Key::Count,
-];
-
-const DAMAGE_KEYS: [Key; 7] = [
-    Key::At,
-    Key::Do,
-    Key::Tap,
-    Key::Speaker,
-    Key::Place,
-    Key::Every,
-    Key::Count,
-];
-
-const NOISE_KEYS: [Key; 5] = [Key::At, Key::Do, Key::Bits, Key::Every, Key::Count];
-
-const UNHEARD_KEYS: [Key; 6] = [
-    Key::At,
-    Key::Do,
-    Key::Tap,
-    Key::Speaker,
-    Key::Every,
-    Key::Count,
-];
-
-const WITHHOLD_KEYS: [Key; 6] = [
-    Key::At,
-    Key::Do,
-    Key::Tap,
-    Key::Bits,
-    Key::Every,
-    Key::Count,
-];
 
 /// Steps, and how each repeats.
 #[derive(Drop)]
@@ -184,19 +140,5 @@ fn keys_in(fields: Fields<'_>, word: Word) -> &'static [Key]
     match fields.find(Key::Every) {
         Some(_) => repeated_keys_of(word),
         None => keys_of(word),
-    }
-}
-
-/// The keys of a step with this word that repeats.
-fn repeated_keys_of(word: Word) -> &'static [Key]
-    ensures { result.now ≡ files.repeated_keys word }
-{
-    match word {
-        Word::Start | Word::Stop => &POWER_KEYS,
-        Word::Queue => &QUEUE_KEYS,
-        Word::Damage => &DAMAGE_KEYS,
-        Word::Noise => &NOISE_KEYS,
-        Word::Unheard => &UNHEARD_KEYS,
-        Word::Withhold => &WITHHOLD_KEYS,
     }
 }

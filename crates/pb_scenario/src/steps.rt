@@ -13,6 +13,7 @@ ghost use Rattle.pb_scenario.specs.Scenarios.{names_of};
 ghost use Rattle.pb_scenario.specs.Fields.{Answers, meant};
 ghost use Rattle.pb_scenario.specs.Tables.{members};
 ghost use Rattle.pb_scenario.specs.Files as files;
+ghost use Rattle.pb_scenario.specs.StreamFiles.{repeated_keys};
 
 use crate::deeds::{Deed, Step};
 use crate::faults::ScenarioFault;
@@ -29,9 +30,9 @@ use toml::Value;
 /// The most steps of a scenario.
 pub(crate) const MOST_STEPS: usize = 10_000;
 
-const POWER_KEYS: [Key; 3] = [Key::At, Key::Do, Key::Tap];
+const POWER_KEYS: [Key; 5] = [Key::At, Key::Do, Key::Tap, Key::Every, Key::Count];
 
-const QUEUE_KEYS: [Key; 7] = [
+const QUEUE_KEYS: [Key; 9] = [
     Key::At,
     Key::Do,
     Key::Tap,
@@ -39,15 +40,39 @@ const QUEUE_KEYS: [Key; 7] = [
     Key::To,
     Key::High,
     Key::Unit,
+    Key::Every,
+    Key::Count,
 ];
 
-const DAMAGE_KEYS: [Key; 5] = [Key::At, Key::Do, Key::Tap, Key::Speaker, Key::Place];
+const DAMAGE_KEYS: [Key; 7] = [
+    Key::At,
+    Key::Do,
+    Key::Tap,
+    Key::Speaker,
+    Key::Place,
+    Key::Every,
+    Key::Count,
+];
 
-const NOISE_KEYS: [Key; 3] = [Key::At, Key::Do, Key::Bits];
+const NOISE_KEYS: [Key; 5] = [Key::At, Key::Do, Key::Bits, Key::Every, Key::Count];
 
-const UNHEARD_KEYS: [Key; 4] = [Key::At, Key::Do, Key::Tap, Key::Speaker];
+const UNHEARD_KEYS: [Key; 6] = [
+    Key::At,
+    Key::Do,
+    Key::Tap,
+    Key::Speaker,
+    Key::Every,
+    Key::Count,
+];
 
-const WITHHOLD_KEYS: [Key; 4] = [Key::At, Key::Do, Key::Tap, Key::Bits];
+const WITHHOLD_KEYS: [Key; 6] = [
+    Key::At,
+    Key::Do,
+    Key::Tap,
+    Key::Bits,
+    Key::Every,
+    Key::Count,
+];
 
 /// The steps that a list describes, on taps with these names.
 #[tactic(auto, unfolding(crate::specs::Files::items_from))]
@@ -144,9 +169,17 @@ fn deed_in(fields: Fields<'_>, names: &IndexSet<String>, word: Word) -> Result<D
     })
 }
 
-/// The keys of a step with this word.
+/// The keys of a step with this word that doesn't repeat.
 pub(crate) fn keys_of(word: Word) -> &'static [Key]
     ensures { result.now ≡ step_keys word }
+{
+    let keys = repeated_keys_of(word);
+    &keys[..keys.len() - 2]
+}
+
+/// The keys of a step with this word that may repeat: the last two say how often.
+pub(crate) fn repeated_keys_of(word: Word) -> &'static [Key]
+    ensures { result.now ≡ repeated_keys word }
 {
     match word {
         Word::Start | Word::Stop => &POWER_KEYS,

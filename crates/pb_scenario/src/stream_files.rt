@@ -33,9 +33,9 @@ const LAST_STREAM_END: u64 = 1_000_000_000_000;
 /// The version of files whose steps may repeat.
 const REPEATING: i64 = 3;
 
-/// Reads the scenario that a TOML file of version 1, 2 or 3 describes. Versions 1 and 2 are as [`read`](crate::read)
-/// says, and no step repeats. In version 3 all is as in version 2, but that a step may repeat, a name has up to 32
-/// letters, digits, `-` and `_`, and the end is at most 10^12.
+/// Reads the scenario that a TOML file of version 1, 2 or 3 describes. Files of versions 1 and 2 mean what
+/// [`read`](crate::read) says. Version 3 adds to version 2: a step may repeat, a name has up to 32 letters, digits,
+/// `-` and `_`, and the end is at most 10^12.
 ///
 /// Faults: `NotToml` if the file is not TOML in UTF-8; else the first that applies, in the order that [`ScenarioFault`]
 /// describes: `BadVersion`, `Missing`, `BadKind`, `BadValue`, `Unknown`, `Twice`, `NoSuchName`, `StepOrder`, `Params`

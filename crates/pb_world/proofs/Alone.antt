@@ -60,15 +60,15 @@ one-stopped now old new e fault watched stays why = record {
   rest = [];
   cut = refl;
   happened = record {
-    world = ap (λ (w : World). Ok w) (sym stays.world);
+    world = ap (λ (w : World). Ok w) (sym stays.rest.world);
     comes = record {
-      acts = λ start actions came. subst (HasActed new start) (sym (append-nil actions)) (stays.came start actions came);
-      runs = sym stays.world;
+      acts = λ start actions came. subst (HasActed new start) (sym (append-nil actions)) (stays.rest.came start actions came);
+      runs = sym stays.rest.world;
       told = λ k. stays.told k ∙ sym (tray-none (tray_at old.told k));
     };
     watched = watched;
   };
-  why = subst (λ (w : World). Refuses w e (step w e) fault) (sym stays.world) why;
+  why = subst (λ (w : World). Refuses w e (step w e) fault) (sym stays.rest.world) why;
 }
 
 -- an event that is applied is played

@@ -1,8 +1,7 @@
 -- A bus whose past was let go, and the world in which that still stands.
-use Rattle.std.proofs.Common.{◌≡◌, ◌∙◌, ap, sym, subst, refl, arith, length-append, ℕ, ◌+◌, ◌≤◌, ◌<◌, ◌||◌, List, [], ◌∷◌, ◌++◌, length, get_or, Bool, false, if◌then◌else◌, Result, Ok}
-use Rattle.law_model.specs.Trace.{Entry, Sent, Noise, entry_begin, entry_end}
+use Rattle.std.proofs.Common.{◌≡◌, ◌∙◌, ap, sym, subst, refl, arith, length-append, ℕ, ◌+◌, ◌≤◌, ◌||◌, List, [], ◌∷◌, ◌++◌, length, get_or, Bool, if◌then◌else◌, Result, Ok}
+use Rattle.law_model.specs.Trace.{Entry}
 use Rattle.law_model.specs.World.{World, Event, Pass, Reply}
-use Rattle.law_model.specs.Medium.{reaches_taps}
 use Rattle.law_model.specs.Step.{step}
 use Rattle.law_model.specs.Behind.{behind, all_behind, IsPast}
 use Rattle.law_model.specs.Laws.{AllBegun, AllOver, AllFrom, IsSound}

@@ -1,6 +1,6 @@
 -- A watched bus comes on by events.
-use Rattle.std.proofs.Common.{◌≡◌, ◌∙◌, ap, sym, subst, refl, List, [], ◌∷◌, ◌++◌, None, Ok}
-use Rattle.law_model.specs.World.{World, Event, Reply}
+use Rattle.std.proofs.Common.{◌≡◌, ◌∙◌, ap, sym, subst, refl, [], ◌∷◌, ◌++◌, None, Ok}
+use Rattle.law_model.specs.World.{Event, Reply}
 use Rattle.law_model.specs.Step.{step}
 use Rattle.law_model.specs.Laws.{IsEvent}
 use Rattle.law_runs.specs.Premises.{Course}
@@ -9,9 +9,14 @@ use Rattle.law_runs.proofs.Watching.{stands-new}
 use Rattle.law_live.specs.Promises.{LeadTo}
 use Rattle.law_live.proofs.Promising.{run_leads_on}
 use Rattle.pb_world.specs.Premises.{watched_of, course_at, GoesOn}
-use Rattle.pb_world.specs.Watched.{GoesOnBy, HasCome, IsWatched, world_in}
+use Rattle.pb_world.specs.Watched.{GoesOnBy, HasCome, IsFollowed, IsWatched, world_in}
 use Rattle.pb_world.specs.declared.watched.Watched.{Watched}
+use Rattle.pb_world.proofs.Behind.{plain-known}
 use Rattle.pb_world.proofs.Premising.{course-more, world-followed}
+
+-- one of whose past nothing was let go
+pub watched-followed : (w : Watched) → IsWatched w → IsFollowed w
+watched-followed w watched = record { kept = watched.kept; knows = plain-known w.watch w.bus watched.knows }
 
 -- to a new one nothing has happened
 pub comes-new : (w : Watched) → IsWatched w → LeadTo (world_in w) [] (world_in w) → watched_of w.watch ≡ record { waited = None; broken = None } → HasCome w (world_in w) []

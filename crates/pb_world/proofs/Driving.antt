@@ -16,7 +16,7 @@ use Rattle.pb_taps.specs.declared.faults.WorldFault.{WorldFault}
 use Rattle.pb_world.specs.Buses.{IsKept}
 use Rattle.pb_world.specs.Acted.{ActsOnBy, course_from}
 use Rattle.pb_world.specs.Data.{SetsData}
-use Rattle.pb_world.specs.Driven.{Applies, ComesOn, SetsReply, Stays, StaysBut}
+use Rattle.pb_world.specs.Driven.{Applies, ComesOn, KeepsSame, SetsReply, Stays, StaysBut}
 use Rattle.pb_world.specs.Told.{executed_by, tray_at, tray_with}
 use Rattle.pb_world.specs.Premises.{GoesOn, Knows, time_in, watched_of}
 use Rattle.pb_world.specs.Watched.{IsWatched, world_in}
@@ -55,8 +55,8 @@ same-watch old new world watch kept watched =
     )
 
 -- and nothing more is kept
-pub same-told : (old new : Watched) → StaysBut old new → ((k : ℕ) → tray_at new.told k ≡ tray_at old.told k) → Stays old new
-same-told old new stays same = record { world = stays.world; came = stays.came; told = same }
+pub same-told : (old new : Watched) → StaysBut old new → KeepsSame old new → Stays old new
+same-told old new stays same = record { rest = stays; told = same }
 
 -- an event leads on, and what is executed in it is kept
 pub comes-one : (old new : Watched) (e : Event) (reply : Reply) → step (world_in old) e ≡ Ok (world_in new, reply) → ActsOnBy old (Happens e) new
@@ -68,7 +68,7 @@ pub applies-so : (old new : Watched) (e : Event) (r : Result (Unit {0}) WorldFau
     → OnOk r ((reply : Reply) × (step (world_in old) e ≡ Ok (world_in new, reply))) → OnOk r (Knows new.watch (world_in new)) → OnOk r (GoesOn old.watch (world_in old) e new.watch)
     → IfErr r (λ fault. (world_in new ≡ world_in old) × Refuses (world_in old) e (step (world_in old) e) fault) → OnErr r (time_in e ≡ None → new.watch ≡ old.watch)
     → OnOk r ((k : ℕ) → tray_at new.told k ≡ tray_with (executed_by (world_in old) (e ∷ []) k) (tray_at old.told k))
-    → OnErr r ((k : ℕ) → tray_at new.told k ≡ tray_at old.told k)
+    → OnErr r (KeepsSame old new)
     → Applies old e r new × IsWatched new
 applies-so old new e (Ok done) none watched kept is steps knows stands err stays told same =
     let now : IsWatched new = record { kept = kept; knows = knows } in
@@ -79,7 +79,7 @@ applies-so old new e (Err fault) none watched kept is steps knows stands err sta
 
 -- an event in which nothing is executed that is asked for
 pub told-so : (old new : Watched) (e : Event) (r : Result (Unit {0}) WorldFault) → new.told ≡ old.told → IsUntold (world_in old) old.told e
-    → OnOk r ((k : ℕ) → tray_at new.told k ≡ tray_with (executed_by (world_in old) (e ∷ []) k) (tray_at old.told k)) × OnErr r ((k : ℕ) → tray_at new.told k ≡ tray_at old.told k)
+    → OnOk r ((k : ℕ) → tray_at new.told k ≡ tray_with (executed_by (world_in old) (e ∷ []) k) (tray_at old.told k)) × OnErr r (KeepsSame old new)
 told-so old new e (Ok done) same none = (λ k. ap (λ t. tray_at t k) same ∙ one-told (world_in old) old.told e none k, tt)
 told-so old new e (Err fault) same none = (tt, λ k. ap (λ t. tray_at t k) same)
 
@@ -99,5 +99,5 @@ sets-so old new tap unit (Ok done) watched kept watch told fits sets =
     )
 sets-so old new tap unit (Err fault) watched kept watch told fits sets =
     let same = same-watch old new sets.0 watch kept watched in
-    let kept_same : (k : ℕ) → tray_at new.told k ≡ tray_at old.told k = λ k. ap (λ t. tray_at t k) told in
+    let kept_same : KeepsSame old new = λ k. ap (λ t. tray_at t k) told in
     (record { sets = sets; acts = tt; stays = same-told old new same.1 kept_same; told = kept_same }, same.0)

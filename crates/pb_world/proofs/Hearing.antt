@@ -1,5 +1,5 @@
 -- What a judge keeps of the entries on the bus.
-use Rattle.std.proofs.Common.{◌≡◌, ◌∙◌, ap, sym, refl, arith, ℕ, zero, suc, ◌⊎◌, ⊎_elim, ◌+◌, ◌-◌, ◌<◌, ◌≤◌, ◌==◌, ◌&&◌, ◌||◌, not, ◌++◌, List, [], ◌∷◌, length, map, get_or, drop, take, replicate, subst, Bool, true, false, nat_lt, nat_le, if◌then◌else◌, Option, Some, None}
+use Rattle.std.proofs.Common.{◌≡◌, ◌∙◌, ap, sym, refl, arith, ℕ, zero, suc, ⊎_elim, ◌+◌, ◌-◌, ◌<◌, ◌≤◌, ◌==◌, ◌&&◌, ◌||◌, not, List, [], ◌∷◌, length, map, get_or, replicate, Bool, true, false, nat_lt, nat_le, if◌then◌else◌, Option, Some, None}
 use Rattle.std.specs.Prelude.{slice_get, slice_set}
 use Rattle.std.proofs.lemmas.Bool.{lt-ltb, le-ltb, le-leb, lt-leb, eqb-true, eqb-false, ne_eqb, cases_lt}
 use Rattle.std.proofs.lemmas.List.{get_or-set_same, get_or-set_other}
@@ -14,7 +14,6 @@ use Rattle.pb_world.specs.Judges.{IsLast, IsLastOf, addresses_in}
 use Rattle.pb_world.specs.declared.last_heard.LastHeard.{LastHeard}
 use Rattle.pb_taps.specs.Taps.{spec_of}
 use Rattle.pb_taps.specs.declared.taps.TapSpec as declared
-use Rattle.std.proofs.lemmas.List.{length-map}
 use Rattle.law_model.specs.Trace.{Record, Entry}
 use Rattle.law_model.specs.Medium.{TapSpec, reaches_taps}
 use Rattle.law_streams.specs.Judgement.{ends_with, ends_by, recent_at}

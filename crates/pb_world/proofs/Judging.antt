@@ -14,7 +14,7 @@ use Rattle.pb_timers.specs.Timers.{Params}
 use Rattle.pb_medium.specs.Airs.{air, IsCut}
 use Rattle.pb_medium.proofs.Widening.{widened, pass-whole}
 use Rattle.pb_world.specs.Clocks.{CanPass, IsFault}
-use Rattle.law_model.specs.World.{World, Event, Reply, Fault, NotRunning, TraceFull, Pass, Turn, Start, Stop, Queue, trace_limit, unless}
+use Rattle.law_model.specs.World.{World, Event, Reply, Fault, NotRunning, TraceFull, Pass, Turn, Start, Stop, Queue, unless}
 use Rattle.pb_medium.specs.Traces.{over_of, recent_of}
 use Rattle.pb_taps.specs.Faults.{Refuses}
 use Rattle.pb_taps.specs.Queueing.{RefusesQueue}

@@ -1,5 +1,5 @@
 -- The longest stretch of a tap, event by event.
-use Rattle.std.proofs.Common.{◌≡◌, ◌∙◌, ap, sym, subst, refl, arith, ℕ, zero, suc, ◌+◌, ◌-◌, ◌<◌, ◌≤◌, ◌&&◌, ◌⊎◌, inl, inr, ⊎_elim, nat_lt, nat_le, not, max, min, List, [], ◌∷◌, ◌++◌, length, map, Bool, true, false, if◌then◌else◌, Option, Some, None, Result, Ok}
+use Rattle.std.proofs.Common.{◌≡◌, ◌∙◌, ap, sym, subst, refl, arith, ℕ, zero, suc, ◌+◌, ◌-◌, ◌<◌, ◌≤◌, ◌&&◌, ◌⊎◌, inl, inr, ⊎_elim, nat_lt, not, max, List, [], ◌∷◌, ◌++◌, length, Bool, true, false, if◌then◌else◌, Option, Some, None, Result, Ok}
 use Rattle.std.specs.Prelude.{slice_get, slice_set, get_or, take, drop, replicate, ◌==◌, IfSome, Err, OnOk}
 use Rattle.std.specs.List.{list_any}
 use Rattle.std.specs.Option.{option_map}
@@ -11,15 +11,13 @@ use Rattle.pb_timers.specs.Timers.{Params}
 use Rattle.law_turn.specs.Phases.{is_offline}
 use Rattle.law_model.specs.Medium.{TapSpec, Tap}
 use Rattle.law_model.specs.World.{World, Event, Pass, Reply, Fault, new_world}
-use Rattle.law_model.specs.Step.{step, RunsTo, replay, world_after}
+use Rattle.law_model.specs.Step.{step, RunsTo, world_after}
 use Rattle.law_model.specs.Laws.{IsEvent, AreEvents}
 use Rattle.law_model.proofs.Worlds.{later-replay}
-use Rattle.law_runs.specs.Headline.{specs_of}
 use Rattle.law_runs.specs.Premises.{first_broken}
-use Rattle.law_token.specs.Promises.{HasRun, IsMasterAt}
 use Rattle.law_token.specs.Runs.{SameBus}
 use Rattle.law_token.proofs.whole.JoinedRuns.{runs_part, runs_same, unbroken_before}
-use Rattle.law_live.specs.NeverDead.{longest_without, has_token_since}
+use Rattle.law_live.specs.NeverDead.{longest_without}
 use Rattle.law_live.specs.Promises.{LeadTo}
 use Rattle.law_live.proofs.Promising.{kept_promises, run_leads_on}
 use Rattle.pb_world.specs.Buses.{world_of, Does, IsKept}
@@ -29,7 +27,7 @@ use Rattle.pb_world.specs.Premises.{time_in}
 use Rattle.pb_world.specs.declared.stretches.LongestSoFar.{LongestSoFar}
 use Rattle.pb_world.specs.declared.longest.LongestStretches.{LongestStretches}
 use Rattle.pb_world.specs.declared.stretches.Stretch.{Stretch}
-use Rattle.pb_world.specs.Liveness.{AreLonger, AreStretches, KeepsBounds, longest_at, IsStretch, HasStretch, IsLongest, IsLongestOf, calm_after, ends_within, stretch_of, longer}
+use Rattle.pb_world.specs.Liveness.{AreLonger, AreStretches, KeepsBounds, longest_at, IsStretch, HasStretch, IsLongestOf, calm_after, ends_within, stretch_of, longer}
 use Rattle.pb_world.proofs.Stretching.{Stays, stays, stretch-back, calm-stays, Measures, measures, stretch-since, since-stretch}
 
 -- ---- runs

@@ -6,7 +6,7 @@ use Rattle.std.proofs.Math.Seq.{take-append_seam, drop-append_seam}
 use Rattle.std.proofs.lemmas.Option.{slice_get-get_or}
 use Rattle.pb_cycles.specs.RequestFields.{RequestFields}
 use Rattle.law_turn.specs.Stations.{Station, list_for, pushed}
-use Rattle.law_model.specs.Trace.{Hit, Record, cut_end, cut_at, Entry, Sent, Noise, entry_begin, goes_before, with_entry, is_noise_at, noisy_until, begins_from, unheard_at}
+use Rattle.law_model.specs.Trace.{Hit, Record, cut_end, cut_at, Entry, Sent, Noise, goes_before, with_entry, is_noise_at, noisy_until, begins_from, unheard_at}
 use Rattle.law_model.specs.Medium.{Tap, entry_at, ends_between, reaches, heard_by, reaches_taps}
 use Rattle.law_turn.specs.Turns.{turn_of}
 use Rattle.law_model.specs.World as world

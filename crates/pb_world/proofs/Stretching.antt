@@ -1,6 +1,6 @@
 -- Stretches without a token and without noise, along the events.
-use Rattle.std.proofs.Common.{◌≡◌, ◌∙◌, ap, sym, subst, refl, arith, ℕ, zero, suc, ◌+◌, ◌-◌, ◌<◌, ◌≤◌, ◌==◌, ◌||◌, ◌&&◌, ◌⊎◌, inl, inr, ⊎_elim, nat_lt, nat_le, not, max, min, List, [], ◌∷◌, ◌++◌, length, map, Bool, true, false, if◌then◌else◌, Option, Some, None, Result, Ok}
-use Rattle.std.specs.Prelude.{slice_get, slice_set, take, drop, is_some, is_none, find, IfSome}
+use Rattle.std.proofs.Common.{◌≡◌, ◌∙◌, ap, sym, subst, refl, arith, ℕ, ◌+◌, ◌<◌, ◌≤◌, ◌==◌, ◌||◌, ◌&&◌, ⊎_elim, nat_lt, nat_le, not, max, min, List, [], ◌∷◌, ◌++◌, length, map, Bool, true, false, Option, Some, None, Ok}
+use Rattle.std.specs.Prelude.{slice_get, slice_set, take, drop, is_some, is_none, find}
 use Rattle.std.specs.List.{list_any}
 use Rattle.std.proofs.lemmas.Bool.{ltb-true, ltb-false, lt-ltb, le-ltb, eqb-false, cases_eq, or_parts}
 use Rattle.std.proofs.lemmas.List.{take-append-drop}
@@ -21,7 +21,7 @@ use Rattle.law_model.proofs.Sensed.{is_past-earlier, later_end-bound}
 use Rattle.law_model.proofs.Worlds.{unless-Ok}
 use Rattle.law_token.specs.Promises.{IsMasterAt}
 use Rattle.law_token.proofs.bus.Lists.{get_set_at, get_set_other}
-use Rattle.law_live.specs.NeverDead.{has_noise_since, has_token_since, is_noise_within, is_token_within}
+use Rattle.law_live.specs.NeverDead.{is_noise_within, is_token_within}
 use Rattle.pb_medium.specs.Airs.{IsCut}
 use Rattle.pb_world.specs.Premises.{time_in}
 use Rattle.pb_world.specs.Liveness.{IsStretch, IsCalm, calm_after, ends_stretch, ends_within}

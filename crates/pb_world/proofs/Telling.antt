@@ -1,13 +1,12 @@
 -- What is kept of the requests that stations execute.
-use Rattle.std.proofs.Common.{◌≡◌, ◌∙◌, ap, sym, subst, refl, ℕ, ◌==◌, List, [], ◌∷◌, ◌++◌, append_assoc, append-nil, map, Bool, true, false, if◌then◌else◌, Option, Some, None, Result, Ok, Err}
+use Rattle.std.proofs.Common.{◌≡◌, ◌∙◌, ap, sym, subst, refl, ℕ, ◌==◌, List, [], ◌∷◌, ◌++◌, append_assoc, append-nil, map, Bool, true, false, if◌then◌else◌, Option, Some, None}
 use Rattle.std.specs.Prelude.{is_some, slice_get}
 use Rattle.std.specs.Option.{option_map}
 use Rattle.std.proofs.lemmas.Bool.{eqb-true, eq-eqb}
 use Rattle.std.proofs.lemmas.Option.{slice_get-map}
 use Rattle.pb_timers.specs.Timers.{Params}
-use Rattle.law_model.specs.World.{World, Event, Turn, Pass, Damage, Start, Stop, Queue, Noise, Unheard, Reply, Fault}
+use Rattle.law_model.specs.World.{World, Event, Turn}
 use Rattle.law_model.specs.Step.{step, RunsTo}
-use Rattle.law_token.proofs.whole.JoinedRuns.{runs_join}
 use Rattle.pb_station.specs.Indications.{IndicationFields, indications_of}
 use Rattle.pb_taps.specs.Taps.{tap_of, seat_of, AreSeated}
 use Rattle.pb_taps.specs.declared.taps.Tap.{Tap}
@@ -15,7 +14,6 @@ use Rattle.pb_taps.specs.declared.events.Event as taps
 use Rattle.pb_taps.specs.declared.events.Event.TheVariants as event
 use Rattle.pb_taps.specs.Events.{event_of}
 use Rattle.pb_taps.proofs.Seats.{seat-of-tap}
-use Rattle.pb_world.specs.Driven.{ComesOn}
 use Rattle.pb_world.specs.Told.{Executed, ToldView, executed_by, executed_by_tap, executed_in, executes, left_by, tray_at, tray_in, tray_with, with_more, with_one}
 use Rattle.pb_world.specs.Watched.{world_in}
 use Rattle.pb_world.specs.declared.watched.Watched.{Watched}

@@ -1,7 +1,7 @@
 -- A trace from anywhere, judged in one pass.
-use Rattle.std.proofs.Common.{◌≡◌, ◌∙◌, ap, sym, refl, arith, ℕ, ◌+◌, ◌≤◌, ◌<◌, List, [], ◌∷◌, map, drop, subst, true, false, if◌then◌else◌, Option, Some, None, Bool}
-use Rattle.std.specs.Prelude.{nat_lt, nat_le, nat_eq, ◌||◌, ◌&&◌, ◌==◌, slice_get}
-use Rattle.std.proofs.lemmas.Bool.{ltb-false, leb-false, cases_Bool}
+use Rattle.std.proofs.Common.{◌≡◌, ap, refl, arith, ℕ, ◌+◌, ◌≤◌, ◌<◌, List, [], ◌∷◌, true, false, if◌then◌else◌, Option, Some, None, Bool}
+use Rattle.std.specs.Prelude.{nat_lt, nat_le, ◌||◌, ◌&&◌, ◌==◌, slice_get}
+use Rattle.std.proofs.lemmas.Bool.{ltb-false, leb-false}
 use Rattle.law_model.specs.Trace.{Entry, Heard, entry_begin, entry_end, rank, goes_before}
 use Rattle.law_runs.specs.Judging.{IsOrdered, IsOrderedFrom}
 use Rattle.law_model.specs.Medium.{TapSpec}

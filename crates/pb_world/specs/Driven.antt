@@ -1,5 +1,5 @@
 -- What calls at a bus that a caller drives do.
-use Rattle.std.specs.Prelude.{◌≡◌, ◌⊎◌, ℕ, ◌==◌, ◌<◌, ◌≤◌, List, [], ◌∷◌, ◌++◌, length, map, Option, Some, Result, Ok, MatchResult, OnOk, OnErr, if◌then◌else◌}
+use Rattle.std.specs.Prelude.{◌≡◌, ◌⊎◌, ℕ, ◌==◌, ◌<◌, ◌≤◌, List, [], ◌∷◌, ◌++◌, length, map, Some, Result, Ok, MatchResult, OnOk, OnErr, if◌then◌else◌}
 use Rattle.std.specs.Option.{option_map}
 use Rattle.law_model.specs.World.{World, Event, Reply}
 use Rattle.law_model.specs.Step.{step, RunsTo}
@@ -24,11 +24,13 @@ pub record StaysBut (old new : Watched) : Type 0 where
   pub world : world_in new ≡ world_in old
   pub came : (start : World) (actions : List Action) → HasActed old start actions → HasActed new start actions
 
+abbrev pub KeepsSame : Watched → Watched → Type 0
+KeepsSame old new = (k : ℕ) → tray_at new.told k ≡ tray_at old.told k
+
 -- nothing has happened: also what is kept is the same
 pub record Stays (old new : Watched) : Type 0 where
-  pub world : world_in new ≡ world_in old
-  pub came : (start : World) (actions : List Action) → HasActed old start actions → HasActed new start actions
-  pub told : (k : ℕ) → tray_at new.told k ≡ tray_at old.told k
+  pub rest : StaysBut old new
+  pub told : KeepsSame old new
 
 -- what is kept of a tap is empty from now on, with this room
 abbrev pub KeepsFrom : Watched → (tap room : ℕ) → Watched → Type 0
@@ -37,7 +39,7 @@ KeepsFrom old tap room new = (tap < length (world_in old).taps)
 
 -- why it is not: there is no such tap, or memory was refused; nothing changes
 abbrev pub RefusesToKeep : Watched → ℕ → Watched → WorldFault → Type 0
-RefusesToKeep old tap new reason = ((k : ℕ) → tray_at new.told k ≡ tray_at old.told k)
+RefusesToKeep old tap new reason = KeepsSame old new
     × (((reason ≡ fault.NoSuchTap) × (length (world_in old).taps ≤ tap)) ⊎ ((reason ≡ fault.NoMemory) × (tap < length (world_in old).taps)))
 
 -- what is kept of a tap is empty
@@ -55,4 +57,4 @@ pub record SetsReply (old : Watched) (tap : ℕ) (unit : List ℕ) (result : Res
   pub sets : SetsData (world_in old) tap unit result (world_in new)
   pub acts : OnOk result (ActsOnBy old (Sets tap unit) new)
   pub stays : OnErr result (Stays old new)
-  pub told : (k : ℕ) → tray_at new.told k ≡ tray_at old.told k
+  pub told : KeepsSame old new

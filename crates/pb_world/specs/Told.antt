@@ -39,6 +39,13 @@ tray_in (Some tray) = tray
 abbrev pub tray_at : ToldView → ℕ → Option Executed
 tray_at told k = tray_in (slice_get told.trays k)
 
+-- the requests that are kept of it
+abbrev pub requests_in : Option Executed → Option (List IndicationFields)
+requests_in tray = option_map (λ t. t.requests) tray
+
+abbrev pub requests_at : ToldView → ℕ → Option (List IndicationFields)
+requests_at told k = requests_in (tray_at told k)
+
 -- what is kept of it after more requests
 abbrev pub tray_with : List IndicationFields → Option Executed → Option Executed
 tray_with more tray = option_map (with_more more) tray

@@ -70,7 +70,7 @@ impl DrivenBus {
     ghost use Rattle.pb_world.specs.Acted.{FindsBy, HasActed};
     ghost use Rattle.pb_station.specs.Indications.{fields_of};
     ghost use Rattle.pb_world.specs.Driven.{Applies, Forgets, KeepsFrom, RefusesToKeep, SetsReply, StaysBut};
-    ghost use Rattle.pb_world.specs.Told.{tray_at};
+    ghost use Rattle.pb_world.specs.Told.{requests_at, tray_at};
     ghost use Rattle.pb_world.specs.RunTo.{HasRun, HasStopped};
     ghost use Rattle.pb_world.specs.Watched.{world_in};
 
@@ -138,8 +138,7 @@ impl DrivenBus {
     /// The requests that are kept of a tap, in the order in which its station executed them; `None` if they are not
     /// asked for.
     pub fn indications(&self, tap: usize) -> Option<&[Indication]>
-        ensures { MatchOption result (tray_at self.entry.now.told tap ≡ None)
-            (λ rs. option_map (λ t. t.requests) (tray_at self.entry.now.told tap) ≡ Some (map fields_of rs.now)) }
+        ensures { option_map (λ rs. map fields_of rs.now) result ≡ requests_at self.entry.now.told tap }
     {
         self.watched.told.requests(tap)
     }

@@ -91,7 +91,8 @@ impl Judge {
     /// request that its speaker may not send after the one before it (medium access: token passing).
     pub fn illegal(&self) -> Option<usize>
         ensures { (p : Params) (specs : List model.TapSpec) (entries : List trace.Entry)
-            → HasHeard p specs entries self.entry.now → IsOrdered entries → result ≡ first_illegal p specs entries }
+            → HasHeard p specs entries self.entry.now → IsOrdered entries
+            → result ≡ first_illegal p specs entries }
     {
         self.illegal
     }
@@ -170,7 +171,8 @@ impl Judge {
     fn last_of(&self, telegram: &Record, meaning: Meaning) -> LastHeard
         requires means { meaning ≡ meaning_of (telegram_of (record_of telegram.now)) }
         ensures { (p : Params) (specs : List model.TapSpec) (k : Kept)
-            → Keeps p specs k self.now → IsLast (length specs) (new_last p k (record_of telegram.now)) result }
+            → Keeps p specs k self.now
+            → IsLast (length specs) (new_last p k (record_of telegram.now)) result }
     {
         let end = telegram.end;
         let over = end + u64::from(self.params.tsl());

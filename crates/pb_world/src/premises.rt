@@ -160,6 +160,7 @@ pub(crate) fn follow(
         × Refuses (world_of bus.old) (event_of event.now)
         (step (world_of bus.old) (event_of event.now)) fault) }
     ensures stays { OnErr result (time_in (event_of event.now) ≡ None → watch.new ≡ watch.old) }
+    ensures found { OnErr result (watched_of watch.new ≡ watched_of watch.old) }
 {
     let foresight = foresee(bus, event);
     watch.oldest = listen(&mut watch.quiet, watch.oldest, bus, event);

@@ -4,7 +4,7 @@ ghost use Rattle.std.specs.Prelude.{◌≡◌, ◌≤◌, ◌<◌, ◌==◌, ℕ
 ghost use Rattle.std.specs.Vec.{vec_capacity};
 ghost use Rattle.std.specs.Option.{option_map};
 ghost use Rattle.pb_station.specs.Indications.{fields_of};
-ghost use Rattle.pb_world.specs.Told.{Executed, emptied, tray_in, tray_with};
+ghost use Rattle.pb_world.specs.Told.{emptied, requests_in, tray_in, tray_with};
 
 use pb_station::{Indication, MARK_LIMIT};
 use pb_taps::Tap;
@@ -101,7 +101,7 @@ impl Told {
     ghost use Rattle.law_model.specs.Laws.{AllInOrder};
     ghost use Rattle.law_model.specs.World.{clock_limit};
     ghost use Rattle.pb_station.specs.Indications.{fields_of, indications_of};
-    ghost use Rattle.pb_world.specs.Told.{emptied, executed_by_tap, tray_at, tray_with};
+    ghost use Rattle.pb_world.specs.Told.{emptied, executed_by_tap, requests_at, tray_at, tray_with};
     ghost use Rattle.pb_taps.specs.Taps.{tap_of};
 
     /// Nothing is asked for.
@@ -171,8 +171,7 @@ impl Told {
 
     /// The requests that are kept of a tap.
     pub(crate) fn requests(&self, tap: usize) -> Option<&[Indication]>
-        ensures { MatchOption result (tray_at self.now tap ≡ None)
-            (λ rs. option_map (λ t. t.requests) (tray_at self.now tap) ≡ Some (map fields_of rs.now)) }
+        ensures { option_map (λ rs. map fields_of rs.now) result ≡ requests_at self.now tap }
     {
         if tap < self.trays.len() {
             return tray_requests(&self.trays[tap]);
@@ -247,7 +246,7 @@ fn empty(tray: &mut Option<Tray>)
 
 /// The requests in a tray.
 fn tray_requests(tray: &Option<Tray>) -> Option<&[Indication]>
-    ensures { option_map (λ rs. map fields_of rs.now) result ≡ option_map (λ (t : Executed). t.requests) tray.now }
+    ensures { option_map (λ rs. map fields_of rs.now) result ≡ requests_in tray.now }
 {
     match tray {
         Some(tray) => Some(&tray.requests),

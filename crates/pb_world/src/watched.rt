@@ -77,47 +77,37 @@ pub fn new_watched_within(
 }
 
 impl Watched {
-    ghost use Rattle.std.specs.Prelude.{◌≡◌, List, IfErr, OnOk, Ok};
+    ghost use Rattle.std.specs.Prelude.{◌≡◌, IfErr, OnErr, OnOk, Ok};
     ghost use Rattle.std.specs.Option.{option_map};
-    ghost use Rattle.law_model.specs.Trace.{Entry};
     ghost use Rattle.law_runs.specs.Premises.{Course};
+    ghost use Rattle.law_runs.specs.Watching.{StandsFor};
     ghost use Rattle.pb_medium.specs.LettingGo.{past_of};
     ghost use Rattle.pb_world.specs.Auditing.{broken_at};
     ghost use Rattle.law_model.specs.Step.{step};
     ghost use Rattle.law_model.specs.World as model;
     ghost use Rattle.pb_taps.specs.Events.{event_of};
     ghost use Rattle.pb_taps.specs.Faults.{Refuses};
-    ghost use Rattle.pb_world.specs.Watched.{FindsIn, GoesOnBy, IsAtEnd, IsFollowed, IsOfNew, IsWatched, LeadsOnBy, LetsGoOf, world_in};
+    ghost use Rattle.pb_world.specs.Buses.{IsKept};
+    ghost use Rattle.pb_world.specs.Premises.{watched_of};
+    ghost use Rattle.pb_world.specs.Watched.{FindsIn, GoesOnBy, IsFollowed, IsOfNew, IsWatched, LeadsOnBy, LetsGoOf, world_in};
 
-    /// Applies an event, and judges it by the premises.
+    /// Applies an event, and judges it by the premises. The past of the bus may have been let go.
     ///
-    /// Faults: those of the event on a bus. After a fault, the bus must not be watched further.
+    /// Faults: those of the event on a bus. After a fault, the bus must not be watched further; what its events broke can
+    /// still be asked ([`broken`](Watched::broken)).
     pub fn follow(&mut self, alloc: Global, event: &Event) -> Result<(), WorldFault>
-        requires { IsWatched self.old }
-        ensures watched { OnOk result (IsWatched self.new) }
+        requires { IsFollowed self.old }
+        ensures kept { IsKept self.new.bus }
+        ensures followed { OnOk result (IsFollowed self.new) }
+        ensures watched { IsWatched self.old → OnOk result (IsWatched self.new) }
+        ensures leads { OnOk result (LeadsOnBy self.old (event_of event.now) self.new) }
         ensures came { OnOk result (GoesOnBy self.old (event_of event.now) self.new) }
         ensures steps { OnOk result ((reply : model.Reply)
             × (step (world_in self.old) (event_of event.now) ≡ Ok (world_in self.new, reply))) }
         ensures err { IfErr result (λ fault. (world_in self.new ≡ world_in self.old)
             × Refuses (world_in self.old) (event_of event.now)
             (step (world_in self.old) (event_of event.now)) fault) }
-    {
-        follow(&mut self.watch, alloc, &mut self.bus, event)?;
-        Ok(())
-    }
-
-    /// The same on a bus whose past may have been let go.
-    ///
-    /// Faults: those of the event on a bus. After a fault, the bus must not be watched further.
-    pub fn follow_on(&mut self, alloc: Global, event: &Event) -> Result<(), WorldFault>
-        requires { IsFollowed self.old }
-        ensures followed { OnOk result (IsFollowed self.new) }
-        ensures leads { OnOk result (LeadsOnBy self.old (event_of event.now) self.new) }
-        ensures steps { OnOk result ((reply : model.Reply)
-            × (step (world_in self.old) (event_of event.now) ≡ Ok (world_in self.new, reply))) }
-        ensures err { IfErr result (λ fault. (world_in self.new ≡ world_in self.old)
-            × Refuses (world_in self.old) (event_of event.now)
-            (step (world_in self.old) (event_of event.now)) fault) }
+        ensures found { OnErr result (watched_of self.new.watch ≡ watched_of self.old.watch) }
     {
         follow(&mut self.watch, alloc, &mut self.bus, event)?;
         Ok(())
@@ -134,8 +124,8 @@ impl Watched {
 
     /// The first premise that the events so far broke, by its number, with the clock.
     pub fn broken(&self) -> Option<(u8, Moment)>
-        ensures { (old : List Entry) (c : Course)
-            → IsAtEnd self.entry.now old c → option_map broken_at result ≡ c.broken }
+        ensures { (c : Course) → StandsFor (watched_of self.now.watch) c
+            → option_map broken_at result ≡ c.broken }
     {
         numbered(self.watch.first_broken())
     }

@@ -1,8 +1,8 @@
 -- What C is told of the requests that stations of a bus execute.
 use Rattle.std.specs.Prelude.{◌≡◌, ℕ, length, slice_get, Option, Some, None, Result, MatchResult}
+use Rattle.pb_station.specs.Indications.{IndicationFields}
 use Rattle.pb_taps.specs.declared.faults.WorldFault.{WorldFault}
 use Rattle.pb_world.specs.Driven.{Forgets, KeepsFrom, RefusesToKeep, StaysBut}
-use Rattle.pb_world.specs.Told.{Executed}
 use Rattle.pb_world.specs.declared.watched.Watched.{Watched}
 use Rattle.pbfdl.specs.BusCodes.{result_code}
 use Rattle.pbfdl.specs.Indications.{TellsAt}
@@ -15,14 +15,14 @@ KeepsAt b tap room code new = (next : Watched) × (new ≡ Some next) × StaysBu
     × MatchResult answer (λ _. KeepsFrom b tap room next) (RefusesToKeep b tap next)
 
 -- the code, and how many are kept, if they are asked for
-abbrev pub CountsKept : (code count : ℕ) → Option Executed → Type 0
+abbrev pub CountsKept : (code count : ℕ) → Option (List IndicationFields) → Type 0
 CountsKept code count None = code ≡ 69
-CountsKept code count (Some kept) = (code ≡ 0) × (count ≡ length kept.requests)
+CountsKept code count (Some requests) = (code ≡ 0) × (count ≡ length requests)
 
 -- and one of them
-abbrev pub TellsKept : ℕ → FdlIndication → Option Executed → ℕ → Type 0
+abbrev pub TellsKept : ℕ → FdlIndication → Option (List IndicationFields) → ℕ → Type 0
 TellsKept code told None index = code ≡ 69
-TellsKept code told (Some kept) index = TellsAt code told (slice_get kept.requests index)
+TellsKept code told (Some requests) index = TellsAt code told (slice_get requests index)
 
 -- what is kept of a tap is forgotten
 abbrev pub ForgetsAt : Watched → ℕ → Option Watched → Type 0

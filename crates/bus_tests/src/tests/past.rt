@@ -32,7 +32,7 @@ fn play(rt: &(impl AllocGlobal + Abort), pair: &mut Pair, event: Event)
     hear(rt, &mut pair.judge, pair.watched.bus().past());
     pair.watched.let_go();
     pair.watched
-        .follow_on(rt.alloc(), &event)
+        .follow(rt.alloc(), &event)
         .expect(rt, "an event");
 }
 

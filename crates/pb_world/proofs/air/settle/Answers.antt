@@ -1,6 +1,6 @@
-use Rattle.std.proofs.Common.{◌≡◌, ◌∙◌, ap, sym, arith, ◌+◌, ◌<◌, drop, map}
+use Rattle.std.proofs.Common.{◌∙◌, ap, sym, arith, ◌+◌, ◌<◌, drop, map}
 use Rattle.law_model.specs.Medium.{reaches_taps}
-use Rattle.law_streams.specs.Judgement.{ends_by, ends_with, recent_at}
+use Rattle.law_streams.specs.Judgement.{ends_by, recent_at}
 use Rattle.pb_taps.proofs.Items.{left-at}
 use Rattle.pb_world.specs.Airtimes.{air_of}
 use Rattle.pb_world.proofs.Hearing.{ends-go-on, ends-stop, recent-go-on, recent-stop}

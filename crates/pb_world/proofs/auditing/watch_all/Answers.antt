@@ -3,7 +3,11 @@ use Rattle.std.specs.Prelude.{take}
 use Rattle.pb_taps.specs.Events.{event_of}
 use Rattle.pb_taps.proofs.Items.{passed-at}
 use Rattle.pb_world.specs.Watched.{HasCome, world_in}
+use Rattle.pb_world.proofs.Coming.{watched-followed}
 use Rattle.pb_world.proofs.auditing.watch_all.Goals as goal
+
+pub follow-requires : goal.follow-requires
+follow-requires c = watched-followed c.loop-place.watched c.loop-place.invariant.watched
 
 pub loop-place-preserved : goal.loop-place-preserved
 loop-place-preserved c =

@@ -1,6 +1,5 @@
 use Rattle.std.proofs.Common.{◌≡◌, ◌∙◌, ap, refl, subst, sym, false, None}
 use Rattle.std.specs.Prelude.{is_some}
-use Rattle.law_model.specs.World.{Turn}
 use Rattle.pb_taps.specs.Events.{event_of}
 use Rattle.pb_world.specs.Driven.{Applies}
 use Rattle.pb_world.specs.Premises.{time_in}

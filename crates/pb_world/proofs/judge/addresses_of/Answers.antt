@@ -1,4 +1,4 @@
-use Rattle.std.proofs.Common.{◌≡◌, ◌∙◌, ap, sym, arith, map, ◌++◌, ◌∷◌, [], length}
+use Rattle.std.proofs.Common.{◌∙◌, ap, sym, arith, map, ◌++◌, ◌∷◌, []}
 use Rattle.std.proofs.lemmas.List.{take_all, length-map}
 use Rattle.pb_taps.specs.declared.taps.TapSpec.{TapSpec}
 use Rattle.pb_taps.proofs.Items.{passed-at}

@@ -1,4 +1,4 @@
-use Rattle.std.proofs.Common.{◌≡◌, ◌∙◌, ap, sym, subst, ◌<◌, Option, Some}
+use Rattle.std.proofs.Common.{◌≡◌, ◌∙◌, ap, sym, Some}
 use Rattle.law_runs.specs.Initiators.{telegram_of, offered_to}
 use Rattle.law_runs.specs.Judging.{goes_on_after}
 use Rattle.law_streams.proofs.Judgement.{none-offered, sent-addressed}

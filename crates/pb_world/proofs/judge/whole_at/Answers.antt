@@ -1,4 +1,4 @@
-use Rattle.std.proofs.Common.{◌∙◌, arith, ℕ, ◌<◌, length, false, get_or}
+use Rattle.std.proofs.Common.{◌∙◌, arith, ◌<◌, length}
 use Rattle.std.specs.Prelude.{slice_get}
 use Rattle.std.proofs.lemmas.List.{length-set}
 use Rattle.law_runs.specs.Legality.{is_whole}

@@ -2,7 +2,6 @@
 use Rattle.std.proofs.Common.{List, ◌≤◌, ◌+◌, ◌++◌, ◌∙◌, ap, sym, subst, map, length, get_or, arith}
 use Rattle.law_turn.specs.Marks.{Mark}
 use Rattle.law_model.specs.World.{mark_limit}
-use Rattle.law_model.specs.Step.{told}
 use Rattle.pb_medium.specs.Entries.{entry_of}
 use Rattle.pb_taps.specs.Taps.{tap_of}
 use Rattle.pb_world.proofs.Passing.{room-at, told-more, told-all}

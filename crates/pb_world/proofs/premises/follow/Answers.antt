@@ -1,11 +1,11 @@
-use Rattle.std.proofs.Common.{◌≡◌, ◌∙◌, ap, arith, get_or, subst, sym}
+use Rattle.std.proofs.Common.{◌∙◌, ap, arith, get_or, subst, sym}
 use Rattle.std.proofs.lemmas.List.{length-map}
 use Rattle.law_model.specs.World.{Reply}
 use Rattle.law_runs.proofs.Watching.{many-taps}
 use Rattle.pb_taps.specs.Events.{event_of}
 use Rattle.pb_taps.specs.Taps.{tap_of}
 use Rattle.pb_world.specs.Buses.{world_of, world_with}
-use Rattle.pb_world.specs.Premises.{IsQuiet, Knows, watched_of}
+use Rattle.pb_world.specs.Premises.{IsQuiet, watched_of}
 use Rattle.pb_world.proofs.Behind.{steps-behind}
 use Rattle.pb_world.proofs.Premising.{goes-on}
 use Rattle.pb_world.proofs.premises.follow.Goals as goal

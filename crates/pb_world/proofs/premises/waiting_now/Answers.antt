@@ -1,4 +1,4 @@
-use Rattle.std.proofs.Common.{◌≡◌, ◌<◌, ◌-◌, ap, sym, arith, length, subst}
+use Rattle.std.proofs.Common.{◌<◌, ◌-◌, ap, sym, arith, length}
 use Rattle.std.proofs.lemmas.List.{length-map}
 use Rattle.pb_timers.specs.Timers.{tto}
 use Rattle.pb_taps.specs.Taps.{tap_of}

@@ -1,5 +1,5 @@
 -- The pass goes on behind each entry, with the ends of all before the next.
-use Rattle.std.proofs.Common.{sym, subst, arith, map, drop, take, ◌+◌}
+use Rattle.std.proofs.Common.{sym, subst, arith, map, take}
 use Rattle.std.proofs.lemmas.List.{take-map}
 use Rattle.law_model.specs.Trace.{entry_begin}
 use Rattle.law_runs.specs.Judging.{IsOrderedFrom}

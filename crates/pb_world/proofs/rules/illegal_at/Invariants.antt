@@ -1,5 +1,5 @@
 -- The ends of what has come so far.
-use Rattle.std.proofs.Common.{◌≡◌, ℕ, map, drop, take}
+use Rattle.std.proofs.Common.{ℕ, map, drop, take}
 use Rattle.law_runs.specs.Judging.{IsOrderedFrom}
 use Rattle.pb_medium.specs.Entries.{entry_of}
 use Rattle.pb_world.specs.LatestEnds.{AreEnds}

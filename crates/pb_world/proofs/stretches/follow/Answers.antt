@@ -1,18 +1,12 @@
-use Rattle.std.proofs.Common.{◌≡◌, ◌∙◌, ap, sym, arith, ℕ, ◌+◌, ◌≤◌, ◌++◌, [], ◌∷◌, List, Ok, Err}
-use Rattle.std.specs.Prelude.{OnOk, Result}
+use Rattle.std.proofs.Common.{◌≡◌, ◌∙◌, ap, sym, arith, ◌+◌, ◌≤◌, Ok}
 use Rattle.std.specs.List.{list_any}
-use Rattle.law_model.specs.World.{World, Event, Reply, clock_limit}
+use Rattle.law_model.specs.World.{Reply, clock_limit}
 use Rattle.law_model.specs.Step.{step, step_pass}
-use Rattle.pb_world.specs.Buses.{world_of, Does, IsKept}
-use Rattle.pb_world.specs.declared.buses.Bus.{Bus}
+use Rattle.pb_world.specs.Buses.{world_of}
 use Rattle.pb_taps.specs.Events.{event_of}
-use Rattle.pb_taps.specs.declared.faults.WorldFault.{WorldFault}
-use Rattle.law_model.specs.Laws.{IsEvent}
-use Rattle.pb_world.specs.Liveness.{AreStretches, ends_within}
-use Rattle.pb_world.specs.Premises.{time_in}
-use Rattle.pb_world.specs.declared.stretches.LongestSoFar.{LongestSoFar}
+use Rattle.pb_world.specs.Liveness.{ends_within}
 use Rattle.pb_world.proofs.Premising.{pass-ends, passes-time}
-use Rattle.pb_world.proofs.Measuring.{goes-still, goes-later, goes-as}
+use Rattle.pb_world.proofs.Measuring.{goes-later, goes-as}
 use Rattle.pb_world.proofs.stretches.follow.Goals as goal
 
 pub returns-in_default-clause-goes : goal.returns-in_default-clause-goes

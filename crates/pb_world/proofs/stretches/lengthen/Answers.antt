@@ -1,5 +1,5 @@
 use Rattle.std.proofs.Common.{◌≡◌, ◌∙◌, ap, sym, subst, arith, ℕ, ◌<◌, List, length, map, Option, Some}
-use Rattle.std.specs.Prelude.{get_or, slice_get, slice_set, None}
+use Rattle.std.specs.Prelude.{get_or, slice_get, None}
 use Rattle.std.proofs.lemmas.List.{length-map, length-set}
 use Rattle.pb_world.specs.Buses.{world_of}
 use Rattle.pb_taps.specs.Taps.{tap_of}

@@ -1,6 +1,5 @@
-use Rattle.std.proofs.Common.{◌≡◌, ◌∙◌, arith, sym, map, false, subst}
+use Rattle.std.proofs.Common.{◌∙◌, arith, sym, map}
 use Rattle.std.proofs.lemmas.List.{length-map}
-use Rattle.law_runs.specs.Premises.{has_namesakes}
 use Rattle.pb_taps.specs.Taps.{spec_of, tap_of}
 use Rattle.pb_world.specs.Buses.{world_of}
 use Rattle.law_live.proofs.Acting.{new_acts}

@@ -1,14 +1,11 @@
-use Rattle.std.proofs.Common.{◌≡◌, ◌∙◌, [], arith, map, subst, sym, false, refl, Ok}
+use Rattle.std.proofs.Common.{◌∙◌, arith, map, subst, sym}
 use Rattle.std.proofs.lemmas.List.{length-map}
-use Rattle.law_model.specs.World.{World, new_world_within}
 use Rattle.law_runs.proofs.Watching.{stands-new}
 use Rattle.law_runs.specs.Watching.{StandsFor}
 use Rattle.law_streams.specs.Audits.{no_events}
 use Rattle.pb_taps.specs.Taps.{spec_of, tap_of}
 use Rattle.pb_world.specs.Buses.{world_of}
 use Rattle.pb_world.specs.Premises.{Knows}
-use Rattle.pb_world.specs.declared.buses.Bus.{Bus}
-use Rattle.pb_world.specs.declared.premises.Watch.{Watch}
 use Rattle.pb_world.proofs.Behind.{past-none, plain-known, with-none}
 use Rattle.pb_world.proofs.Lasting.{empty-within, namesakes-within}
 use Rattle.pb_world.proofs.Premising.{quiet-blank}

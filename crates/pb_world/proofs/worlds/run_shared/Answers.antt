@@ -1,4 +1,4 @@
-use Rattle.std.proofs.Common.{sym, subst, arith, map, take, [], ◌∷◌}
+use Rattle.std.proofs.Common.{sym, subst, arith, map, take}
 use Rattle.std.proofs.lemmas.List.{length-map, take_all}
 use Rattle.law_model.specs.Laws.{AreEvents}
 use Rattle.law_model.specs.Step.{RunsTo}

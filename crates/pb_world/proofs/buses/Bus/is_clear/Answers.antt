@@ -1,4 +1,4 @@
-use Rattle.std.proofs.Common.{◌≡◌, ◌∙◌, ap, sym, subst, ℕ, map, Bool}
+use Rattle.std.proofs.Common.{◌≡◌, ◌∙◌, ap, sym, subst, ℕ, map}
 use Rattle.std.specs.List.{list_all}
 use Rattle.law_rings.specs.Settled.{is_over}
 use Rattle.pb_medium.specs.Airs.{IsCut}

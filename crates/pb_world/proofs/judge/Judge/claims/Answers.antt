@@ -1,4 +1,4 @@
-use Rattle.std.proofs.Common.{◌≡◌, ◌∙◌, ap, sym, subst, ◌&&◌, ◌-◌, nat_le, get_or, map}
+use Rattle.std.proofs.Common.{◌∙◌, ap, sym, ◌&&◌, ◌-◌, nat_le, get_or, map}
 use Rattle.law_runs.specs.Activity.{is_silent}
 use Rattle.law_runs.specs.Initiators.{telegram_of}
 use Rattle.pb_medium.specs.Entries.{record_of}

@@ -1,4 +1,4 @@
-use Rattle.std.proofs.Common.{◌≡◌, ◌∙◌, ap, arith, map, length, refl, replicate, sym}
+use Rattle.std.proofs.Common.{◌∙◌, ap, arith, map, refl}
 use Rattle.std.proofs.lemmas.List.{length-map}
 use Rattle.pb_taps.specs.Taps.{spec_of}
 use Rattle.pb_world.specs.Airtimes.{air_of}

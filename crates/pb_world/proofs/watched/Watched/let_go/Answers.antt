@@ -1,4 +1,4 @@
-use Rattle.std.proofs.Common.{◌≡◌, ◌∙◌, ◌++◌, ap, subst}
+use Rattle.std.proofs.Common.{◌∙◌, ◌++◌, ap, subst}
 use Rattle.law_model.specs.Behind.{behind, IsPast}
 use Rattle.pb_medium.specs.LettingGo.{past_of}
 use Rattle.pb_world.specs.Buses.{world_of}
