@@ -1,2 +1,4 @@
+pub mod Drawn
+pub mod Exported
 mod Streamed
 pub mod Written

@@ -30,13 +30,13 @@ use Rattle.pb_cli.specs.declared.faults.Status.TheVariants.{Done, Refused}
 
 -- ---- pieces
 
-appends_both : (old mid new : Option (List ℕ)) (s t : List ℕ) → Appends old mid s → Appends mid new t → Appends old new (s ++ t)
+pub appends_both : (old mid new : Option (List ℕ)) (s t : List ℕ) → Appends old mid s → Appends mid new t → Appends old new (s ++ t)
 appends_both None mid new s t first more = tt
 appends_both (Some xs) None new s t first more = absurd first
 appends_both (Some xs) (Some ys) None s t first more = absurd more
 appends_both (Some xs) (Some ys) (Some zs) s t first more = more ∙ ap (λ (l : List ℕ). l ++ t) first ∙ append_assoc xs s t
 
-appends_nothing : (xs : Option (List ℕ)) → Appends xs xs []
+pub appends_nothing : (xs : Option (List ℕ)) → Appends xs xs []
 appends_nothing None = tt
 appends_nothing (Some xs) = sym (append-nil xs)
 

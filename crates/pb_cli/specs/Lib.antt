@@ -2,7 +2,9 @@ pub mod Asking
 pub mod Bounding
 pub mod Counted
 pub mod Counts
+pub mod Drawing
 pub mod Fleets
+pub mod Monitoring
 pub mod Playing
 pub mod Progress
 pub mod Reading

@@ -92,7 +92,7 @@ const PROGRESS: &str = "progress";
 static OUTPUTS: [&str; 5] = ["svg", "pcapng", "pcap", "vcd", "json"];
 
 /// The forms of an export of a capture.
-static CAPTURE_OUTPUTS: [&str; 3] = ["pcapng", "pcap", "json"];
+static CAPTURE_OUTPUTS: [&str; 4] = ["svg", "pcapng", "pcap", "json"];
 
 /// The link types of a capture file.
 static LINKS: [&str; 2] = ["147", "257"];
@@ -189,6 +189,7 @@ fn capture_export_in(matches: &ArgMatches<'_>) -> Option<CaptureExport>
         Some("pcapng") => CaptureForm::Pcapng,
         Some("pcap") => CaptureForm::Pcap,
         Some("json") => CaptureForm::Json,
+        Some("svg") => CaptureForm::Svg,
         _ => return None,
     };
     Some(CaptureExport {

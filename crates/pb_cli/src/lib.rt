@@ -16,6 +16,7 @@ mod capturing;
 mod counted_reader;
 mod counted_writer;
 mod decoding;
+mod drawing;
 mod exporting;
 mod faults;
 mod fleets;

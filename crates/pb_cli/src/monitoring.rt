@@ -1,17 +1,21 @@
 //! `ringplay monitor`: from a capture to lines of text, or to a form that other tools read, as it comes.
 
-ghost use Rattle.std.specs.Prelude.{◌≡◌, ◌≢◌, Err, IfErr};
+ghost use Rattle.std.specs.Prelude.{◌≡◌, ◌≢◌, ◌++◌, Err, IfErr, IfOk, OnOk};
 ghost use Rattle.pb_cli.specs.Bounding.{IsBaud};
+ghost use Rattle.pb_cli.specs.Monitoring.{WritesCapture, begin_of};
 
+use crate::drawing::Drawing;
 use crate::faults::{CliFault, Status};
 use crate::streams::{ReadFault, Sink, Source};
 use crate::writing::write_out;
-use pb_export::{CaptureExport, push_bursts, push_capture_bus, push_capture_head};
+use pb_export::{
+    CaptureExport, CaptureForm, push_bursts, push_capture_bus, push_capture_head, push_capture_svg,
+};
 use pb_monitor::{Monitor, Options};
 use pb_scenario::{ScenarioFault, read_bus};
 use pb_texts::{Shown, refused_file};
 use pb_timers::BusParams;
-use std::alloc::Global;
+use std::alloc::{AllocError, Global};
 
 /// How many bytes are read at once at most.
 const PIECE_LENGTH: usize = 65_536;
@@ -88,8 +92,9 @@ pub trait Notes {
 }
 
 /// Reads a capture until the reader ends, and writes its bursts in a form that other tools read: what a piece that was
-/// read completes is written before the next read. There is no limit of its length; memory does not grow with it. The
-/// lines of refused input and of alarms go to `notes`.
+/// read completes is written before the next read. There is no limit of its length; memory does not grow with it. Of a
+/// picture the first 10,000 bursts, within 1,000,000 bit times, are kept, and it is written at the end. The lines of
+/// refused input and of alarms, and whether the picture leaves out bursts, go to `notes`.
 ///
 /// Status and faults: as those of [`monitor`].
 pub fn export_capture<R: Source, W: Sink, N: Notes>(
@@ -102,35 +107,42 @@ pub fn export_capture<R: Source, W: Sink, N: Notes>(
     notes: &mut N,
 ) -> Result<Status, CliFault>
     requires { IsBaud export.now.baud }
+    ensures text { IfOk result (λ _. WritesCapture export.now params
+        (W.contents writer.old) (W.contents writer.new)) }
     ensures too_long { result ≢ Err CliFault.TooLong }
+    ensures writer_failed { result ≢ Err CliFault.Write → W.failures writer.new ≡ W.failures writer.old }
 {
     let mut bytes = Vec::new(alloc);
-    push_capture_head(&mut bytes, export)?;
-    if let Some(params) = &params {
-        push_capture_bus(&mut bytes, params, export)?;
-    }
+    push_begin(&mut bytes, &params, export)?;
     write_out(writer, &bytes)?;
     let mut exporter = Exporter {
         monitor: Monitor::new(alloc, params, options)?,
         bytes,
         lines: Vec::new(alloc),
+        drawing: Drawing::new(alloc),
     };
     exporter.monitor.hand_on();
-    let mut piece = vec![in alloc; 0u8; EXPORT_PIECE]?;
-    for _call in 0..u64::MAX {
-        match reader.read(&mut piece) {
-            Ok(0) => break,
-            Ok(count) => {
-                exporter.monitor.feed(&piece[..count], &mut exporter.lines)?;
-                exporter.write(alloc, export, writer, notes)?;
-            }
-            Err(ReadFault::Interrupted) => {}
-            Err(ReadFault::Failed) => return Err(CliFault::Read),
-        }
-    }
+    exporter.run(alloc, export, reader, writer, notes)?;
     exporter.monitor.finish(&mut exporter.lines)?;
     exporter.write(alloc, export, writer, notes)?;
+    exporter.draw(alloc, export, writer, notes)?;
     Ok(Status::of(exporter.monitor.is_refused()))
+}
+
+/// Appends what stands before the bursts: the head, and the bus if it is known.
+fn push_begin(
+    bytes: &mut Vec<u8>,
+    params: &Option<BusParams>,
+    export: &CaptureExport,
+) -> Result<(), AllocError>
+    requires { IsBaud export.now.baud }
+    ensures { OnOk result (bytes.new.items ≡ bytes.old.items ++ begin_of export.now params.now) }
+{
+    push_capture_head(bytes, export)?;
+    match params {
+        Some(params) => push_capture_bus(bytes, params, export),
+        None => Ok(()),
+    }
 }
 
 /// A monitor whose bursts are written in a form that other tools read.
@@ -141,11 +153,71 @@ struct Exporter {
     bytes: Vec<u8>,
     /// What is told next.
     lines: Vec<u8>,
+    /// What a picture has.
+    drawing: Drawing,
 }
 
 impl Exporter {
-    ghost use Rattle.std.specs.Prelude.{◌≡◌, ◌≢◌, Err};
+    ghost use Rattle.std.specs.Prelude.{◌≡◌, ◌≢◌, ◌++◌, List, Err, OnOk};
+    ghost use Rattle.std.specs.Io.KnownBytes.{Appends};
+    ghost use Rattle.pb_monitor.specs.declared.heard_bursts.HeardBurst.{HeardBurst};
+    ghost use Rattle.pb_export.specs.Captures.{bursts_of};
     ghost use Rattle.pb_cli.specs.Bounding.{IsBaud};
+    ghost use Rattle.pb_cli.specs.Drawing.{IsOf};
+    ghost use Rattle.pb_cli.specs.Monitoring.{WritesOn, heard_of, picture_in};
+    ghost use Rattle.pb_export.specs.CaptureSvg.{svg_text};
+
+    /// Reads until the reader ends, and writes the bursts that are complete.
+    fn run<R: Source, W: Sink, N: Notes>(
+        &mut self,
+        alloc: Global,
+        export: &CaptureExport,
+        reader: &mut R,
+        writer: &mut W,
+        notes: &mut N,
+    ) -> Result<(), CliFault>
+        requires { IsBaud export.now.baud }
+        ensures text { OnOk result (WritesOn export.now self.old.drawing self.new.drawing
+            (W.contents writer.old) (W.contents writer.new)) }
+        ensures too_long { result ≢ Err CliFault.TooLong }
+        ensures writer_failed { result ≢ Err CliFault.Write → W.failures writer.new ≡ W.failures writer.old }
+    {
+        let mut piece = vec![in alloc; 0u8; EXPORT_PIECE]?;
+        for _call in 0..u64::MAX {
+            if self.read_on(alloc, export, &mut piece, reader, writer, notes)? {
+                return Ok(());
+            }
+        }
+        Ok(())
+    }
+
+    /// Reads a piece, and writes the bursts that it completes. Returns whether the reader has ended.
+    fn read_on<R: Source, W: Sink, N: Notes>(
+        &mut self,
+        alloc: Global,
+        export: &CaptureExport,
+        piece: &mut [u8],
+        reader: &mut R,
+        writer: &mut W,
+        notes: &mut N,
+    ) -> Result<bool, CliFault>
+        requires { IsBaud export.now.baud }
+        ensures text { OnOk result (WritesOn export.now self.old.drawing self.new.drawing
+            (W.contents writer.old) (W.contents writer.new)) }
+        ensures too_long { result ≢ Err CliFault.TooLong }
+        ensures writer_failed { result ≢ Err CliFault.Write → W.failures writer.new ≡ W.failures writer.old }
+    {
+        match reader.read(piece) {
+            Ok(0) => Ok(true),
+            Ok(count) => {
+                self.monitor.feed(&piece[..count], &mut self.lines)?;
+                self.write(alloc, export, writer, notes)?;
+                Ok(false)
+            }
+            Err(ReadFault::Interrupted) => Ok(false),
+            Err(ReadFault::Failed) => Err(CliFault::Read),
+        }
+    }
 
     /// Writes the bursts that were heard, and tells the lines.
     fn write<W: Sink, N: Notes>(
@@ -156,16 +228,70 @@ impl Exporter {
         notes: &mut N,
     ) -> Result<(), CliFault>
         requires { IsBaud export.now.baud }
+        ensures text { OnOk result (Appends (W.contents writer.old) (W.contents writer.new)
+            (bursts_of export.now (heard_of self.old.monitor))) }
+        ensures drawing { OnOk result ((before : List HeardBurst) → export.now.form ≡ CaptureForm.Svg
+            → IsOf self.old.drawing before → IsOf self.new.drawing (before ++ heard_of self.old.monitor)) }
         ensures too_long { result ≢ Err CliFault.TooLong }
+        ensures writer_failed { result ≢ Err CliFault.Write → W.failures writer.new ≡ W.failures writer.old }
     {
         self.bytes.clear();
         push_bursts(&mut self.bytes, alloc, self.monitor.heard(), export)?;
+        if export.form == CaptureForm::Svg {
+            self.drawing.add(self.monitor.heard())?;
+        }
         self.monitor.clear_heard();
         write_out(writer, &self.bytes)?;
+        self.tell(notes);
+        Ok(())
+    }
+
+    /// Writes the picture, if one is wanted.
+    fn draw<W: Sink, N: Notes>(
+        &mut self,
+        alloc: Global,
+        export: &CaptureExport,
+        writer: &mut W,
+        notes: &mut N,
+    ) -> Result<(), CliFault>
+        ensures text { OnOk result (Appends (W.contents writer.old) (W.contents writer.new)
+            (picture_in export.now.form self.old.drawing.bursts.items)) }
+        ensures too_long { result ≢ Err CliFault.TooLong }
+        ensures writer_failed { result ≢ Err CliFault.Write → W.failures writer.new ≡ W.failures writer.old }
+    {
+        match export.form {
+            CaptureForm::Svg => self.write_picture(alloc, writer, notes),
+            CaptureForm::Json | CaptureForm::Pcap | CaptureForm::Pcapng => Ok(()),
+        }
+    }
+
+    /// Writes the picture, and tells how many bursts it leaves out.
+    fn write_picture<W: Sink, N: Notes>(
+        &mut self,
+        alloc: Global,
+        writer: &mut W,
+        notes: &mut N,
+    ) -> Result<(), CliFault>
+        ensures text { OnOk result (Appends (W.contents writer.old) (W.contents writer.new)
+            (svg_text self.old.drawing.bursts.items)) }
+        ensures too_long { result ≢ Err CliFault.TooLong }
+        ensures writer_failed { result ≢ Err CliFault.Write → W.failures writer.new ≡ W.failures writer.old }
+    {
+        self.bytes.clear();
+        push_capture_svg(&mut self.bytes, alloc, self.drawing.bursts())?;
+        write_out(writer, &self.bytes)?;
+        self.drawing.push_left_out(alloc, &mut self.lines)?;
+        self.tell(notes);
+        Ok(())
+    }
+
+    /// Tells the lines.
+    fn tell<N: Notes>(&mut self, notes: &mut N)
+        ensures { self.new.drawing ≡ self.old.drawing }
+    {
         if !self.lines.is_empty() {
             notes.note(&self.lines);
             self.lines.clear();
         }
-        Ok(())
     }
 }

@@ -5,7 +5,7 @@ use Rattle.pb_timers.specs.Timers.{Params}
 use Rattle.pb_monitor.specs.declared.heard_bursts.HeardBurst.{HeardBurst}
 use Rattle.pb_export.specs.declared.captures.CaptureExport.{CaptureExport}
 use Rattle.pb_export.specs.declared.captures.CaptureForm.{CaptureForm}
-use Rattle.pb_export.specs.declared.captures.CaptureForm.TheVariants.{Json, Pcap, Pcapng}
+use Rattle.pb_export.specs.declared.captures.CaptureForm.TheVariants.{Json, Pcap, Pcapng, Svg}
 use Rattle.pb_export.specs.BurstJson.{burst_line, bus_line}
 use Rattle.pb_export.specs.BurstPackets.{burst_block, burst_packet}
 use Rattle.pb_export.specs.Pcap.{header}
@@ -15,6 +15,7 @@ abbrev pub head_in : CaptureForm → CaptureExport → List ℕ
 head_in Json x = []
 head_in Pcap x = header x.link
 head_in Pcapng x = section ++ interface x.baud x.link
+head_in Svg x = []
 
 abbrev pub head_of : CaptureExport → List ℕ
 head_of x = head_in x.form x
@@ -24,6 +25,7 @@ abbrev pub bus_in : CaptureForm → Params → List ℕ
 bus_in Json p = bus_line p
 bus_in Pcap p = []
 bus_in Pcapng p = []
+bus_in Svg p = []
 
 abbrev pub bus_of : CaptureExport → Params → List ℕ
 bus_of x p = bus_in x.form p
@@ -32,6 +34,7 @@ abbrev pub burst_in : CaptureForm → CaptureExport → HeardBurst → List ℕ
 burst_in Json x b = burst_line b
 burst_in Pcap x b = burst_packet x.baud b
 burst_in Pcapng x b = burst_block x.baud b
+burst_in Svg x b = []
 
 abbrev pub burst_of : CaptureExport → HeardBurst → List ℕ
 burst_of x b = burst_in x.form x b

@@ -3,6 +3,7 @@ pub mod Bursts
 pub mod BurstJson
 pub mod BurstPackets
 pub mod Captures
+pub mod CaptureSvg
 pub mod Exports
 pub mod Holders
 pub mod Gone

@@ -12,3 +12,6 @@ patterns = codes "<defs>\n<pattern id=\"hatch\" width=\"6\" height=\"6\" pattern
 
 unfoldable pub legend : List ℕ
 legend = codes "<g class=\"token\"><rect x=\"131\" y=\"8\" width=\"44\" height=\"18\"/><text x=\"137\" y=\"21\">token</text></g>\n<g class=\"request\"><rect x=\"187\" y=\"8\" width=\"54\" height=\"18\"/><text x=\"193\" y=\"21\">request</text></g>\n<g class=\"reply\"><rect x=\"253\" y=\"8\" width=\"42\" height=\"18\"/><text x=\"259\" y=\"21\">reply</text></g>\n<g class=\"ack\"><rect x=\"307\" y=\"8\" width=\"30\" height=\"18\"/><text x=\"313\" y=\"21\">ack</text></g>\n<g class=\"hearer\"><rect x=\"357\" y=\"13\" width=\"30\" height=\"8\"/></g><text x=\"393\" y=\"21\">heard damaged, or not at all</text>\n<g class=\"noise\"><rect x=\"553\" y=\"8\" width=\"30\" height=\"18\"/></g><text x=\"589\" y=\"21\">noise</text>\n<text x=\"640\" y=\"21\">scale: bit times; holder: who has the token</text>\n"
+
+unfoldable pub capture_legend : List ℕ
+capture_legend = codes "<g class=\"token\"><rect x=\"131\" y=\"8\" width=\"44\" height=\"18\"/><text x=\"137\" y=\"21\">token</text></g>\n<g class=\"request\"><rect x=\"187\" y=\"8\" width=\"54\" height=\"18\"/><text x=\"193\" y=\"21\">request</text></g>\n<g class=\"reply\"><rect x=\"253\" y=\"8\" width=\"42\" height=\"18\"/><text x=\"259\" y=\"21\">reply</text></g>\n<g class=\"ack\"><rect x=\"307\" y=\"8\" width=\"30\" height=\"18\"/><text x=\"313\" y=\"21\">ack</text></g>\n<g class=\"hearer\"><rect x=\"357\" y=\"13\" width=\"30\" height=\"8\"/></g><text x=\"393\" y=\"21\">damaged, or an alarm</text>\n<text x=\"520\" y=\"21\">scale: bit times; holder: who may send tokens and requests, as far as the monitor knows</text>\n"

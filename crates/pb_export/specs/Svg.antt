@@ -20,12 +20,15 @@ use Rattle.pb_export.specs.Styles.{light, dark, patterns, legend}
 abbrev pub sheet_of : Window → ScenarioView → List Entry → (lanes : List ℕ) → Sheet
 sheet_of w s es lanes = record { from = w.from / 100 * 100; last = last_moment w s.scenario.until es; lanes = length lanes }
 
-abbrev pub head : Sheet → List ℕ
-head sheet =
+abbrev pub head_with : Sheet → (legend : List ℕ) → List ℕ
+head_with sheet legend =
     let height = decimal (top sheet (rows sheet)) in
     all_of (codes "<svg xmlns=\"http://www.w3.org/2000/svg\" width=\"" ∷ decimal 1170 ∷ codes "\" height=\"" ∷ height
     ∷ codes "\" viewBox=\"0 0 " ∷ decimal 1170 ∷ codes " " ∷ height ∷ codes "\">\n" ∷ light ∷ dark ∷ patterns
     ∷ codes "<rect class=\"paper\" width=\"100%\" height=\"100%\"/>\n" ∷ legend ∷ [])
+
+abbrev pub head : Sheet → List ℕ
+head sheet = head_with sheet legend
 
 -- how many stations have no lane, if there are any
 abbrev pub left_out : ℕ → List ℕ

@@ -21,25 +21,25 @@ use std::alloc::{AllocError, Global};
 use std::slice;
 
 /// How far below the top of its lane a box begins, and how high it is.
-const BOX: Bar = Bar {
+pub(crate) const BOX: Bar = Bar {
     below: 4,
     height: 20,
 };
 
 /// The same for the mark of a telegram that a station heard damaged or not at all.
-const HEARD: Bar = Bar {
+pub(crate) const HEARD: Bar = Bar {
     below: 16,
     height: 8,
 };
 
 /// The band of who holds the token.
-const BAND: Bar = Bar {
+pub(crate) const BAND: Bar = Bar {
     below: 20,
     height: 18,
 };
 
 /// How far below the top of a bar the text of a box stands.
-const BASELINE: u64 = 14;
+pub(crate) const BASELINE: u64 = 14;
 
 /// Appends the box of an entry, with its line of the trace and its decoding as a title; for a telegram also a mark in
 /// each lane whose station heard it damaged or not at all.
@@ -144,7 +144,7 @@ fn push_record(
 }
 
 /// The class of a kind of telegram.
-fn class_of(kind: Kind) -> &'static [u8]
+pub(crate) fn class_of(kind: Kind) -> &'static [u8]
     ensures { result.now ≡ boxes.class_of kind }
 {
     match kind {
@@ -216,7 +216,7 @@ fn lane_or_first(lanes: &[usize], tap: usize) -> u64
 }
 
 /// A bar of a lane.
-fn in_lane(bar: Bar, lane: u64) -> Bar
+pub(crate) fn in_lane(bar: Bar, lane: u64) -> Bar
     requires bar { bar.below ≤ 100 }
     requires lane { lane ≤ 127 }
     ensures bar { result ≡ boxes.in_lane bar lane }
@@ -229,7 +229,7 @@ fn in_lane(bar: Bar, lane: u64) -> Bar
 }
 
 /// Appends the hatched bars of a telegram, if it is damaged.
-fn push_hatched_if(
+pub(crate) fn push_hatched_if(
     text: &mut Vec<u8>,
     is_damaged: bool,
     sheet: Sheet,
@@ -432,7 +432,7 @@ fn holder_of(scenario: &Scenario, tap: Option<usize>) -> &[u8]
 }
 
 /// Appends the name of a stretch of the band, in each strip in which it fits.
-fn push_holders(
+pub(crate) fn push_holders(
     text: &mut Vec<u8>,
     sheet: Sheet,
     stretch: Stretch,

@@ -38,7 +38,7 @@ pub(crate) fn push_burst_line(text: &mut Vec<u8>, burst: &HeardBurst) -> Result<
 }
 
 /// Appends characters in hex, with `--` for a damaged one.
-fn push_chars(text: &mut Vec<u8>, chars: &[RxChar]) -> Result<(), AllocError>
+pub(crate) fn push_chars(text: &mut Vec<u8>, chars: &[RxChar]) -> Result<(), AllocError>
     ensures { OnOk result (text.new.items ≡ text.old.items ++ flat_map json.char_hex chars.now) }
 {
     for char in chars {

@@ -12,7 +12,7 @@ use pb_monitor::HeardBurst;
 use pb_timers::BusParams;
 use std::alloc::{AllocError, Global};
 
-/// A form of the export of a capture that is written as bursts come.
+/// A form of the export of a capture.
 #[derive(Clone, Copy, Debug, PartialEq, Eq)]
 pub enum CaptureForm {
     /// A JSON object a line: the bus first, if it is known, then each burst.
@@ -21,6 +21,8 @@ pub enum CaptureForm {
     Pcap,
     /// A capture file with comments (pcapng).
     Pcapng,
+    /// A picture, which is made of all bursts at the end.
+    Svg,
 }
 
 /// What the export of a capture is to be.
@@ -34,14 +36,14 @@ pub struct CaptureExport {
     pub link: Link,
 }
 
-/// Appends what the export of a capture begins with: in pcap and pcapng the head of the file, in JSON nothing.
+/// Appends what the export of a capture begins with: in pcap and pcapng the head of the file, else nothing.
 ///
 /// Fault: memory was refused.
 pub fn push_capture_head(bytes: &mut Vec<u8>, export: &CaptureExport) -> Result<(), AllocError>
     ensures { OnOk result (bytes.new.items ≡ bytes.old.items ++ captures.head_of export.now) }
 {
     match export.form {
-        CaptureForm::Json => Ok(()),
+        CaptureForm::Json | CaptureForm::Svg => Ok(()),
         CaptureForm::Pcap => push_header(bytes, export.link),
         CaptureForm::Pcapng => {
             push_section(bytes)?;
@@ -62,11 +64,11 @@ pub fn push_capture_bus(
 {
     match export.form {
         CaptureForm::Json => push_bus_line(bytes, params),
-        CaptureForm::Pcap | CaptureForm::Pcapng => Ok(()),
+        CaptureForm::Pcap | CaptureForm::Pcapng | CaptureForm::Svg => Ok(()),
     }
 }
 
-/// Appends the next bursts of a capture, in the form that is asked for.
+/// Appends the next bursts of a capture, in the form that is asked for; of a picture nothing.
 ///
 /// Fault: memory was refused.
 pub fn push_bursts(
@@ -98,5 +100,6 @@ fn push_burst(
         CaptureForm::Json => push_burst_line(bytes, burst),
         CaptureForm::Pcap => push_burst_packet(bytes, burst, export.baud),
         CaptureForm::Pcapng => push_burst_block(bytes, alloc, burst, export.baud),
+        CaptureForm::Svg => Ok(()),
     }
 }

@@ -66,7 +66,7 @@ fn push_row(
 }
 
 /// Appends the line of each lane.
-fn push_lines(text: &mut Vec<u8>, sheet: Sheet) -> Result<(), AllocError>
+pub(crate) fn push_lines(text: &mut Vec<u8>, sheet: Sheet) -> Result<(), AllocError>
     ensures { OnOk result (text.new.items ≡ text.old.items ++ lanes.lines sheet) }
 {
     text.extend_from_slice(b"<g class=\"line\">\n")?;
@@ -102,7 +102,7 @@ fn push_line(text: &mut Vec<u8>, sheet: Sheet, lane: u64) -> Result<(), AllocErr
 }
 
 /// Appends the scale of a strip: a number and a line for each 100 bit times.
-fn push_scale(text: &mut Vec<u8>, sheet: Sheet, strip: u64) -> Result<(), AllocError>
+pub(crate) fn push_scale(text: &mut Vec<u8>, sheet: Sheet, strip: u64) -> Result<(), AllocError>
     requires { strip ≤ 4000000000 }
     ensures { OnOk result (text.new.items ≡ text.old.items ++ lanes.scale sheet strip) }
 {
@@ -223,7 +223,7 @@ fn push_station(
 }
 
 /// Appends the begin of a text left of a strip, so far below the top of the picture.
-fn push_label(text: &mut Vec<u8>, below: u64) -> Result<(), AllocError>
+pub(crate) fn push_label(text: &mut Vec<u8>, below: u64) -> Result<(), AllocError>
     ensures { OnOk result (text.new.items ≡ text.old.items ++ lanes.label below) }
 {
     push_pieces(

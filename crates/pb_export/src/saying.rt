@@ -4,6 +4,7 @@ ghost use Rattle.std.specs.Prelude.{◌≡◌, ◌≤◌, ◌++◌, OnOk, length
 ghost use Rattle.pb_telegram.specs.declared.chars.RxChar.TheVariants.{Good};
 ghost use Rattle.law_turn.specs.Arrivals.{arrival_of};
 ghost use Rattle.pb_medium.specs.Entries.{record_of};
+ghost use Rattle.pb_transitions.specs.Arrivals.{brings};
 ghost use Rattle.pb_export.specs.Saying as saying;
 
 use crate::pieces::{Piece, push_pieces};
@@ -30,7 +31,14 @@ pub(crate) enum Kind {
 pub(crate) fn kind_of(octets: &[u8]) -> Kind
     ensures { result ≡ saying.kind_of (arrival_of (map Good octets.now)) }
 {
-    match spelled_telegram(octets) {
+    kind_in(&spelled_telegram(octets))
+}
+
+/// The kind of a telegram, if there is one.
+pub(crate) fn kind_in(telegram: &Option<Telegram>) -> Kind
+    ensures { result ≡ saying.kind_of (brings telegram.now) }
+{
+    match telegram {
         Some(Telegram::Token(_)) => Kind::Token,
         Some(Telegram::Ack) => Kind::Acknowledgement,
         Some(Telegram::Short(short)) => framed_kind(short.fc),
@@ -77,7 +85,17 @@ pub(crate) fn push_word(text: &mut Vec<u8>, octets: &[u8]) -> Result<(), AllocEr
     ensures { OnOk result (text.new.items
         ≡ text.old.items ++ saying.word_text (arrival_of (map Good octets.now))) }
 {
-    match spelled_telegram(octets) {
+    push_word_of(text, &spelled_telegram(octets))
+}
+
+/// Appends the short word of a telegram, if there is one.
+pub(crate) fn push_word_of(
+    text: &mut Vec<u8>,
+    telegram: &Option<Telegram>,
+) -> Result<(), AllocError>
+    ensures { OnOk result (text.new.items ≡ text.old.items ++ saying.word_text (brings telegram.now)) }
+{
+    match telegram {
         Some(Telegram::Token(token)) => push_numbered(text, b"token to", u64::from(token.da)),
         Some(Telegram::Ack) => text.extend_from_slice(b"ack"),
         Some(Telegram::Short(short)) => push_framed(text, short.da, short.fc, 0),

@@ -92,3 +92,17 @@ pub(crate) fn legend() -> &'static [u8]
 <text x=\"640\" y=\"21\">scale: bit times; holder: who has the token</text>
 "
 }
+
+/// The legend of a capture.
+#[tactic(auto, unfolding(crate::specs::Styles::capture_legend))]
+pub(crate) fn capture_legend() -> &'static [u8]
+    ensures { result.now ≡ styles.capture_legend }
+{
+    b"<g class=\"token\"><rect x=\"131\" y=\"8\" width=\"44\" height=\"18\"/><text x=\"137\" y=\"21\">token</text></g>
+<g class=\"request\"><rect x=\"187\" y=\"8\" width=\"54\" height=\"18\"/><text x=\"193\" y=\"21\">request</text></g>
+<g class=\"reply\"><rect x=\"253\" y=\"8\" width=\"42\" height=\"18\"/><text x=\"259\" y=\"21\">reply</text></g>
+<g class=\"ack\"><rect x=\"307\" y=\"8\" width=\"30\" height=\"18\"/><text x=\"313\" y=\"21\">ack</text></g>
+<g class=\"hearer\"><rect x=\"357\" y=\"13\" width=\"30\" height=\"8\"/></g><text x=\"393\" y=\"21\">damaged, or an alarm</text>
+<text x=\"520\" y=\"21\">scale: bit times; holder: who may send tokens and requests, as far as the monitor knows</text>
+"
+}

@@ -22,7 +22,7 @@ use pb_scenario::{Entry, Scenario};
 use std::alloc::{AllocError, Global};
 
 /// A picture begins at a multiple of this many bit times.
-const STEP: u64 = 100;
+pub(crate) const STEP: u64 = 100;
 
 /// Appends a trace as a picture (SVG): rows of 500 bit times from left to right, in each a scale, a band that says who
 /// holds the token, and a lane for each station. Each telegram is a box in the lane of who sent it. The caller ensures that
@@ -174,6 +174,17 @@ fn push_left_out(text: &mut Vec<u8>, stations: usize) -> Result<(), AllocError>
 fn push_head(text: &mut Vec<u8>, sheet: Sheet) -> Result<(), AllocError>
     ensures { OnOk result (text.new.items ≡ text.old.items ++ svg.head sheet) }
 {
+    push_head_with(text, sheet, legend())
+}
+
+/// The same with a legend.
+pub(crate) fn push_head_with(
+    text: &mut Vec<u8>,
+    sheet: Sheet,
+    legend: &[u8],
+) -> Result<(), AllocError>
+    ensures { OnOk result (text.new.items ≡ text.old.items ++ svg.head_with sheet legend.now) }
+{
     let height = sheet.top(sheet.rows());
     push_pieces(
         text,
@@ -191,7 +202,7 @@ fn push_head(text: &mut Vec<u8>, sheet: Sheet) -> Result<(), AllocError>
             Piece::Text(dark()),
             Piece::Text(patterns()),
             Piece::Text(b"<rect class=\"paper\" width=\"100%\" height=\"100%\"/>\n"),
-            Piece::Text(legend()),
+            Piece::Text(legend),
         ],
     )
 }

@@ -8,7 +8,7 @@ use crate::options::Window;
 use pb_scenario::Entry;
 
 /// A moment after each of a clock, in bit times.
-const END: u64 = 2_000_000_000_000;
+pub(crate) const END: u64 = 2_000_000_000_000;
 
 /// How many nanoseconds a second has.
 pub(crate) const SECOND: u64 = 1_000_000_000;

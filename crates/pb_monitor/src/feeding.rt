@@ -122,6 +122,7 @@ impl Monitor {
         self.kept.end(Known {
             span: None,
             count: octets.len() as u64,
+            before: None,
             holder: None,
             alarm: None,
         })

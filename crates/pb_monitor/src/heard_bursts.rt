@@ -1,11 +1,15 @@
 //! Bursts as a monitor hands them on, for exports.
 
+ghost use Rattle.std.specs.Prelude.{◌≡◌, ◌≤◌};
+ghost use Rattle.pb_monitor.specs.Holders.{holder_of};
+
 use crate::alarms::Alarm;
-use crate::holders::Holder;
+use crate::holders::{Holder, named_holder};
+use crate::states::{State, live};
 use arrayvec::ArrayVec;
 use pb_decode::character;
 use pb_telegram::RxChar;
-use pb_timers::CHARACTER_BITS;
+use pb_timers::{BusParams, CHARACTER_BITS};
 use std::alloc::{AllocError, Global};
 use std::mem::replace;
 
@@ -15,6 +19,15 @@ pub const MOST_CHARACTERS: usize = 256;
 
 /// How many bit times a bus is idle between two bursts without moments: as long as before a request, at least.
 const IDLE: u64 = 33;
+
+/// Who may send tokens and requests just before a burst.
+#[derive(Clone, Copy, Debug, PartialEq, Eq)]
+pub struct Named {
+    /// Who may.
+    pub holder: Holder,
+    /// Until when the one was named who was named behind the burst before, in bit times: at most the begin of this burst.
+    pub since: u64,
+}
 
 /// A burst that a monitor has heard, and what it knew then.
 #[derive(Clone, Debug, PartialEq, Eq, Drop)]
@@ -29,6 +42,8 @@ pub struct HeardBurst {
     pub chars: ArrayVec<RxChar, MOST_CHARACTERS>,
     /// How many characters it has.
     pub count: u64,
+    /// Who may send tokens and requests just before it, if that is judged and something was heard before.
+    pub before: Option<Named>,
     /// Who may send tokens and requests behind it, if that is judged.
     pub holder: Option<Holder>,
     /// What is wrong with its telegram.
@@ -42,6 +57,7 @@ pub(crate) struct Known {
     pub(crate) span: Option<(u64, u64)>,
     /// How many characters it has.
     pub(crate) count: u64,
+    pub(crate) before: Option<Named>,
     pub(crate) holder: Option<Holder>,
     pub(crate) alarm: Option<Alarm>,
 }
@@ -132,6 +148,7 @@ impl Kept {
         let Known {
             span,
             count,
+            before,
             holder,
             alarm,
         } = known;
@@ -143,6 +160,7 @@ impl Kept {
             is_timed: span.is_some(),
             chars: replace(&mut self.chars, ArrayVec::new()),
             count,
+            before,
             holder,
             alarm,
         })?;
@@ -156,6 +174,29 @@ impl Kept {
             None => 0,
         };
         (begin, begin.saturating_add(bits(count)))
+    }
+}
+
+/// Who may send tokens and requests just before a burst that begins at a moment.
+pub(crate) fn named_before(params: &BusParams, slack: u32, state: State, begin: u64) -> Named
+    ensures holder { result.holder ≡ holder_of params.now slack state begin }
+    ensures since { result.since ≤ begin }
+{
+    Named {
+        holder: named_holder(params, slack, state, begin),
+        since: named_until(params, slack, state).min(begin),
+    }
+}
+
+/// Until when the one is named who is named behind the last burst, if nothing more is heard.
+fn named_until(params: &BusParams, slack: u32, state: State) -> u64 {
+    let silence = state.quiet.saturating_add(live(params, slack));
+    match state.last {
+        Some(last) if last.offered.is_some() => {
+            let slot = last.end.saturating_add(u64::from(params.tsl()));
+            slot.saturating_sub(u64::from(slack)).min(silence)
+        }
+        _ => silence,
     }
 }
 

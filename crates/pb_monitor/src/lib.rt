@@ -38,7 +38,7 @@ pub use alarms::{Alarm, AlarmClass, Classes};
 pub use bursts::Burst;
 pub use cutting::{Cut, Cutter};
 pub use formats::{Form, Options, SummaryForm};
-pub use heard_bursts::{HeardBurst, MOST_CHARACTERS};
+pub use heard_bursts::{HeardBurst, MOST_CHARACTERS, Named};
 pub use holders::Holder;
 pub use judges::Judge;
 pub use laws::{

@@ -6,7 +6,7 @@ use crate::buffers::LineBuffer;
 use crate::bursts::Burst;
 use crate::cutting::Cutter;
 use crate::formats::{Form, Options};
-use crate::heard_bursts::{HeardBurst, Kept, Known, bits};
+use crate::heard_bursts::{HeardBurst, Kept, Known, Named, bits, named_before};
 use crate::judges::Judge;
 use crate::lines::{Line, LineFault, Told, When, read_line, tell};
 use crate::meanings::{Meaning, meaning_in};
@@ -51,7 +51,7 @@ pub struct Monitor {
 }
 
 impl Monitor {
-    ghost use Rattle.std.specs.Prelude.{◌≡◌, [], true};
+    ghost use Rattle.std.specs.Prelude.{◌≡◌, ◌≤◌, [], true, IfSome};
 
     /// A monitor of a bus with these parameters. Without parameters it decodes and counts, and judges nothing.
     ///
@@ -258,12 +258,17 @@ impl Monitor {
             telegram: self.receiver.answer(),
         };
         self.statistics.hear(&burst);
+        let before = if self.kept.is_wanted() {
+            self.named_before(begin)
+        } else {
+            None
+        };
         let raised = self.judge(&burst);
         if self.is_told() {
             self.push_burst(&burst, text)?;
         }
         if self.kept.is_wanted() {
-            self.keep(&burst, raised.as_ref())?;
+            self.keep(&burst, before, raised.as_ref())?;
         }
         if let Some(raised) = raised {
             self.tell_alarm(&raised, begin, text)?;
@@ -297,9 +302,23 @@ impl Monitor {
         self.options.summary.is_none() && !self.kept.is_wanted()
     }
 
+    /// Who may send tokens and requests just before a burst that begins at a moment.
+    fn named_before(&self, begin: u64) -> Option<Named>
+        ensures { IfSome result (λ named. named.since ≤ begin) }
+    {
+        let params = self.params.as_ref()?;
+        let judge = self.judge.as_ref()?;
+        Some(named_before(params, self.options.slack, judge.state(), begin))
+    }
+
     /// Keeps a burst with moments, to hand it on.
     #[inline(never)]
-    fn keep(&mut self, burst: &Burst, raised: Option<&Raised>) -> Result<(), AllocError> {
+    fn keep(
+        &mut self,
+        burst: &Burst,
+        before: Option<Named>,
+        raised: Option<&Raised>,
+    ) -> Result<(), AllocError> {
         let holder = match &self.judge {
             Some(judge) => Some(judge.holder(burst.end)),
             None => None,
@@ -307,6 +326,7 @@ impl Monitor {
         self.kept.end(Known {
             span: Some((burst.begin, burst.end)),
             count: self.receiver.fed(),
+            before,
             holder,
             alarm: raised.map(|raised| raised.alarm),
         })
@@ -374,6 +394,7 @@ impl Monitor {
             let known = Known {
                 span: None,
                 count: self.receiver.fed(),
+                before: None,
                 holder: None,
                 alarm: raised.map(|wrong| wrong.alarm),
             };

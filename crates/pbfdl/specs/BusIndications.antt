@@ -1,5 +1,5 @@
 -- What C is told of the requests that stations of a bus execute.
-use Rattle.std.specs.Prelude.{◌≡◌, ℕ, length, slice_get, Option, Some, None, Result, MatchResult}
+use Rattle.std.specs.Prelude.{◌≡◌, ℕ, List, length, slice_get, Option, Some, None, Result, MatchResult}
 use Rattle.pb_station.specs.Indications.{IndicationFields}
 use Rattle.pb_taps.specs.declared.faults.WorldFault.{WorldFault}
 use Rattle.pb_world.specs.Driven.{Forgets, KeepsFrom, RefusesToKeep, StaysBut}

@@ -1,22 +1,10 @@
-use Rattle.std.proofs.Common.{◌≡◌, ◌∙◌, ap, ◌++◌, ◌∷◌, [], ℕ, List}
-use Rattle.std.specs.Prelude.{codes, decimal, OnOk}
-use Rattle.pb_export.specs.Places.{rows, top}
-use Rattle.pb_export.specs.Styles.{light, dark, patterns, legend}
-use Rattle.pb_export.specs.Pieces.{all_of}
+use Rattle.std.proofs.Common.{ap}
+use Rattle.pb_export.specs.Styles.{legend}
+use Rattle.pb_export.specs.Svg.{head_with}
 use Rattle.pb_texts.proofs.Pieces.{last}
 use Rattle.pb_export.proofs.svg.push_head.Goals as goal
 
 pub returns : goal.returns
 returns c =
-    let sheet = c.args.sheet in
-    let text = c.args.text.now.items in
-    let is : OnOk c.push_pieces.result (c.push_pieces.new.text.items ≡ text ++ all_of ((codes "<svg xmlns=\"http://www.w3.org/2000/svg\" width=\"") ∷ (decimal 1170) ∷ (codes "\" height=\"") ∷ (decimal c.top-height.result) ∷ (codes "\" viewBox=\"0 0 ") ∷ (decimal 1170) ∷ (codes " ") ∷ (decimal c.top-height.result) ∷ (codes "\">\n") ∷ c.light.result.now ∷ c.dark.result.now ∷ c.patterns.result.now ∷ (codes "<rect class=\"paper\" width=\"100%\" height=\"100%\"/>\n") ∷ c.legend.result.now ∷ [])) = c.push_pieces.ensures in
-    last c.push_pieces.result text c.push_pieces.new.text.items
-    (all_of ((codes "<svg xmlns=\"http://www.w3.org/2000/svg\" width=\"") ∷ (decimal 1170) ∷ (codes "\" height=\"") ∷ (decimal c.top-height.result) ∷ (codes "\" viewBox=\"0 0 ") ∷ (decimal 1170) ∷ (codes " ") ∷ (decimal c.top-height.result) ∷ (codes "\">\n") ∷ c.light.result.now ∷ c.dark.result.now ∷ c.patterns.result.now ∷ (codes "<rect class=\"paper\" width=\"100%\" height=\"100%\"/>\n") ∷ c.legend.result.now ∷ []))
-    (all_of ((codes "<svg xmlns=\"http://www.w3.org/2000/svg\" width=\"") ∷ (decimal 1170) ∷ (codes "\" height=\"") ∷ (decimal ((top sheet (rows sheet)))) ∷ (codes "\" viewBox=\"0 0 ") ∷ (decimal 1170) ∷ (codes " ") ∷ (decimal ((top sheet (rows sheet)))) ∷ (codes "\">\n") ∷ light ∷ dark ∷ patterns ∷ (codes "<rect class=\"paper\" width=\"100%\" height=\"100%\"/>\n") ∷ legend ∷ []))
-    (ap (λ (v : ℕ). all_of ((codes "<svg xmlns=\"http://www.w3.org/2000/svg\" width=\"") ∷ (decimal 1170) ∷ (codes "\" height=\"") ∷ (decimal v) ∷ (codes "\" viewBox=\"0 0 ") ∷ (decimal 1170) ∷ (codes " ") ∷ (decimal c.top-height.result) ∷ (codes "\">\n") ∷ c.light.result.now ∷ c.dark.result.now ∷ c.patterns.result.now ∷ (codes "<rect class=\"paper\" width=\"100%\" height=\"100%\"/>\n") ∷ c.legend.result.now ∷ [])) (c.top-height.ensures.value ∙ ap (top sheet) c.rows.ensures.value)
-    ∙ ap (λ (v : ℕ). all_of ((codes "<svg xmlns=\"http://www.w3.org/2000/svg\" width=\"") ∷ (decimal 1170) ∷ (codes "\" height=\"") ∷ (decimal ((top sheet (rows sheet)))) ∷ (codes "\" viewBox=\"0 0 ") ∷ (decimal 1170) ∷ (codes " ") ∷ (decimal v) ∷ (codes "\">\n") ∷ c.light.result.now ∷ c.dark.result.now ∷ c.patterns.result.now ∷ (codes "<rect class=\"paper\" width=\"100%\" height=\"100%\"/>\n") ∷ c.legend.result.now ∷ [])) (c.top-height.ensures.value ∙ ap (top sheet) c.rows.ensures.value)
-    ∙ ap (λ (v : List ℕ). all_of ((codes "<svg xmlns=\"http://www.w3.org/2000/svg\" width=\"") ∷ (decimal 1170) ∷ (codes "\" height=\"") ∷ (decimal ((top sheet (rows sheet)))) ∷ (codes "\" viewBox=\"0 0 ") ∷ (decimal 1170) ∷ (codes " ") ∷ (decimal ((top sheet (rows sheet)))) ∷ (codes "\">\n") ∷ v ∷ c.dark.result.now ∷ c.patterns.result.now ∷ (codes "<rect class=\"paper\" width=\"100%\" height=\"100%\"/>\n") ∷ c.legend.result.now ∷ [])) (c.light.ensures)
-    ∙ ap (λ (v : List ℕ). all_of ((codes "<svg xmlns=\"http://www.w3.org/2000/svg\" width=\"") ∷ (decimal 1170) ∷ (codes "\" height=\"") ∷ (decimal ((top sheet (rows sheet)))) ∷ (codes "\" viewBox=\"0 0 ") ∷ (decimal 1170) ∷ (codes " ") ∷ (decimal ((top sheet (rows sheet)))) ∷ (codes "\">\n") ∷ light ∷ v ∷ c.patterns.result.now ∷ (codes "<rect class=\"paper\" width=\"100%\" height=\"100%\"/>\n") ∷ c.legend.result.now ∷ [])) (c.dark.ensures)
-    ∙ ap (λ (v : List ℕ). all_of ((codes "<svg xmlns=\"http://www.w3.org/2000/svg\" width=\"") ∷ (decimal 1170) ∷ (codes "\" height=\"") ∷ (decimal ((top sheet (rows sheet)))) ∷ (codes "\" viewBox=\"0 0 ") ∷ (decimal 1170) ∷ (codes " ") ∷ (decimal ((top sheet (rows sheet)))) ∷ (codes "\">\n") ∷ light ∷ dark ∷ v ∷ (codes "<rect class=\"paper\" width=\"100%\" height=\"100%\"/>\n") ∷ c.legend.result.now ∷ [])) (c.patterns.ensures)
-    ∙ ap (λ (v : List ℕ). all_of ((codes "<svg xmlns=\"http://www.w3.org/2000/svg\" width=\"") ∷ (decimal 1170) ∷ (codes "\" height=\"") ∷ (decimal ((top sheet (rows sheet)))) ∷ (codes "\" viewBox=\"0 0 ") ∷ (decimal 1170) ∷ (codes " ") ∷ (decimal ((top sheet (rows sheet)))) ∷ (codes "\">\n") ∷ light ∷ dark ∷ patterns ∷ (codes "<rect class=\"paper\" width=\"100%\" height=\"100%\"/>\n") ∷ v ∷ [])) (c.legend.ensures)) is
+    last c.push_head_with.result c.args.text.now.items c.push_head_with.new.text.items (head_with c.args.sheet c.legend.result.now) (head_with c.args.sheet legend)
+    (ap (head_with c.args.sheet) c.legend.ensures) c.push_head_with.ensures
