@@ -14,7 +14,8 @@ use Rattle.pb_medium.specs.declared.traces.Trace.{Trace}
 use Rattle.pb_taps.specs.declared.faults.WorldFault.{WorldFault}
 use Rattle.law_runs.specs.Runs.{run}
 use Rattle.law_runs.specs.Scenarios.{At}
-use Rattle.law_streams.specs.Streams.{Streamed, telling_bus, streamed_of}
+use Rattle.law_streams.specs.Audits.{no_events}
+use Rattle.law_streams.specs.Streams.{Streamed, telling_bus, streamed_of, stream_on}
 use Rattle.law_streams.specs.Limits.{stream_behind}
 use Rattle.law_streams.proofs.Followed.{stream-behind}
 use Rattle.law_streams.proofs.Instants.{more-instants}
@@ -24,49 +25,15 @@ use Rattle.pb_scenario.specs.Walks.{WalkView, plan_in}
 use Rattle.pb_world.specs.Buses.{world_of, IsKept}
 use Rattle.pb_world.specs.LettingGo.{LetsPastGo}
 use Rattle.pb_world.specs.declared.buses.Bus.{Bus}
-use Rattle.pb_stream.specs.Plays.{EndsIn, GoesOn}
+use Rattle.pb_stream.specs.Plays.{GoesOn, IsNext, StopsIn}
+use Rattle.pb_stream.specs.Stages.{GoesFrom, bus_view}
 use Rattle.pb_stream.specs.Streams.{HandsOn, IsShort}
+use Rattle.pb_stream.proofs.Courses.{goes-streams, stops-streams}
 use Rattle.pb_stream.proofs.Playing.{stops-so}
 
 -- what is to come from a moment on
 abbrev pub to_come : WalkView → World → Option Streamed
 to_come walk w = streamed_of (run (walk.until + 1) telling_bus (plan_in walk) walk.clock w)
-
-pub goes-rest : (walk after : WalkView) (old mid new : World) (at : ℕ) (entries : List Entry) → after ≡ record walk { clock = at } → GoesOn walk old (Some at) mid → mid ≡ behind entries new → IsPast entries new
-    → to_come walk old ≡ stream_behind entries (to_come after new)
-goes-rest walk after old mid new at entries moved goes whole past =
-    let p = plan_in walk in
-    let k = walk.until in
-    let one : k + 1 ≡ suc k = omega arith in
-    ap (λ n. streamed_of (run n telling_bus p walk.clock old)) one ∙ goes.rest k
-    ∙ ap streamed_of (sym (more-instants k p at mid goes.later.1 (omega (arith, goes.later.0))))
-    ∙ ap (λ w. streamed_of (run (suc k) telling_bus p at w)) whole
-    ∙ stream-behind entries new (suc k) at p past
-    ∙ ap (λ n. stream_behind entries (streamed_of (run n telling_bus p at new))) (sym one)
-    ∙ ap (λ (v : WalkView). stream_behind entries (to_come v new)) (sym moved)
-
-pub ends-rest : (walk : WalkView) (old mid : World) → GoesOn walk old None mid → to_come walk old ≡ Some (record { entries = mid.trace; fault = None })
-ends-rest walk old mid goes =
-    let one : walk.until + 1 ≡ suc walk.until = omega arith in
-    ap (λ n. streamed_of (run n telling_bus (plan_in walk) walk.clock old)) one ∙ goes.rest walk.until
-
-pub stops-rest : (walk : WalkView) (old mid : World) (fault : WorldFault) → EndsIn walk old fault mid
-    → IfSome (model_fault fault) (λ f. to_come walk old ≡ Some (record { entries = mid.trace; fault = Some (At walk.clock f) }))
-stops-rest walk old mid fault ends =
-    let one : walk.until + 1 ≡ suc walk.until = omega arith in
-    stops-so fault (λ f. (left : ℕ) → streamed_of (run (suc left) telling_bus (plan_in walk) walk.clock old) ≡ Some (record { entries = mid.trace; fault = Some (At walk.clock f) }))
-    (λ f. to_come walk old ≡ Some (record { entries = mid.trace; fault = Some (At walk.clock f) }))
-    (λ f is. ap (λ n. streamed_of (run n telling_bus (plan_in walk) walk.clock old)) one ∙ is walk.until) ends
-
--- ---- what is kept
-
--- where fewer than a block can be let go, the trace is short
-pub is-short : (block : ℕ) (t : Trace) → over_of t ≤ length (entries_of t) → length (past_of t) < max block 1 → IsShort block t
-is-short block t within few room =
-    let all : over_of t + length (recent_of t) ≡ length (entries_of t) = omega (arith, within, length-drop (over_of t) (entries_of t)) in
-    let gone : gone_of t ≡ over_of t = ap (λ b. if b then over_of t else 0) (le-leb (over_of t) (limit_of t) room) in
-    let count : length (past_of t) ≡ over_of t = length-take-le (gone_of t) (entries_of t) (omega (arith, within, gone)) ∙ gone in
-    omega (arith, few, all, count)
 
 -- ---- none are let go
 
@@ -82,6 +49,60 @@ behind-none w = let same : w.limit ≡ 0 + w.limit = omega arith in ap (λ limit
 
 pub hands-none : (names : List (List ℕ)) (bus : Bus) (text : List ℕ) → IsKept bus → HandsOn names bus text bus text
 hands-none names bus text kept = ([], sym (append-nil text), record { whole = behind-none (world_of bus); past = none-past (world_of bus); kept = kept })
+
+-- ---- an instant
+
+-- a bus is at the end of the course without events from its world
+pub from-bus : (bus : Bus) → IsKept bus → GoesFrom (bus_view bus) [] (no_events (world_of bus))
+from-bus bus kept = record { at = record { kept = kept; past = none-past (world_of bus); here = behind-none (world_of bus); found = tt }; knows = tt }
+
+goes-world : (walk : WalkView) (old mid : Bus) (t : Option ℕ) → GoesOn walk [] (no_events (world_of old)) t (bus_view mid)
+    → to_come walk (world_of old) ≡ stream_on (plan_in walk) walk.until t (world_of mid)
+goes-world walk old mid t goes =
+    let p = plan_in walk in
+    let one : walk.until + 1 ≡ suc walk.until = omega arith in
+    ap (λ n. streamed_of (run n telling_bus p walk.clock (world_of old))) one
+    ∙ goes-streams walk.until walk.clock p (no_events (world_of old)) goes.after t goes.events (goes.rest walk.until)
+    ∙ ap (stream_on p walk.until t) (goes.from.at.here ∙ sym (behind-none (world_of mid)))
+
+pub goes-rest : (walk after : WalkView) (old mid : Bus) (new : World) (at : ℕ) (entries : List Entry) → after ≡ record walk { clock = at }
+    → GoesOn walk [] (no_events (world_of old)) (Some at) (bus_view mid) → IsNext walk at → world_of mid ≡ behind entries new → IsPast entries new
+    → to_come walk (world_of old) ≡ stream_behind entries (to_come after new)
+goes-rest walk after old mid new at entries moved goes next whole past =
+    let p = plan_in walk in
+    let k = walk.until in
+    let one : k + 1 ≡ suc k = omega arith in
+    goes-world walk old mid (Some at) goes
+    ∙ ap streamed_of (sym (more-instants k p at (world_of mid) next.in_time (omega (arith, next.later))))
+    ∙ ap (λ w. streamed_of (run (suc k) telling_bus p at w)) whole
+    ∙ stream-behind entries new (suc k) at p past
+    ∙ ap (λ n. stream_behind entries (streamed_of (run n telling_bus p at new))) (sym one)
+    ∙ ap (λ (v : WalkView). stream_behind entries (to_come v new)) (sym moved)
+
+pub ends-rest : (walk : WalkView) (old mid : Bus) → GoesOn walk [] (no_events (world_of old)) None (bus_view mid)
+    → to_come walk (world_of old) ≡ Some (record { entries = entries_of mid.trace; fault = None })
+ends-rest walk old mid goes = goes-world walk old mid None goes
+
+pub stops-rest : (walk : WalkView) (old mid : Bus) (fault : WorldFault) → IfSome (model_fault fault) (λ f. StopsIn walk [] (no_events (world_of old)) f (bus_view mid))
+    → IfSome (model_fault fault) (λ f. to_come walk (world_of old) ≡ Some (record { entries = entries_of mid.trace; fault = Some (At walk.clock f) }))
+stops-rest walk old mid fault stops =
+    let p = plan_in walk in
+    let one : walk.until + 1 ≡ suc walk.until = omega arith in
+    stops-so fault (λ f. StopsIn walk [] (no_events (world_of old)) f (bus_view mid))
+    (λ f. to_come walk (world_of old) ≡ Some (record { entries = entries_of mid.trace; fault = Some (At walk.clock f) }))
+    (λ f is. ap (λ n. streamed_of (run n telling_bus p walk.clock (world_of old))) one
+    ∙ stops-streams walk.until walk.clock walk.clock p (no_events (world_of old)) is.after f (is.rest walk.until)
+    ∙ ap (λ (w : World). Some (record { entries = w.trace; fault = Some (At walk.clock f) })) is.at.here) stops
+
+-- ---- what is kept
+
+-- where fewer than a block can be let go, the trace is short
+pub is-short : (block : ℕ) (t : Trace) → over_of t ≤ length (entries_of t) → length (past_of t) < max block 1 → IsShort block t
+is-short block t within few room =
+    let all : over_of t + length (recent_of t) ≡ length (entries_of t) = omega (arith, within, length-drop (over_of t) (entries_of t)) in
+    let gone : gone_of t ≡ over_of t = ap (λ b. if b then over_of t else 0) (le-leb (over_of t) (limit_of t) room) in
+    let count : length (past_of t) ≡ over_of t = length-take-le (gone_of t) (entries_of t) (omega (arith, within, gone)) ∙ gone in
+    omega (arith, few, all, count)
 
 -- ---- more are let go
 

@@ -1,2 +1,5 @@
+pub mod Audits
+pub mod Courses
 pub mod Plays
+pub mod Stages
 pub mod Streams

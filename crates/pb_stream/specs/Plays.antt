@@ -1,44 +1,63 @@
--- The results of playing events and instants on a bus, up to the event that is refused.
-use Rattle.std.specs.Prelude.{◌≡◌, ℕ, suc, ◌<◌, ◌≤◌, List, length, Option, Some, Result, Ok, Err, MatchResult, IfSome}
-use Rattle.law_model.specs.World.{World, Event}
+-- The results of playing events and instants, up to the event that is refused.
+use Rattle.std.specs.Prelude.{◌≡◌, ℕ, suc, ◌<◌, ◌≤◌, List, Option, Some, Result, Ok, Err, MatchResult, IfSome}
+use Rattle.law_model.specs.Trace.{Entry}
+use Rattle.law_model.specs.World.{Event, Fault}
 use Rattle.pb_taps.specs.declared.faults.WorldFault.{WorldFault}
-use Rattle.law_runs.specs.Runs.{all, run}
-use Rattle.law_runs.specs.Scenarios.{At}
-use Rattle.law_streams.specs.Streams.{telling_bus, stream_on, streamed_of}
+use Rattle.law_runs.specs.Premises.{Course}
+use Rattle.law_runs.specs.Runs.{all, ending, run, turns}
+use Rattle.law_streams.specs.Audits.{watched_bus}
 use Rattle.pb_scenario.specs.Faults.{model_fault}
 use Rattle.pb_scenario.specs.Walks.{WalkView, plan_in}
+use Rattle.pb_stream.specs.Courses.{Reaches}
+use Rattle.pb_stream.specs.Stages.{StageView, GoesFrom, IsAt}
 
 -- ---- events of a moment
 
--- at a moment the first of some events that is refused is refused in a world, with this fault; refused memory is no fault
--- of the run
-abbrev pub StopsAt : ℕ → World → List Event → WorldFault → World → Type 0
-StopsAt now old es fault new = IfSome (model_fault fault) (λ f. all telling_bus now es old ≡ Err (now, (new, f)))
+-- they have happened after a course
+abbrev pub HappenedAt : ℕ → List Entry → Course → List Event → StageView → Type 0
+HappenedAt now old c es new = (after : Course) × GoesFrom new old after × (all watched_bus now es c ≡ Ok after)
 
--- they happen at a moment, or one of them is refused
-abbrev pub PlaysAt : ℕ → World → List Event → Result (Unit {0}) WorldFault → World → Type 0
-PlaysAt now old es result new = MatchResult result (λ _. all telling_bus now es old ≡ Ok new) (λ fault. StopsAt now old es fault new)
+-- the first of them that is refused is refused after a course, with this fault
+abbrev pub StoppedAt : ℕ → List Entry → Course → List Event → Fault → StageView → Type 0
+StoppedAt now old c es f new = (after : Course) × IsAt new old after × (all watched_bus now es c ≡ Err (now, (after, f)))
 
--- the same at any moment
-abbrev pub Stops : World → List Event → WorldFault → World → Type 0
-Stops old es fault new = IfSome (model_fault fault) (λ f. (now : ℕ) → all telling_bus now es old ≡ Err (now, (new, f)))
+-- they happen, or one of them is refused; refused memory is no fault of the run
+abbrev pub PlayedAt : ℕ → List Entry → Course → List Event → Result (Unit {0}) WorldFault → StageView → Type 0
+PlayedAt now old c es result new = MatchResult result (λ _. HappenedAt now old c es new) (λ fault. IfSome (model_fault fault) (λ f. StoppedAt now old c es f new))
 
-abbrev pub Plays : World → List Event → Result (Unit {0}) WorldFault → World → Type 0
-Plays old es result new = MatchResult result (λ _. (now : ℕ) → all telling_bus now es old ≡ Ok new) (λ fault. Stops old es fault new)
+-- at any moment, after whatever course has led to the stage
+abbrev pub Plays : StageView → List Event → Result (Unit {0}) WorldFault → StageView → Type 0
+Plays v es result new = (now : ℕ) (old : List Entry) (c : Course) → GoesFrom v old c → PlayedAt now old c es result new
+
+-- the turns of an instant
+abbrev pub PlaysTurns : WalkView → StageView → Result (Unit {0}) WorldFault → StageView → Type 0
+PlaysTurns walk v result new = (old : List Entry) (c : Course) → GoesFrom v old c
+    → PlayedAt walk.clock old c (turns watched_bus (plan_in walk) walk.clock c) result new
 
 -- ---- instants
 
 -- the events of an instant of a walk have happened, and then the run goes on at the next instant, if there is one
-pub record GoesOn (walk : WalkView) (old : World) (next : Option ℕ) (new : World) : Type 0 where
-  pub rest : (left : ℕ) → streamed_of (run (suc left) telling_bus (plan_in walk) walk.clock old) ≡ stream_on (plan_in walk) left next new
-  pub later : IfSome next (λ moment. (walk.clock < moment) × (moment ≤ walk.until))
-  pub not_past : IfSome next (λ moment. IfSome ((plan_in walk).later walk.clock) (λ step. moment ≤ step))
-  pub taps : length new.taps ≡ length old.taps
+pub record GoesOn (walk : WalkView) (old : List Entry) (c : Course) (next : Option ℕ) (new : StageView) : Type 0 where
+  pub after : Course
+  pub from : GoesFrom new old after
+  pub reached : Reaches c after
+  pub events : List Event
+  pub rest : (left : ℕ) → run (suc left) watched_bus (plan_in walk) walk.clock c ≡ ending next events after (run left watched_bus (plan_in walk))
 
--- an event of the instant is refused in a world, and that ends the stream
-abbrev pub EndsIn : WalkView → World → WorldFault → World → Type 0
-EndsIn walk old fault new = IfSome (model_fault fault) (λ f. (left : ℕ)
-    → streamed_of (run (suc left) telling_bus (plan_in walk) walk.clock old) ≡ Some (record { entries = new.trace; fault = Some (At walk.clock f) }))
+-- an event of the instant is refused, and that ends the run
+pub record StopsIn (walk : WalkView) (old : List Entry) (c : Course) (f : Fault) (new : StageView) : Type 0 where
+  pub after : Course
+  pub at : IsAt new old after
+  pub reached : Reaches c after
+  pub rest : (left : ℕ) → run (suc left) watched_bus (plan_in walk) walk.clock c ≡ Some (Err (walk.clock, (after, f)))
 
-abbrev pub Goes : WalkView → World → Result (Option ℕ) WorldFault → World → Type 0
-Goes walk old result new = MatchResult result (λ next. GoesOn walk old next new) (λ fault. EndsIn walk old fault new)
+-- after whatever course has led to the stage
+abbrev pub Goes : WalkView → StageView → Result (Option ℕ) WorldFault → StageView → Type 0
+Goes walk v result new = (old : List Entry) (c : Course) → GoesFrom v old c
+    → MatchResult result (λ next. GoesOn walk old c next new) (λ fault. IfSome (model_fault fault) (λ f. StopsIn walk old c f new))
+
+-- the next instant is later, not past the end, and not past the next step
+pub record IsNext (walk : WalkView) (at : ℕ) : Type 0 where
+  pub later : walk.clock < at
+  pub in_time : at ≤ walk.until
+  pub not_past : IfSome ((plan_in walk).later walk.clock) (λ step. at ≤ step)

@@ -13,7 +13,7 @@ use std::alloc::{AllocError, Global};
 pub const STREAM_END: u64 = 1_000_000_000_000;
 
 /// How many entries the trace of a stream may have.
-const ENTRIES: usize = 1_000_000_000_000;
+pub(crate) const ENTRIES: usize = 1_000_000_000_000;
 
 /// How far an instant has brought a stream.
 #[derive(Clone, Copy, Debug, PartialEq, Eq)]

@@ -8,6 +8,6 @@ use Rattle.pb_scenario.specs.Walks.{plan_in}
 use Rattle.pb_stream.proofs.plays.next_turn.Given as goal
 
 abbrev pub invariant-loop-tap : goal.invariant-loop-tap
-invariant-loop-tap l =
-    let due = dues (world_of l.bus) in
+invariant-loop-tap g l =
+    let due = dues (world_of (g.S.Stage.view l.stage).bus) in
     earlier l.first (next_turn (plan_in l.walk) l.walk.clock l.tap (drop l.tap due)) ≡ next_turn (plan_in l.walk) l.walk.clock 0 due
