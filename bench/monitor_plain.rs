@@ -569,7 +569,7 @@ fn push_alarm(text: &mut Vec<u8>, bus: &Bus, alarm: Alarm, said: Initiation, beg
     let silence = begin.saturating_sub(before.quiet);
     match alarm {
         Alarm::SpokeAfterLoss => {
-            push_counted(text, b"it is no claim after a silence of ", silence);
+            push_counted(text, b"it spoke without claiming after a silence of ", silence);
             push_counted(text, b", and a token in use leaves at most ", bus.longest_silence());
         }
         Alarm::ClaimedTooEarlyAfterLoss => {
@@ -1334,7 +1334,11 @@ impl Monitor {
         push_refused(&mut self.text, what, self.place);
         push_counted(&mut self.text, b"the burst begins at ", begin);
         push_counted(&mut self.text, b", before the last one ends at ", quiet);
-        self.text.extend_from_slice(b"; wanted: bursts in order\n");
+        self.text.extend_from_slice(b"; wanted: bursts in order");
+        if let Form::Pcap = self.form {
+            self.text.extend_from_slice(b" (is --baud that of the bus?)");
+        }
+        self.text.extend_from_slice(b"\n");
         self.refuse();
     }
 
@@ -1411,7 +1415,7 @@ impl Packets {
     fn moment(&mut self, head: &[u8], baud: u64) -> u64 {
         let (seconds, parts) = (u64::from(self.word(head, 0)), u64::from(self.word(head, 4)));
         let per_second = if self.is_nano { 1_000_000_000 } else { 1_000_000 };
-        let bits = seconds * baud + parts * baud / per_second;
+        let bits = seconds * baud + (parts * baud + per_second / 2) / per_second;
         bits.saturating_sub(*self.origin.get_or_insert(bits))
     }
 }

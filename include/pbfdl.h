@@ -329,7 +329,8 @@ uint32_t fdl_port_start(struct fdl_port *port, uint64_t now);
 uint32_t fdl_port_stop(struct fdl_port *port);
 
 /* A request with count octets of data, at most 246, waits behind the others of its priority, for a station with the address
- * da, or for all stations (127, FDL_SDN alone). A master sends it when it has the token; a start forgets it.
+ * da, or for all stations (127, FDL_SDN alone). A master sends it when it has the token. The answer says that it waits, not that
+ * the station runs or is a master: start the station first, since a start forgets all requests, and a passive one sends none.
  * Codes: FDL_BAD_SERVICE, FDL_LONG_DATA, FDL_BAD_STATION, FDL_NO_PORT, FDL_QUEUE_FULL. */
 uint32_t fdl_port_push(struct fdl_port *port, uint8_t da, uint8_t service, bool high, const uint8_t *data,
                        size_t count);
@@ -390,14 +391,16 @@ uint32_t fdl_port_is_active(struct fdl_port *port, uint8_t address, bool *active
  * Code: FDL_NO_PORT, with *count unchanged. */
 uint32_t fdl_port_executed(struct fdl_port *port, uint64_t *count);
 
-/* What came of the station's last request that had an outcome goes to *outcome.
+/* What came of the station's last request that had an outcome goes to *outcome. Right after fdl_port_push it is still that of an
+ * earlier request; an SDN has none. Of one request at a time the outcome is there after the turn that leaves FDL_AWAIT_DATA.
  * Code: FDL_NO_PORT, with *outcome unchanged. */
 uint32_t fdl_port_outcome(struct fdl_port *port, struct fdl_outcome *outcome);
 
 /* ---- A bus ---- */
 
 /* A bus with stations at its taps: a simulation whose events and moments the caller chooses. A tap is an index, from 0. The
- * clock counts bit times from 0 to 1,000,000,000,000. The bus is empty where `at` is NULL. */
+ * clock counts bit times from 0 to 1,000,000,000,000. Its trace has at most 100,000 entries, some 7,000,000 bit times of an idle
+ * ring of two; then events that add one are refused (FDL_TRACE_FULL). The bus is empty where `at` is NULL. */
 struct fdl_bus {
     void *at;
 };
@@ -530,17 +533,19 @@ uint32_t fdl_bus_is_active(struct fdl_bus *bus, size_t tap, uint8_t address, boo
  * Codes, with *count unchanged: FDL_NO_BUS, FDL_NO_SUCH_TAP. */
 uint32_t fdl_bus_executed(struct fdl_bus *bus, size_t tap, uint64_t *count);
 
-/* What came of the last request of the station at a tap that had an outcome goes to *outcome.
+/* What came of the last request of the station at a tap that had an outcome goes to *outcome. Right after fdl_bus_queue it is still
+ * that of an earlier request, and that of the same slave looks alike: ask another slave each time, or look at the phase.
  * Codes, with *outcome unchanged: FDL_NO_BUS, FDL_NO_SUCH_TAP. */
 uint32_t fdl_bus_outcome(struct fdl_bus *bus, size_t tap, struct fdl_outcome *outcome);
 
 /* Keeps the requests of others that the station at a tap executes from now on, as a port tells them (fdl_port_indication): the
- * first ones, as many as there is room for; a request takes 264 octets of memory. What was kept of this tap is forgotten.
+ * first ones, as many as there is room for; a request takes 264 octets of memory. Those beyond are not kept, but counted
+ * (fdl_bus_executed). What was kept of this tap is forgotten.
  * Codes, with what was kept before: FDL_NO_BUS; FDL_NO_SUCH_TAP; FDL_NO_MEMORY. */
 uint32_t fdl_bus_keep_indications(struct fdl_bus *bus, size_t tap, size_t room);
 
 /* How many of them are kept goes to *count.
- * Codes, with *count unchanged: FDL_NO_BUS; FDL_NO_INDICATION where they are not asked for. */
+ * Codes, with *count unchanged: FDL_NO_BUS; FDL_NO_INDICATION where they are not asked for, or where there is no such tap. */
 uint32_t fdl_bus_indications(struct fdl_bus *bus, size_t tap, size_t *count);
 
 /* The one with an index, from 0, in the order in which they were executed, goes to *indication.

@@ -2,3 +2,7 @@ pub mod Drawn
 pub mod Exported
 mod Streamed
 pub mod Written
+pub mod AuditWritten
+pub mod Appended
+pub mod SameExports
+pub mod Captured

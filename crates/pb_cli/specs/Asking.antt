@@ -16,4 +16,4 @@ IsWithinLimits (Bounds file baud json) = IsBaud baud
 IsWithinLimits (Monitor file options export) = IfSome export (λ x. IsBaud x.baud)
 IsWithinLimits (Capture file tap) = Unit {0}
 IsWithinLimits (Export file export) = IsBaud export.baud
-IsWithinLimits (Stream file until progress) = IfSome until (λ moment. moment ≤ stream_end)
+IsWithinLimits (Stream file until progress audit) = IfSome until (λ moment. moment ≤ stream_end)

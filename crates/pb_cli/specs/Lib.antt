@@ -1,13 +1,17 @@
 pub mod Asking
 pub mod Bounding
+pub mod Capturing
 pub mod Counted
 pub mod Counts
 pub mod Drawing
+pub mod Exporting
 pub mod Fleets
 pub mod Monitoring
 pub mod Playing
 pub mod Progress
 pub mod Reading
+pub mod Settling
 pub mod Statuses
 pub mod Writing
 pub mod Streaming
+pub mod StreamAudits

@@ -157,6 +157,7 @@ fn asked(alloc: Global, matches: &ArgMatches<'_>) -> Result<Ask, AskFault>
             file: file_in(alloc, stream)?,
             until: until_in(stream),
             progress: stream.get_flag(PROGRESS),
+            audit: stream.get_flag(AUDIT),
         }),
         _ => Ok(Ask::Decode),
     }
@@ -476,7 +477,9 @@ fn monitor_command<'a>(alloc: Global) -> Result<Command<'a>, AllocError> {
 fn capture_command<'a>(alloc: Global) -> Result<Command<'a>, AllocError> {
     Command::new(alloc, CAPTURE)
         .about("Prints what a listener hears of a scenario's run, as lines for monitor")
-        .after_help("Example: ringplay capture examples/two-masters.toml --tap a")
+        .after_help(
+            "Example: ringplay capture examples/two-masters.toml | ringplay monitor examples/two-masters.toml",
+        )
         .arg(file(alloc))?
         .arg(
             Arg::new(alloc, TAP).long(TAP).value_name("NAME").help(
@@ -523,6 +526,12 @@ fn stream_command<'a>(alloc: Global) -> Result<Command<'a>, AllocError> {
         .arg(limited(alloc, UNTIL, "N", 1, LATEST).help(
             "Ends at this bit time, 1 to 1000000000000, in place of the file's `until`",
         ))?
+        .arg(
+            Arg::new(alloc, AUDIT)
+                .long(AUDIT)
+                .action(ArgAction::SetTrue)
+                .help("Prints the audit of the run in place of its trace, as it is found"),
+        )?
         .arg(
             Arg::new(alloc, PROGRESS)
                 .long(PROGRESS)

@@ -15,7 +15,7 @@ use crate::reading::read_input;
 use crate::streams::{Sink, Source};
 use crate::writing::write_out;
 use pb_fleet::FleetFault;
-use pb_texts::{Scenario, Shown, bounds_json, bounds_text, described, refused_file};
+use pb_texts::{Scenario, Shown, bounds_json, bounds_text, described_stream, refused_file};
 use std::alloc::{AllocError, Global};
 
 /// The least number of bits a second.
@@ -27,9 +27,9 @@ pub(crate) const MOST_BAUD: u32 = 12_000_000;
 /// How many bits a second a bus has where no number is given.
 pub(crate) const USUAL_BAUD: u32 = 1_500_000;
 
-/// Reads a scenario file to the end of the reader, and writes the numbers of what is proved of its bus, as lines or as one
-/// JSON object, in bit times and in milliseconds at so many bits a second. Where the file or its world is refused, it
-/// writes the line of that fault. The whole text is made before the first write.
+/// Reads a scenario file of any version to the end of the reader, and writes the numbers of what is proved of its bus, as
+/// lines or as one JSON object, in bit times and in milliseconds at so many bits a second. Where the file or its world is
+/// refused, it writes the line of that fault. The whole text is made before the first write.
 ///
 /// At `Ok` the writer holds that text, and the status is `Refused` exactly where the file or the world is refused. Faults:
 /// as those of [`audit_file`](crate::audit_file).
@@ -82,8 +82,8 @@ fn bounded(alloc: Global, file: &[u8], baud: u32, json: bool) -> Result<Shown, A
     requires { IsBaud baud }
     ensures { IfOk result (λ shown. shown_of shown ≡ bounds_of baud json file.now) }
 {
-    match described(alloc, file) {
-        Ok(scenario) => bounded_scenario(alloc, &scenario, baud, json),
+    match described_stream(alloc, file) {
+        Ok(scenario) => bounded_scenario(alloc, scenario.once(), baud, json),
         Err(fault) => refused_file(alloc, &fault),
     }
 }

@@ -14,7 +14,7 @@ use pb_texts::{StreamScenario, described_stream, new_line, refused_file, refused
 use std::alloc::Global;
 
 /// How many entries a block has.
-const BLOCK: usize = 64;
+pub(crate) const BLOCK: usize = 64;
 
 /// When the lines of a stream are written.
 #[derive(Clone, Copy, Debug, PartialEq, Eq)]
@@ -95,11 +95,7 @@ fn stream_scenario<W: Sink, O: Observer>(
     let mut text = Vec::new(alloc);
     loop {
         let ended = step(alloc, &mut stream, &mut text, flush, writer)?;
-        let clock = match ended {
-            Some(Status::Done) => until,
-            _ => stream.clock(),
-        };
-        observer.observe(clock, until);
+        observer.observe(played_up_to(&stream, ended, until), until);
         match ended {
             Some(status) => return Ok(status),
             None => {}
@@ -132,5 +128,13 @@ fn step<W: Sink>(
             write_out(writer, &refused_line(alloc, fault, clock)?)?;
             Ok(Some(Status::Refused))
         }
+    }
+}
+
+/// Up to which moment a stream has been played, in bit times: at its end behind its last instant.
+pub(crate) fn played_up_to(stream: &Stream<'_>, ended: Option<Status>, until: u64) -> u64 {
+    match ended {
+        Some(Status::Done) => until,
+        _ => stream.clock(),
     }
 }

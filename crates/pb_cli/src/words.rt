@@ -67,6 +67,8 @@ pub enum Ask {
         until: Option<u64>,
         /// Whether to show how far it is, also where nobody may look on.
         progress: bool,
+        /// Whether to print the audit of the run in place of its trace.
+        audit: bool,
     },
     /// Print the version.
     Version,

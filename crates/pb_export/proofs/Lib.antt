@@ -4,3 +4,4 @@ pub mod Cut
 pub mod Loops
 pub mod Waving
 pub mod Around
+pub mod Settling

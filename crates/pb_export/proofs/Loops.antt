@@ -1,8 +1,7 @@
 -- A text that grows by a piece in each turn of a loop.
-use Rattle.std.proofs.Common.{◌≡◌, ◌∙◌, ap, sym, subst, arith, ℕ, zero, suc, ◌+◌, ◌-◌, ◌<◌, ◌≤◌, List, [], ◌∷◌, ◌++◌, length, Some, append_assoc}
+use Rattle.std.proofs.Common.{◌≡◌, ◌∙◌, ap, sym, arith, ℕ, suc, ◌+◌, ◌-◌, ◌<◌, ◌≤◌, List, [], ◌∷◌, ◌++◌, length, Some, append_assoc}
 use Rattle.std.specs.Prelude.{slice_get, drop}
 use Rattle.std.proofs.lemmas.List.{append-nil, drop_all}
-use Rattle.std.proofs.lemmas.Option.{none-some, same_Some}
 use Rattle.pb_texts.proofs.Taps.{dropped}
 
 -- ---- over the items of a list

@@ -42,10 +42,11 @@ stations_text tap [] specs = []
 stations_text tap (name ∷ names) [] = []
 stations_text tap (name ∷ names) (spec ∷ specs) = station_text tap name spec ++ stations_text (tap + 1) names specs
 
-abbrev pub bus_line : ScenarioView → List ℕ
-bus_line s =
+-- of a run up to a moment
+abbrev pub bus_line : ScenarioView → (until : ℕ) → List ℕ
+bus_line s until =
     params_text s.scenario.params
-    ++ all_of (codes ",\"until\":" ∷ decimal s.scenario.until ∷ codes ",\"stations\":[" ∷ [])
+    ++ all_of (codes ",\"until\":" ∷ decimal until ∷ codes ",\"stations\":[" ∷ [])
     ++ stations_text 0 s.names s.scenario.taps
     ++ codes "]}\n"
 
@@ -117,4 +118,4 @@ entry_line s (Sent r) = record_line s r
 entry_line s (trace.Noise span) = span_text span.begin span.end ++ codes ",\"kind\":\"noise\"}\n"
 
 abbrev pub json_text : Window → ScenarioView → List Entry → List ℕ
-json_text w s es = bus_line s ++ shown_in w (entry_line s) es
+json_text w s es = bus_line s s.scenario.until ++ shown_in w (entry_line s) es

@@ -21,6 +21,7 @@ pub mod Runs
 pub mod Saying
 pub mod Svg
 pub mod Sheets
+pub mod Streamed
 pub mod Styles
 pub mod Times
 pub mod Vcd

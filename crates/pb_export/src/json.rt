@@ -34,12 +34,12 @@ pub fn push_json(
     ensures { OnOk result (text.new.items
         ≡ text.old.items ++ json.json_text window scenario.now (map entry_of entries.now)) }
 {
-    push_bus(text, scenario)?;
+    push_bus(text, scenario, scenario.until())?;
     push_entries(text, scenario, entries, window)
 }
 
 /// Appends the lines of the entries that are shown.
-fn push_entries(
+pub(crate) fn push_entries(
     text: &mut Vec<u8>,
     scenario: &Scenario,
     entries: &[Entry],
@@ -71,16 +71,20 @@ fn push_shown(
     }
 }
 
-/// Appends the line of the bus.
-fn push_bus(text: &mut Vec<u8>, scenario: &Scenario) -> Result<(), AllocError>
-    ensures { OnOk result (text.new.items ≡ text.old.items ++ json.bus_line scenario.now) }
+/// Appends the line of the bus, for a run up to the moment `until`, in bit times.
+pub(crate) fn push_bus(
+    text: &mut Vec<u8>,
+    scenario: &Scenario,
+    until: u64,
+) -> Result<(), AllocError>
+    ensures { OnOk result (text.new.items ≡ text.old.items ++ json.bus_line scenario.now until) }
 {
     push_params(text, scenario.params())?;
     push_pieces(
         text,
         &[
             Piece::Text(b",\"until\":"),
-            Piece::Number(scenario.until()),
+            Piece::Number(until),
             Piece::Text(b",\"stations\":["),
         ],
     )?;

@@ -66,6 +66,54 @@ pub struct Export {
     pub strings: Strings,
 }
 
+/// A form of an export that is written entry by entry.
+#[derive(Clone, Copy, Debug, PartialEq, Eq)]
+pub enum StreamForm {
+    /// A JSON object a line: the bus first, then each entry.
+    Json,
+    /// A capture file (pcap, with nanoseconds).
+    Pcap,
+    /// A capture file with comments (pcapng).
+    Pcapng,
+}
+
+/// What an export that is written entry by entry is to be.
+#[derive(Clone, Copy, Debug, PartialEq, Eq)]
+pub struct StreamExport {
+    /// Its form.
+    pub form: StreamForm,
+    /// Which entries it shows.
+    pub window: Window,
+    /// How many bits a second the bus has, for times in nanoseconds.
+    pub baud: u32,
+    /// The link type of a capture file.
+    pub link: Link,
+}
+
+impl Export {
+    ghost use Rattle.std.specs.Prelude.{◌≡◌, IfSome};
+    ghost use Rattle.pb_export.specs.Streamed.{IsSame, streamed_of};
+
+    /// The same entry by entry, if its form is one that is written so: a picture and a dump are not.
+    pub fn streamed(&self) -> Option<StreamExport>
+        ensures value { result ≡ streamed_of self.now }
+        ensures same { IfSome result (IsSame self.now) }
+    {
+        let form = match self.form {
+            Form::Json => StreamForm::Json,
+            Form::Pcap => StreamForm::Pcap,
+            Form::Pcapng => StreamForm::Pcapng,
+            Form::Svg | Form::Vcd => return None,
+        };
+        Some(StreamExport {
+            form,
+            window: self.window,
+            baud: self.baud,
+            link: self.link,
+        })
+    }
+}
+
 impl Link {
     ghost use Rattle.std.specs.Prelude.{◌≡◌};
     ghost use Rattle.pb_export.specs.Pcap.{link_number};

@@ -39,7 +39,7 @@ pub fn push_pcap(
 }
 
 /// Appends the packets of the entries that are shown.
-fn push_entries(
+pub(crate) fn push_entries(
     file: &mut Vec<u8>,
     entries: &[Entry],
     window: Window,

@@ -42,7 +42,7 @@ pub fn push_pcapng(
 }
 
 /// Appends the blocks of the entries that are shown.
-fn push_entries(
+pub(crate) fn push_entries(
     file: &mut Vec<u8>,
     alloc: Global,
     scenario: &Scenario,

@@ -180,10 +180,11 @@ impl Monitor {
         self.hear_untimed(text)
     }
 
-    /// The moment of a time, in bit times since the first packet.
+    /// The moment of a time, in bit times since the first packet: the nearest one, since a file's times are rounded down.
     fn moment_of(&mut self, stamp: Stamp, baud: u32) -> u64 {
         let ticks = u128::from(stamp.ticks).saturating_mul(u128::from(baud));
-        let bits = ticks / u128::from(stamp.per_second.max(1));
+        let per_second = u128::from(stamp.per_second.max(1));
+        let bits = ticks.saturating_add(per_second / 2) / per_second;
         let origin = self.origin.unwrap_or(bits);
         self.origin = Some(origin);
         bits.saturating_sub(origin).min(u128::from(u64::MAX)) as u64

@@ -16,7 +16,7 @@ use crate::reports::{
     Raised, push_alarm, push_content, push_holder, push_refused, push_untimed_alarm,
 };
 use crate::statistics::Statistics;
-use crate::summaries::{push_summary, push_text};
+use crate::summaries::push_summary;
 use crate::texts::push_number;
 use bstr::ByteSlice;
 use pb_telegram::Receiver;
@@ -248,7 +248,11 @@ impl Monitor {
             push_number(text, begin)?;
             text.extend_from_slice(b", before the last one ends at ")?;
             push_number(text, quiet)?;
-            text.extend_from_slice(b"; wanted: bursts in order\n")?;
+            text.extend_from_slice(b"; wanted: bursts in order")?;
+            if self.options.form == Form::Pcap {
+                text.extend_from_slice(b" (is --baud that of the bus?)")?;
+            }
+            text.extend_from_slice(b"\n")?;
             self.refuse();
         }
         self.quiet = Some(end);
@@ -371,7 +375,7 @@ impl Monitor {
             return Ok(());
         }
         self.due = Some(moment.saturating_add(every));
-        push_text(text, &self.statistics)
+        push_summary(text, &self.statistics, self.options.summary)
     }
 
     /// A burst without moments: it is judged by the order of telegrams alone.

@@ -59,7 +59,11 @@ pub(crate) fn push_alarm(
     let silence = begin.saturating_sub(raised.before.quiet);
     match raised.alarm {
         Alarm::SpokeAfterLoss => {
-            push_counted(text, b"it is no claim after a silence of ", silence)?;
+            push_counted(
+                text,
+                b"it spoke without claiming after a silence of ",
+                silence,
+            )?;
             push_counted(
                 text,
                 b", and a token in use leaves at most ",

@@ -237,10 +237,17 @@ scenario_in top =
     and_then (typed as_array Top key.Tap top) (λ list.
     and_then (taps_in version list) (with_steps top until params)))))))
 
+-- the same where steps may repeat
+abbrev pub any_version_of : ℤ → Result Version Fault
+any_version_of z = if int_eq z (pos 3) then Ok Repeating else version_of z
+
+abbrev pub any_version_in : Section → Members → Result Version Fault
+any_version_in at top = and_then (typed as_integer at key.Version top) any_version_of
+
 -- the parameters of the bus alone
 unfoldable pub bus_in : Members → Result Params Fault
 bus_in top =
-    and_then (version_in Top top) (λ version.
+    and_then (any_version_in Top top) (λ version.
     and_then (typed as_table Top key.Bus top) (λ bus.
     params_in version Bus bus))
 

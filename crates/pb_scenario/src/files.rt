@@ -18,7 +18,7 @@ use crate::keys::{Key, Path, Section};
 use crate::scenarios::Scenario;
 use crate::steps::steps_in;
 use crate::taps::taps_in;
-use crate::versions::{Version, version_in};
+use crate::versions::{Version, any_version_in, version_in};
 use indexmap::IndexSet;
 use pb_timers::BusParams;
 use std::alloc::Global;
@@ -46,8 +46,8 @@ pub fn read(alloc: Global, file: &[u8]) -> Result<Scenario, ScenarioFault>
     }
 }
 
-/// Reads the parameters of the bus that a TOML file gives in its table `bus`. Apart from that table and the version
-/// nothing of the file is read.
+/// Reads the parameters of the bus that a TOML file of version 1, 2 or 3 gives in its table `bus`. Apart from that table
+/// and the version nothing of the file is read.
 ///
 /// Faults: `NotToml` if the file is not TOML in UTF-8; else the first of `BadVersion`, `Missing`, `BadKind`, `BadValue`,
 /// `Unknown` and `Params` that applies to these keys; or `NoMemory`.
@@ -74,7 +74,7 @@ fn bus_in(alloc: Global, table: &Table) -> Result<BusParams, ScenarioFault>
         section: Section::Top,
         table,
     };
-    let file_version = version_in(top)?;
+    let file_version = any_version_in(top)?;
     let bus = Fields {
         section: Section::Bus,
         table: top.table(Key::Bus)?,

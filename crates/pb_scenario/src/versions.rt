@@ -57,6 +57,18 @@ pub(crate) fn version_in(top: Fields<'_>) -> Result<Version, ScenarioFault>
     }
 }
 
+/// The version of a file whose steps may repeat.
+pub(crate) fn any_version_in(top: Fields<'_>) -> Result<Version, ScenarioFault>
+    ensures { Answers (λ v. v) result (files.any_version_in top.entry.section (members top.entry)) }
+{
+    match top.integer(Key::Version)? {
+        1 => Ok(Version::Undelayed),
+        2 => Ok(Version::Delayed),
+        3 => Ok(Version::Repeating),
+        _ => Err(ScenarioFault::BadVersion),
+    }
+}
+
 impl Version {
     ghost use Rattle.std.specs.Prelude.{◌≡◌};
     ghost use Rattle.pb_scenario.specs.Files.{most_taps};

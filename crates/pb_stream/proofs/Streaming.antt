@@ -27,13 +27,20 @@ use Rattle.pb_world.specs.LettingGo.{LetsPastGo}
 use Rattle.pb_world.specs.declared.buses.Bus.{Bus}
 use Rattle.pb_stream.specs.Plays.{GoesOn, IsNext, StopsIn}
 use Rattle.pb_stream.specs.Stages.{GoesFrom, bus_view}
-use Rattle.pb_stream.specs.Streams.{HandsOn, IsShort}
+use Rattle.pb_stream.specs.Streams.{Appends, HandsOn, HasPlayed, IsShort, KeepsFew, Tells, kept_of, names_of}
+use Rattle.pb_stream.specs.declared.streams.Progress.{Progress}
+use Rattle.pb_stream.specs.declared.streams.Progress.TheVariants as progress
+use Rattle.pb_stream.specs.declared.streams.Stream.{Stream}
 use Rattle.pb_stream.proofs.Courses.{goes-streams, stops-streams}
 use Rattle.pb_stream.proofs.Playing.{stops-so}
 
 -- what is to come from a moment on
 abbrev pub to_come : WalkView → World → Option Streamed
 to_come walk w = streamed_of (run (walk.until + 1) telling_bus (plan_in walk) walk.clock w)
+
+-- entries that are let go stand in front of what is left of it
+pub let-go-rest : (walk : WalkView) (old new : World) (entries : List Entry) → old ≡ behind entries new → IsPast entries new → to_come walk old ≡ stream_behind entries (to_come walk new)
+let-go-rest walk old new entries whole past = ap (to_come walk) whole ∙ stream-behind entries new (walk.until + 1) walk.clock (plan_in walk) past
 
 -- ---- none are let go
 
@@ -65,19 +72,17 @@ goes-world walk old mid t goes =
     ∙ goes-streams walk.until walk.clock p (no_events (world_of old)) goes.after t goes.events (goes.rest walk.until)
     ∙ ap (stream_on p walk.until t) (goes.from.at.here ∙ sym (behind-none (world_of mid)))
 
-pub goes-rest : (walk after : WalkView) (old mid : Bus) (new : World) (at : ℕ) (entries : List Entry) → after ≡ record walk { clock = at }
-    → GoesOn walk [] (no_events (world_of old)) (Some at) (bus_view mid) → IsNext walk at → world_of mid ≡ behind entries new → IsPast entries new
-    → to_come walk (world_of old) ≡ stream_behind entries (to_come after new)
-goes-rest walk after old mid new at entries moved goes next whole past =
+-- an instant that is played leaves it as it is
+pub played-rest : (walk after : WalkView) (old mid : Bus) (at : ℕ) → after ≡ record walk { clock = at } → GoesOn walk [] (no_events (world_of old)) (Some at) (bus_view mid)
+    → IsNext walk at → to_come walk (world_of old) ≡ to_come after (world_of mid)
+played-rest walk after old mid at moved goes next =
     let p = plan_in walk in
     let k = walk.until in
     let one : k + 1 ≡ suc k = omega arith in
     goes-world walk old mid (Some at) goes
     ∙ ap streamed_of (sym (more-instants k p at (world_of mid) next.in_time (omega (arith, next.later))))
-    ∙ ap (λ w. streamed_of (run (suc k) telling_bus p at w)) whole
-    ∙ stream-behind entries new (suc k) at p past
-    ∙ ap (λ n. stream_behind entries (streamed_of (run n telling_bus p at new))) (sym one)
-    ∙ ap (λ (v : WalkView). stream_behind entries (to_come v new)) (sym moved)
+    ∙ ap (λ n. streamed_of (run n telling_bus p at (world_of mid))) (sym one)
+    ∙ ap (λ (v : WalkView). to_come v (world_of mid)) (sym moved)
 
 pub ends-rest : (walk : WalkView) (old mid : Bus) → GoesOn walk [] (no_events (world_of old)) None (bus_view mid)
     → to_come walk (world_of old) ≡ Some (record { entries = entries_of mid.trace; fault = None })
@@ -93,6 +98,13 @@ stops-rest walk old mid fault stops =
     (λ f is. ap (λ n. streamed_of (run n telling_bus p walk.clock (world_of old))) one
     ∙ stops-streams walk.until walk.clock walk.clock p (no_events (world_of old)) is.after f (is.rest walk.until)
     ∙ ap (λ (w : World). Some (record { entries = w.trace; fault = Some (At walk.clock f) })) is.at.here) stops
+
+-- at the end the lines of all entries that are left are appended
+pub tells-rest : (end : Progress) (block : ℕ) (old new : Stream) (before after : List ℕ) → (end ≡ progress.Goes → ⊥) → HasPlayed end old new → Appends (names_of old) (kept_of new) before after
+    → Tells end old new before after × KeepsFew block end new
+tells-rest progress.Goes block old new before after ended rest text = absurd (ended refl)
+tells-rest progress.Ended block old new before after ended rest text = ((kept_of new, text, rest), tt)
+tells-rest (progress.Refused clock fault) block old new before after ended rest text = ((kept_of new, text, rest), tt)
 
 -- ---- what is kept
 

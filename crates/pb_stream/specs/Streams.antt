@@ -5,6 +5,7 @@ use Rattle.law_runs.specs.Runs.{run}
 use Rattle.law_runs.specs.Scenarios.{At}
 use Rattle.law_streams.specs.Streams.{Streamed, telling_bus, streamed_of}
 use Rattle.law_streams.specs.Limits.{stream_behind}
+use Rattle.pb_medium.specs.LettingGo.{past_of}
 use Rattle.pb_medium.specs.Traces.{entries_of, limit_of, over_of, recent_of}
 use Rattle.pb_medium.specs.declared.traces.Trace.{Trace}
 use Rattle.pb_world.specs.Buses.{world_of, IsKept}
@@ -36,6 +37,37 @@ pub record IsStreaming (s : Stream) : Type 0 where
   pub kept : IsKept s.bus
   pub in_time : s.walk.clock ≤ s.walk.until
   pub taps : length (world_of s.bus).taps ≡ s.walk.taps
+
+-- ---- an instant whose entries are kept, and letting go
+
+-- all entries that it has, and those of them that may go
+abbrev pub kept_of : Stream → List Entry
+kept_of s = entries_of s.bus.trace
+
+abbrev pub past_in : Stream → List Entry
+past_in s = past_of s.bus.trace
+
+-- what was to come is still to come, and the stream goes on
+pub record StillHas (old new : Stream) : Type 0 where
+  pub rest : rest_of old ≡ rest_of new
+  pub ready : IsStreaming new
+  pub until : new.walk.until ≡ old.walk.until
+  pub later : old.walk.clock < new.walk.clock
+
+-- An instant was played. Where the stream has ended, what was to come are the entries that it has, and the fault that ends
+-- it.
+abbrev pub HasPlayed : Progress → Stream → Stream → Type 0
+HasPlayed Goes old new = StillHas old new
+HasPlayed Ended old new = rest_of old ≡ Some (record { entries = kept_of new; fault = None })
+HasPlayed (Refused clock fault) old new =
+    IfSome (model_fault fault) (λ f. rest_of old ≡ Some (record { entries = kept_of new; fault = Some (At clock f) }))
+
+-- entries are let go: what was to come are these, and then what is still to come
+pub record LetsGo (gone : List Entry) (old new : Stream) : Type 0 where
+  pub rest : rest_of old ≡ stream_behind gone (rest_of new)
+  pub ready : IsStreaming new
+  pub names : names_of new ≡ names_of old
+  pub walk : new.walk ≡ old.walk
 
 -- ---- what is appended
 

@@ -5,7 +5,9 @@ ghost use Rattle.pb_world.specs.Buses.{IsKept};
 ghost use Rattle.pb_stream.specs.Streams.{HandsOn, IsShort};
 
 use crate::plays::play_instant;
-use pb_scenario::{NewFault, Scenario, StreamScenario, StreamWalk, WorldFault, push_trace};
+use pb_scenario::{
+    Deed, Entry, NewFault, Scenario, StreamScenario, StreamWalk, WorldFault, push_trace,
+};
 use pb_world::{Bus, new_bus_within};
 use std::alloc::{AllocError, Global};
 
@@ -33,6 +35,9 @@ pub enum Progress {
 
 /// A run of a scenario that lets go of the entries that are over. Between instants it keeps its taps, the entries that are
 /// not over, and fewer than a block of others ([`advance`](Stream::advance)), whatever time has passed.
+///
+/// Who wants something else of the entries than their lines calls [`play`](Stream::play) in place of `advance`, reads the
+/// entries that are over ([`past`](Stream::past)), and lets them go ([`let_go`](Stream::let_go)).
 #[derive(Drop)]
 pub struct Stream<'a> {
     pub(crate) scenario: &'a StreamScenario,
@@ -41,11 +46,13 @@ pub struct Stream<'a> {
 }
 
 impl<'a> Stream<'a> {
-    ghost use Rattle.std.specs.Prelude.{◌≡◌, ◌≤◌, IfOk, IfErr};
+    ghost use Rattle.std.specs.Prelude.{◌≡◌, ◌≤◌, IfOk, IfErr, map};
     ghost use Rattle.law_model.specs.World.{new_world};
     ghost use Rattle.law_streams.specs.Streams.{stream_limit, stream_within};
     ghost use Rattle.pb_taps.specs.Faults.{RefusesNew};
-    ghost use Rattle.pb_stream.specs.Streams.{IsStreaming, KeepsFew, Tells, clock_of, names_of, rest_of, stream_end};
+    ghost use Rattle.pb_medium.specs.Entries.{entry_of};
+    ghost use Rattle.pb_stream.specs.Streams.{HasPlayed, IsStreaming, KeepsFew, LetsGo, Tells};
+    ghost use Rattle.pb_stream.specs.Streams.{clock_of, kept_of, names_of, past_in, rest_of, stream_end};
     ghost use Rattle.pb_scenario.specs.Repeats.{unrolled};
 
     /// The stream of a scenario at 0, up to the moment `until`, in bit times, in place of the scenario's own.
@@ -101,25 +108,65 @@ impl<'a> Stream<'a> {
             (λ progress. Tells progress self.old self.new text.old.items text.new.items) }
         ensures few { IfOk result (λ progress. KeepsFew block progress self.new) }
     {
-        match play_instant(alloc, &mut self.bus, &self.walk) {
-            Ok(Some(at)) => {
-                self.walk.go_to(at);
+        match self.play(alloc)? {
+            Progress::Goes => {
                 hand_on(&mut self.bus, self.scenario.once(), text, block)?;
                 Ok(Progress::Goes)
             }
-            Ok(None) => {
-                push_trace(text, self.scenario.once(), self.bus.trace.entries())?;
-                Ok(Progress::Ended)
-            }
-            Err(WorldFault::NoMemory) => Err(AllocError),
-            Err(fault) => {
-                push_trace(text, self.scenario.once(), self.bus.trace.entries())?;
-                Ok(Progress::Refused {
-                    clock: self.walk.now(),
-                    fault,
-                })
+            end => {
+                push_trace(text, self.scenario.once(), self.entries())?;
+                Ok(end)
             }
         }
+    }
+
+    /// Plays an instant, and keeps all entries.
+    ///
+    /// Fault: memory was refused. Then the stream must not be played further.
+    pub fn play(&mut self, alloc: Global) -> Result<Progress, AllocError>
+        requires { IsStreaming self.old }
+        ensures plays { IfOk result (λ progress. HasPlayed progress self.old self.new) }
+        ensures names { names_of self.new ≡ names_of self.old }
+    {
+        match play_instant(alloc, &mut self.bus, &self.walk) {
+            Ok(Some(at)) => {
+                self.walk.go_to(at);
+                Ok(Progress::Goes)
+            }
+            Ok(None) => Ok(Progress::Ended),
+            Err(WorldFault::NoMemory) => Err(AllocError),
+            Err(fault) => Ok(Progress::Refused {
+                clock: self.walk.now(),
+                fault,
+            }),
+        }
+    }
+
+    /// What steps do at the next instant, in the order of the scenario.
+    pub fn today(&self) -> &[&'a Deed] {
+        self.walk.today()
+    }
+
+    /// The entries that are over and were not let go: none where the trace is all but full.
+    pub fn past(&self) -> &[Entry]
+        ensures { map entry_of result.now ≡ past_in self.entry.now }
+    {
+        self.bus.past()
+    }
+
+    /// All entries that were not let go.
+    pub fn entries(&self) -> &[Entry]
+        ensures { map entry_of result.now ≡ kept_of self.entry.now }
+    {
+        self.bus.trace.entries()
+    }
+
+    /// Lets go of the entries that are over.
+    pub fn let_go(&mut self)
+        requires { IsStreaming self.old }
+        ensures { LetsGo (past_in self.old) self.old self.new }
+    {
+        self.bus.let_go();
     }
 }
 

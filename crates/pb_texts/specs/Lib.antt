@@ -9,4 +9,5 @@ pub use Rattle.pb_scenario.specs.Fields
 pub use Rattle.pb_scenario.specs.Scenarios
 pub mod Hints
 pub mod Bounds
+pub mod Captures
 pub mod Texts

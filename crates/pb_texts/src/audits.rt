@@ -25,7 +25,9 @@ pub fn findings(alloc: Global, audit: &Audit) -> Result<Shown, AllocError>
 }
 
 /// Appends the line for the first premise that broke, with its number and the clock, or the line that none broke.
-fn push_premise(text: &mut Vec<u8>, premise: Option<(u8, Moment)>) -> Result<(), AllocError>
+///
+/// Fault: memory was refused.
+pub fn push_premise(text: &mut Vec<u8>, premise: Option<(u8, Moment)>) -> Result<(), AllocError>
     ensures { OnOk result (text.new.items ≡ text.old.items ++ premise_line (option_map broken_at premise)) }
 {
     match premise {
@@ -42,7 +44,9 @@ fn push_premise(text: &mut Vec<u8>, premise: Option<(u8, Moment)>) -> Result<(),
 
 /// Appends the line for the first illegal initiator record, with its index in the trace, or the line that none is
 /// illegal.
-fn push_legality(text: &mut Vec<u8>, illegal: Option<usize>) -> Result<(), AllocError>
+///
+/// Fault: memory was refused.
+pub fn push_legality(text: &mut Vec<u8>, illegal: Option<usize>) -> Result<(), AllocError>
     ensures { OnOk result (text.new.items ≡ text.old.items ++ legality_line illegal) }
 {
     match illegal {

@@ -2,7 +2,7 @@
 
 use crate::documents::Document;
 use crate::file_hints::of_file;
-use crate::run_hints::of_run;
+use crate::run_hints::{of_run, of_settling_run, of_world};
 use pb_scenario::{ScenarioFault, read, read_bus, read_stream};
 use std::alloc::{AllocError, Global};
 
@@ -41,15 +41,24 @@ pub fn explain_bus(alloc: Global, name: &str, file: &[u8]) -> Result<String, All
     }
 }
 
-/// Why a scenario file is refused for a stream, for people: a line with the place, what was found and what is wanted; no
-/// text if it is not refused. `name` is the file's name as people gave it.
+/// Why a scenario file of any version is refused, or its run without a limit of entries, for people: a line with the place,
+/// what was found and what is wanted; no text if neither is refused. Of an event in a file of version 3, and of a run
+/// whose trace goes on where that of [`explain`] is full, nothing is said. `name` is the file's name as people gave it.
 ///
-/// Fault: memory was refused.
-pub fn explain_stream(alloc: Global, name: &str, file: &[u8]) -> Result<String, AllocError> {
+/// It takes at most as long as `explain`. Fault: memory was refused.
+pub fn explain_settling(alloc: Global, name: &str, file: &[u8]) -> Result<String, AllocError> {
     let document = Document { alloc, name, file };
-    match read_stream(alloc, file) {
-        Ok(_) => Ok(String::new(alloc)),
+    match read(alloc, file) {
+        Ok(scenario) => of_settling_run(&document, &scenario),
+        Err(_) => of_stream_file(&document),
+    }
+}
+
+/// Why a file, or its new world, is refused that may be of version 3.
+fn of_stream_file(document: &Document<'_>) -> Result<String, AllocError> {
+    match read_stream(document.alloc, document.file) {
+        Ok(scenario) => of_world(document, scenario.once()),
         Err(ScenarioFault::NoMemory) => Err(AllocError),
-        Err(fault) => of_file(&document, &fault),
+        Err(fault) => of_file(document, &fault),
     }
 }

@@ -106,7 +106,7 @@ fn without_repeats(keys: &'static [&'static str]) -> &'static [&'static str] {
 /// What a key of a table may have for its value, in a file whose steps may repeat or in another one.
 pub(crate) fn wanted(section: Section, key: Key, has_repeats: bool) -> &'static str {
     match key {
-        Key::Version => "1 or 2; 3 in a stream",
+        Key::Version => "1, 2 or 3",
         Key::Until if has_repeats => {
             "an integer from 1 to 1000000000000, in bit times, without quotes"
         }

@@ -27,12 +27,13 @@ mod texts;
 mod warnings;
 
 pub use audit_hints::explain_audit;
+pub use audits::{push_legality, push_premise};
 pub use bounds::{
     is_round_long, lag_margin, masters_of, never_asks, reply_margin, shortest_rotation,
     silence_bound, take_margin,
 };
-pub use captures::captured;
-pub use explaining::{MOST_EVENTS, explain, explain_bus, explain_stream};
+pub use captures::{Capture, no_tap_line};
+pub use explaining::{MOST_EVENTS, explain, explain_bus, explain_settling};
 pub use faults::{new_line, refused_line};
 pub use files::{audited, described, described_stream, refused_file};
 pub use json::bounds_json;

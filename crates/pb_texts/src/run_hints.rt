@@ -4,6 +4,7 @@ use crate::documents::Document;
 use pb_scenario::{
     Deed, Event, Key, Kind, NewFault, RunFault, Scenario, Section, WorldFault, course_of,
 };
+use pb_world::new_bus;
 use std::alloc::AllocError;
 
 /// The hint for a run that is refused, of which at most so many events may be kept; no text for a run that isn't.
@@ -20,6 +21,28 @@ pub(crate) fn of_run(
     match course.fault {
         Some(fault) => of_fault(document, scenario, step, &fault),
         None => Ok(String::new(document.alloc)),
+    }
+}
+
+/// The hint for a run that is refused, of which what is over is let go. The run that is played here keeps all, so its trace
+/// may be full where the other goes on: then there is no text.
+pub(crate) fn of_settling_run(
+    document: &Document<'_>,
+    scenario: &Scenario,
+) -> Result<String, AllocError> {
+    let course = course_of(document.alloc, scenario, u64::MAX)?;
+    let step = course.step;
+    match course.fault {
+        Some(RunFault::At(_, WorldFault::TraceFull)) | None => Ok(String::new(document.alloc)),
+        Some(fault) => of_fault(document, scenario, step, &fault),
+    }
+}
+
+/// The hint for a new world that is refused.
+pub(crate) fn of_world(document: &Document<'_>, scenario: &Scenario) -> Result<String, AllocError> {
+    match new_bus(document.alloc, *scenario.params(), scenario.taps()) {
+        Ok(_) => Ok(String::new(document.alloc)),
+        Err(fault) => of_new(document, scenario, fault),
     }
 }
 
@@ -48,7 +71,7 @@ fn ended(
     document.at(
         document.value(Section::Top, Key::Until).spot,
         format_args!(
-            "the run came to {clock} of {until} bit times, where {why}; wanted: until of at most {most}"
+            "the run came to {clock} of {until} bit times, where {why}; wanted: until of at most {most}, or the command stream"
         ),
     )
 }

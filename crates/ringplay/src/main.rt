@@ -14,12 +14,13 @@ ghost use Rattle.ringplay.specs.ExitStatus.{exit_status_of, words_status_of};
 
 use looking_on::{ErrorLines, ProgressLine, Shown, Terminals};
 use pb_cli::{
-    Ask, AskFault, Asked, Bus, CliFault, CountedReader, CountedWriter, Flush, Options, Status,
-    VERSION, ask_with_options, audit_with_reasons, bounds_file, bus_of, capture_file, decode_lines,
-    export_capture, export_file, monitor, play, read_input, stream_file, write_out,
+    Ask, AskFault, Asked, Bus, CliFault, CountedReader, CountedWriter, Flush, Options, Settled,
+    Status, VERSION, ask_with_options, audit_stream_file, audit_with_reasons, bounds_file, bus_of,
+    capture_file, decode_lines, export_capture, export_file, export_stream, monitor, play,
+    read_input, stream_file, write_out,
 };
-use pb_export::{CaptureExport, Export};
-use pb_texts::{MOST_EVENTS, explain, explain_audit, explain_bus, explain_stream, warn};
+use pb_export::{CaptureExport, Export, StreamExport};
+use pb_texts::{MOST_EVENTS, explain, explain_audit, explain_bus, explain_settling, warn};
 use std::alloc::{AllocError, Global};
 use std::fmt::Display;
 use std::fs::Files;
@@ -99,15 +100,29 @@ fn answer<T: AllocGlobal + Clock + Eprint + Files + Input + Print + Threads + Wa
             options,
             export,
         } => watch(rt, file, options, export, is_quiet),
-        Ask::Capture { file, tap } => capture(rt, file.as_str(), tap, is_quiet),
-        Ask::Export { file, export } => export_to(rt, file.as_str(), &export, is_quiet),
+        Ask::Capture { file, tap } => {
+            let shown = terminals.shown(false, is_quiet);
+            capture(rt, file.as_str(), tap, shown, is_quiet)
+        }
+        Ask::Export { file, export } => match export.streamed() {
+            Some(streamed) => {
+                let shown = terminals.shown(false, is_quiet);
+                export_as_it_settles(rt, file.as_str(), &streamed, shown, is_quiet)
+            }
+            None => export_whole(rt, file.as_str(), &export, is_quiet),
+        },
         Ask::Stream {
             file,
             until,
             progress,
+            audit,
         } => {
             let shown = terminals.shown(progress, is_quiet);
-            stream(rt, file.as_str(), until, terminals.flush(), shown, is_quiet)
+            if audit {
+                stream_audit(rt, file.as_str(), until, shown, is_quiet)
+            } else {
+                stream(rt, file.as_str(), until, terminals.flush(), shown, is_quiet)
+            }
         }
         Ask::Version => version(rt),
     }
@@ -131,18 +146,17 @@ fn run<T: AllocGlobal + Eprint + Files + Input + Print + Threads + Wait + Sync>(
     requires workers { IsUpTo worker_limit workers }
     requires last { IsUpTo line_limit last }
 {
-    let file = contents(rt, path, is_quiet)?;
+    let file = scenario_file(rt, path, is_quiet)?;
     let mut reader = CountedReader::new(file.as_slice());
     let mut writer = CountedWriter::new(io::writer(rt));
     let status = play(rt, rt.alloc(), &mut reader, &mut writer, workers, last)?;
-    if !is_quiet {
-        hint(rt, warn(rt.alloc(), shown(path), &file));
-        if let Status::Refused = status {
-            hint(
-                rt,
-                explain(rt.alloc(), shown(path), &file, Some(MOST_EVENTS)),
-            );
-        }
+    if let Status::Refused = status
+        && !is_quiet
+    {
+        hint(
+            rt,
+            explain(rt.alloc(), shown(path), &file, Some(MOST_EVENTS)),
+        );
     }
     Ok(status)
 }
@@ -181,7 +195,7 @@ fn bounds<T: AllocGlobal + Eprint + Files + Input + Print>(
     if let Status::Refused = status
         && !is_quiet
     {
-        hint(rt, explain(rt.alloc(), shown(path), &file, None));
+        hint(rt, explain_settling(rt.alloc(), shown(path), &file));
     }
     Ok(status)
 }
@@ -227,26 +241,63 @@ fn watch<T: AllocGlobal + Eprint + Files + Input + Print>(
     }
 }
 
-/// `ringplay capture FILE`, to standard output; hints go to standard error.
-fn capture<T: AllocGlobal + Eprint + Files + Input + Print>(
+/// `ringplay capture FILE`, to standard output; progress and hints go to standard error.
+fn capture<T: AllocGlobal + Clock + Eprint + Files + Input + Print>(
     rt: &T,
     path: &str,
     tap: Option<String>,
+    shown_when: Shown,
     is_quiet: bool,
 ) -> Result<Status, CliFault> {
-    let file = contents(rt, path, is_quiet)?;
+    let file = scenario_file(rt, path, is_quiet)?;
     let mut writer = CountedWriter::new(io::writer(rt));
-    let status = capture_file(rt.alloc(), &file, tap, &mut writer)?;
-    if let Status::Refused = status
-        && !is_quiet
-    {
-        hint(rt, explain(rt.alloc(), shown(path), &file, None));
-    }
-    Ok(status)
+    let mut line = ProgressLine::new(rt, shown_when);
+    let answer = capture_file(rt.alloc(), &file, tap, &mut writer, &mut line);
+    line.end();
+    Ok(settled(rt, path, &file, &answer?, is_quiet))
 }
 
-/// `ringplay export FILE`, to standard output; hints go to standard error.
-fn export_to<T: AllocGlobal + Eprint + Files + Input + Print>(
+/// `ringplay export FILE` in a form that is written entry by entry, to standard output; progress, the line of an event that
+/// is refused and hints go to standard error.
+fn export_as_it_settles<T: AllocGlobal + Clock + Eprint + Files + Input + Print>(
+    rt: &T,
+    path: &str,
+    export: &StreamExport,
+    shown_when: Shown,
+    is_quiet: bool,
+) -> Result<Status, CliFault>
+    requires { IsBaud export.now.baud }
+{
+    let file = scenario_file(rt, path, is_quiet)?;
+    let mut writer = CountedWriter::new(io::writer(rt));
+    let mut line = ProgressLine::new(rt, shown_when);
+    let answer = export_stream(rt.alloc(), &file, export, &mut writer, &mut line);
+    line.end();
+    Ok(settled(rt, path, &file, &answer?, is_quiet))
+}
+
+/// The status of what was written as a run settled. The line that its output has no place for, and a hint, go to standard
+/// error.
+fn settled<T: AllocGlobal + Eprint>(
+    rt: &T,
+    path: &str,
+    file: &[u8],
+    ended: &Settled,
+    is_quiet: bool,
+) -> Status {
+    if let Ok(line) = str::from_utf8(&ended.line) {
+        let _ = eprint!(rt; "{line}");
+    }
+    if let Status::Refused = ended.status
+        && !is_quiet
+    {
+        hint(rt, explain_settling(rt.alloc(), shown(path), file));
+    }
+    ended.status
+}
+
+/// `ringplay export FILE` in a form that needs the whole trace, to standard output; hints go to standard error.
+fn export_whole<T: AllocGlobal + Eprint + Files + Input + Print>(
     rt: &T,
     path: &str,
     export: &Export,
@@ -254,17 +305,14 @@ fn export_to<T: AllocGlobal + Eprint + Files + Input + Print>(
 ) -> Result<Status, CliFault>
     requires { IsBaud export.now.baud }
 {
-    let file = contents(rt, path, is_quiet)?;
+    let file = scenario_file(rt, path, is_quiet)?;
     let mut reader = CountedReader::new(file.as_slice());
     let mut writer = CountedWriter::new(io::writer(rt));
     let status = export_file(rt.alloc(), &mut reader, &mut writer, export)?;
     if let Status::Refused = status
         && !is_quiet
     {
-        hint(
-            rt,
-            explain(rt.alloc(), shown(path), &file, Some(MOST_EVENTS)),
-        );
+        hint(rt, explain(rt.alloc(), shown(path), &file, None));
     }
     Ok(status)
 }
@@ -280,17 +328,40 @@ fn stream<T: AllocGlobal + Clock + Eprint + Files + Input + Print>(
 ) -> Result<Status, CliFault>
     requires { IfSome until (λ moment. moment ≤ stream_end) }
 {
-    let file = contents(rt, path, is_quiet)?;
+    let file = scenario_file(rt, path, is_quiet)?;
     let mut writer = CountedWriter::new(io::writer(rt));
     let mut line = ProgressLine::new(rt, shown_when);
     let answer = stream_file(rt.alloc(), &file, until, flush, &mut writer, &mut line);
     line.end();
     let status = answer?;
-    // Of the file alone: a stream goes further than the run that a hint would play.
     if let Status::Refused = status
         && !is_quiet
     {
-        hint(rt, explain_stream(rt.alloc(), shown(path), &file));
+        hint(rt, explain_settling(rt.alloc(), shown(path), &file));
+    }
+    Ok(status)
+}
+
+/// `ringplay stream FILE --audit`, to standard output; progress and hints go to standard error.
+fn stream_audit<T: AllocGlobal + Clock + Eprint + Files + Input + Print>(
+    rt: &T,
+    path: &str,
+    until: Option<u64>,
+    shown_when: Shown,
+    is_quiet: bool,
+) -> Result<Status, CliFault>
+    requires { IfSome until (λ moment. moment ≤ stream_end) }
+{
+    let file = scenario_file(rt, path, is_quiet)?;
+    let mut writer = CountedWriter::new(io::writer(rt));
+    let mut line = ProgressLine::new(rt, shown_when);
+    let answer = audit_stream_file(rt.alloc(), &file, until, &mut writer, &mut line);
+    line.end();
+    let status = answer?;
+    if let Status::Refused = status
+        && !is_quiet
+    {
+        hint(rt, explain_settling(rt.alloc(), shown(path), &file));
     }
     Ok(status)
 }
@@ -301,6 +372,19 @@ fn version(rt: &impl Print) -> Result<Status, CliFault> {
         Ok(()) => Ok(Status::Done),
         Err(_) => Err(CliFault::Write),
     }
+}
+
+/// The content of a scenario file whose run is shown. What the scenario should not have goes to standard error.
+fn scenario_file<R: AllocGlobal + Eprint + Files + Input>(
+    rt: &R,
+    path: &str,
+    is_quiet: bool,
+) -> Result<Vec<u8>, CliFault> {
+    let file = contents(rt, path, is_quiet)?;
+    if !is_quiet {
+        hint(rt, warn(rt.alloc(), shown(path), &file));
+    }
+    Ok(file)
 }
 
 /// The content of the file at a path, or of standard input. The reason why it cannot be read goes to standard error.

@@ -5,6 +5,7 @@ mod exports;
 mod memory;
 mod monitoring;
 mod scenarios;
+mod settling;
 mod streaming;
 mod streams;
 mod words;

@@ -10,7 +10,9 @@ use pb_cli::{
 };
 use pb_export::{CaptureExport, CaptureForm, Link};
 use pb_monitor::{Classes, Form};
+use std::alloc::AllocGlobal;
 use std::io::ErrorKind;
+use std::process::Abort;
 use std::test::Fail;
 
 const CAPTURE: &[u8] = b"1 34 dc0201\ne5\nzz";
@@ -229,26 +231,35 @@ fn an_export_to_a_writer_that_fails_leaves_a_front(rt: HostRuntime) {
     }
 }
 
-/// With one allocation refused, an export is whole, or a front of it is written and the fault is `NoMemory`.
-#[test]
-fn refused_memory_in_an_export(rt: HostRuntime) {
+/// With one allocation refused, an export is made, or the fault is `NoMemory`.
+fn is_made_or_refused(rt: &(impl Abort + AllocGlobal + Print), form: CaptureForm) {
     let mut writer = CountedWriter::new(Vec::new(rt.alloc()));
     let answer = export_capture(
         rt.alloc(),
         None,
         options(),
-        &export(CaptureForm::Pcapng),
+        &export(form),
         &mut CountedReader::new(CAPTURE),
         &mut writer,
         &mut notes(),
     );
     match answer {
-        Ok(status) => equal(&rt, &status, &Status::Refused),
+        Ok(status) => equal(rt, &status, &Status::Refused),
         Err(fault) => {
             assert!(rt; fault == CliFault::NoMemory || fault == CliFault::Write);
             let _ = println!(rt; "refused");
         }
     }
+}
+
+#[test]
+fn refused_memory_in_an_export(rt: HostRuntime) {
+    is_made_or_refused(&rt, CaptureForm::Pcapng);
+}
+
+#[test]
+fn refused_memory_in_a_picture(rt: HostRuntime) {
+    is_made_or_refused(&rt, CaptureForm::Svg);
 }
 
 #[test]

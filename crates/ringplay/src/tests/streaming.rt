@@ -1,7 +1,9 @@
 //! Scenario files streamed over writers and observers in memory, and how far a stream is in words.
 
 use super::equal;
-use pb_cli::{CliFault, CountedWriter, Flush, Observer, Progress, Status, stream_file};
+use pb_cli::{
+    CliFault, CountedWriter, Flush, Observer, Progress, Status, audit_stream_file, stream_file,
+};
 use std::alloc::AllocGlobal;
 use std::io;
 use std::io::Write;
@@ -15,6 +17,17 @@ tap = [{ name = \"a\", kind = \"master\", address = 1 }, { name = \"b\", kind = 
 step = [
     { at = 0, do = \"start\", tap = \"a\" }, { at = 0, do = \"start\", tap = \"b\" },
     { at = 4100, do = \"stop\", tap = \"b\" }, { at = 4200, do = \"stop\", tap = \"b\" },
+]
+";
+
+/// Two masters with one address; the second starts, and then again.
+const NAMESAKES: &[u8] = b"version = 1
+until = 4000
+bus = { tsl = 100, tid1 = 37, tid2 = 60, tsdr = 11, lag = 0, ttr = 10000, gap = 10, hsa = 5, retries = 1 }
+tap = [{ name = \"a\", kind = \"master\", address = 1 }, { name = \"b\", kind = \"master\", address = 1 }]
+step = [
+    { at = 0, do = \"start\", tap = \"a\" }, { at = 1000, do = \"start\", tap = \"b\" },
+    { at = 4100, do = \"start\", tap = \"b\" },
 ]
 ";
 
@@ -69,6 +82,22 @@ impl Observer for Told {
     }
 }
 
+/// A writer that fails where it has taken so many lines.
+fn line_writer(rt: &impl AllocGlobal, most: usize) -> CountedWriter<LineWriter> {
+    CountedWriter::new(LineWriter {
+        taken: Vec::new(rt.alloc()),
+        writes: 0,
+        most,
+    })
+}
+
+/// Nothing was told.
+const UNTOLD: Told = Told {
+    clock: 0,
+    until: 0,
+    times: 0,
+};
+
 /// What a stream has written, how it ended, and what was told.
 #[derive(Drop)]
 struct Ending {
@@ -78,18 +107,22 @@ struct Ending {
 }
 
 fn streamed(rt: &impl AllocGlobal, until: u64, flush: Flush, most: usize) -> Ending {
-    let mut writer = CountedWriter::new(LineWriter {
-        taken: Vec::new(rt.alloc()),
-        writes: 0,
-        most,
-    });
-    let mut told = Told {
-        clock: 0,
-        until: 0,
-        times: 0,
-    };
+    let mut writer = line_writer(rt, most);
+    let mut told = UNTOLD;
     let until = Some(until.min(1_000_000_000_000));
     let answer = stream_file(rt.alloc(), RING, until, flush, &mut writer, &mut told);
+    Ending {
+        answer,
+        writer,
+        told,
+    }
+}
+
+fn audited(rt: &impl AllocGlobal, until: u64, most: usize) -> Ending {
+    let mut writer = line_writer(rt, most);
+    let mut told = UNTOLD;
+    let until = Some(until.min(1_000_000_000_000));
+    let answer = audit_stream_file(rt.alloc(), NAMESAKES, until, &mut writer, &mut told);
     Ending {
         answer,
         writer,
@@ -136,6 +169,33 @@ fn a_writer_that_fails_ends_a_stream(rt: HostRuntime) {
     equal(&rt, &stopped.writer.failures(), &1);
     let taken = stopped.writer.writer().taken.as_slice();
     equal(&rt, &Some(taken), &FRONT.get(..67));
+}
+
+/// The line of a premise is written when it breaks, and at the end that there is no illegal record.
+#[test]
+fn an_audit_is_written_as_it_is_found(rt: HostRuntime) {
+    let whole = audited(&rt, 4000, usize::MAX);
+    equal(&rt, &whole.answer, &Ok(Status::Done));
+    let text = b"premise P1 broken at 1000\ntrace legal\n".as_slice();
+    equal(&rt, &whole.writer.writer().taken.as_slice(), &text);
+    equal(&rt, &whole.writer.writer().writes, &2);
+    equal(&rt, &whole.told.clock, &4000);
+    let first = audited(&rt, 4000, 1);
+    equal(&rt, &first.answer, &Err(CliFault::Write));
+    assert!(rt; first.told.clock > 1000 && first.told.clock < 4000);
+    let failed = audited(&rt, 4000, 0);
+    equal(&rt, &failed.answer, &Err(CliFault::Write));
+    assert!(rt; failed.told.clock <= 1000);
+}
+
+/// Where an event is refused, its line follows what was found.
+#[test]
+fn a_refused_audit_has_what_was_found(rt: HostRuntime) {
+    let stopped = audited(&rt, 5000, usize::MAX);
+    equal(&rt, &stopped.answer, &Ok(Status::Refused));
+    let text = b"premise P1 broken at 1000\nrun fault 2 Running at 4100\n".as_slice();
+    equal(&rt, &stopped.writer.writer().taken.as_slice(), &text);
+    equal(&rt, &stopped.told.clock, &4100);
 }
 
 #[test]

@@ -93,6 +93,7 @@ fn stream_takes_a_file_and_a_moment(rt: HostRuntime) -> Result<(), Fail> {
             file,
             until,
             progress,
+            audit: false,
         };
         equal(&rt, &ask(rt.alloc(), &words)?, &wanted);
     }

@@ -89,7 +89,7 @@ fn raises_each_alarm_once(rt: HostRuntime) {
         },
         Case {
             capture: b"1254 1320 100302494e16\n",
-            printed: b"1254 1320 short da=3 sa=2 fc=49 | FDL status request | holder 2\nalarm at 1254 by 2: SpokeAfterLoss: it is no claim after a silence of 101, and a token in use leaves at most 100\n",
+            printed: b"1254 1320 short da=3 sa=2 fc=49 | FDL status request | holder 2\nalarm at 1254 by 2: SpokeAfterLoss: it spoke without claiming after a silence of 101, and a token in use leaves at most 100\n",
         },
         Case {
             capture: b"2152 2185 dc0202\n",

@@ -1,10 +1,10 @@
-use Rattle.std.proofs.Common.{◌≡◌, Option, subst, rules}
+use Rattle.std.proofs.Common.{Option, subst, rules}
 use Rattle.std.specs.Io.KnownBytes.{Appends}
 use Rattle.law_streams.specs.Streams.{stream_limit, stream_within}
 use Rattle.pb_scenario.specs.Repeats.{unrolled}
 use Rattle.pb_cli.specs.Streaming.{StepsOn}
 use Rattle.pb_cli.specs.declared.faults.Status.{Status}
-use Rattle.pb_cli.proofs.Written.{begins, ends, goes_on, no_world}
+use Rattle.pb_cli.proofs.Written.{ends, goes_on, no_world}
 use Rattle.pb_cli.proofs.streaming.stream_scenario.Goals as goal
 
 pub returns-in-Err-clause-text : goal.returns-in-Err-clause-text
