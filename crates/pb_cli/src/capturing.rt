@@ -35,7 +35,8 @@ pub fn capture_file<W: Sink, O: Observer>(
     writer: &mut W,
     observer: &mut O,
 ) -> Result<Settled, CliFault>
-    ensures text { IfOk result (CapturesFile (stream_scenario_of file.now) (option_map (λ t. string_bytes t) tap)
+    ensures text { IfOk result
+        (CapturesFile (stream_scenario_of file.now) (option_map (λ t. string_bytes t) tap)
         (W.contents writer.old) (W.contents writer.new)) }
     ensures read { result ≢ Err CliFault.Read }
     ensures too_long { result ≢ Err CliFault.TooLong }

@@ -11,7 +11,7 @@ use crate::writing::write_out;
 use pb_export::{
     CaptureExport, CaptureForm, push_bursts, push_capture_bus, push_capture_head, push_capture_svg,
 };
-use pb_monitor::{Monitor, Options};
+use pb_monitor::{Monitor, Options, SummaryForm};
 use pb_scenario::{ScenarioFault, read_bus};
 use pb_texts::{Shown, refused_file};
 use pb_timers::BusParams;
@@ -51,21 +51,30 @@ fn refused_bus(alloc: Global, fault: &ScenarioFault) -> Result<Bus, CliFault>
 }
 
 /// Reads a capture until the reader ends, and writes lines of text for it: what a piece that was read completes is written
-/// before the next read. There is no limit of its length; memory does not grow with it.
+/// before the next read. There is no limit of its length; memory does not grow with it. Where summaries are for programs,
+/// JSON or a table, only these are written, and the lines of alarms and of refused input go to `notes`.
 ///
 /// On `Ok` the status is `Refused` exactly if some input was refused or an alarm was raised. Faults: `Read` if the reader
 /// failed; `Write` if the writer failed, or was interrupted 1,001 times in a row; `NoMemory`. After a fault the lines for
 /// what was read before were written, but for a part of the last.
-pub fn monitor<R: Source, W: Sink>(
+pub fn monitor<R: Source, W: Sink, N: Notes>(
     alloc: Global,
     params: Option<BusParams>,
     options: Options,
     reader: &mut R,
     writer: &mut W,
+    notes: &mut N,
 ) -> Result<Status, CliFault>
     ensures too_long { result ≢ Err CliFault.TooLong }
 {
+    let is_for_programs = match options.summary {
+        Some(SummaryForm::Json | SummaryForm::Csv) => true,
+        Some(SummaryForm::Text) | None => false,
+    };
     let mut monitor = Monitor::new(alloc, params, options)?;
+    if is_for_programs {
+        monitor.set_apart(alloc);
+    }
     let mut piece = vec![in alloc; 0u8; PIECE_LENGTH]?;
     let mut text = Vec::new(alloc);
     for _call in 0..u64::MAX {
@@ -73,16 +82,36 @@ pub fn monitor<R: Source, W: Sink>(
             Ok(0) => break,
             Ok(count) => {
                 monitor.feed(&piece[..count], &mut text)?;
-                write_out(writer, &text)?;
-                text.clear();
+                put_out(&mut monitor, is_for_programs, &mut text, writer, notes)?;
             }
             Err(ReadFault::Interrupted) => {}
             Err(ReadFault::Failed) => return Err(CliFault::Read),
         }
     }
     monitor.finish(&mut text)?;
-    write_out(writer, &text)?;
+    put_out(&mut monitor, is_for_programs, &mut text, writer, notes)?;
     Ok(Status::of(monitor.is_refused()))
+}
+
+/// Writes some lines; or, for programs, the summaries alone.
+fn put_out<W: Sink, N: Notes>(
+    monitor: &mut Monitor,
+    is_for_programs: bool,
+    text: &mut Vec<u8>,
+    writer: &mut W,
+    notes: &mut N,
+) -> Result<(), CliFault>
+    ensures { result ≢ Err CliFault.TooLong }
+{
+    if is_for_programs {
+        notes.note(text);
+        write_out(writer, monitor.summaries())?;
+        monitor.clear_summaries();
+    } else {
+        write_out(writer, text)?;
+    }
+    text.clear();
+    Ok(())
 }
 
 /// Is told what an export has no place for: the lines of refused input and of alarms.

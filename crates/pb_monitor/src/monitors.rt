@@ -48,10 +48,12 @@ pub struct Monitor {
     pub(crate) quiet: Option<u64>,
     /// When the next summary is due.
     pub(crate) due: Option<u64>,
+    /// The summaries, where they are kept apart.
+    pub(crate) apart: Option<Vec<u8>>,
 }
 
 impl Monitor {
-    ghost use Rattle.std.specs.Prelude.{◌≡◌, ◌≤◌, [], true, IfSome};
+    ghost use Rattle.std.specs.Prelude.{◌≡◌, ◌≤◌, [], true, IfSome, MatchOption, None};
 
     /// A monitor of a bus with these parameters. Without parameters it decodes and counts, and judges nothing.
     ///
@@ -78,6 +80,7 @@ impl Monitor {
             origin: None,
             quiet: None,
             due: None,
+            apart: None,
         })
     }
 
@@ -109,7 +112,33 @@ impl Monitor {
         if self.kept.is_wanted() {
             return Ok(());
         }
-        push_summary(text, &self.statistics, self.options.summary)
+        self.push_summary(text)
+    }
+
+    /// From now on summaries are kept apart from the other lines, those of bursts, of alarms and of refused input.
+    pub fn set_apart(&mut self, alloc: Global)
+        ensures { MatchOption self.new.apart ⊥ (λ kept. kept.items ≡ []) }
+    {
+        self.apart = Some(Vec::new(alloc));
+    }
+
+    /// The summaries since the last call of [`clear_summaries`](Monitor::clear_summaries), if they are kept apart.
+    pub fn summaries(&self) -> &[u8]
+        ensures { MatchOption self.now.apart (result.now ≡ []) (λ kept. result.now ≡ kept.items) }
+    {
+        match &self.apart {
+            Some(kept) => kept.as_slice(),
+            None => &[],
+        }
+    }
+
+    /// Forgets the summaries that were kept apart.
+    pub fn clear_summaries(&mut self)
+        ensures { MatchOption self.new.apart (self.old.apart ≡ None) (λ kept. kept.items ≡ []) }
+    {
+        if let Some(kept) = &mut self.apart {
+            kept.clear();
+        }
     }
 
     /// From now on bursts are handed on, in place of a line for each and a summary.
@@ -375,7 +404,16 @@ impl Monitor {
             return Ok(());
         }
         self.due = Some(moment.saturating_add(every));
-        push_summary(text, &self.statistics, self.options.summary)
+        self.push_summary(text)
+    }
+
+    /// Appends a summary in the form that is asked for.
+    fn push_summary(&mut self, text: &mut Vec<u8>) -> Result<(), AllocError> {
+        let form = self.options.summary;
+        match &mut self.apart {
+            Some(kept) => push_summary(kept, &self.statistics, form),
+            None => push_summary(text, &self.statistics, form),
+        }
     }
 
     /// A burst without moments: it is judged by the order of telegrams alone.

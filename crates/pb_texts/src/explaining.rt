@@ -2,7 +2,8 @@
 
 use crate::documents::Document;
 use crate::file_hints::of_file;
-use crate::run_hints::{of_run, of_settling_run, of_world};
+use crate::run_hints::{of_run, of_settling_run};
+use crate::stream_hints::of_stream_run;
 use pb_scenario::{ScenarioFault, read, read_bus, read_stream};
 use std::alloc::{AllocError, Global};
 
@@ -42,8 +43,9 @@ pub fn explain_bus(alloc: Global, name: &str, file: &[u8]) -> Result<String, All
 }
 
 /// Why a scenario file of any version is refused, or its run without a limit of entries, for people: a line with the place,
-/// what was found and what is wanted; no text if neither is refused. Of an event in a file of version 3, and of a run
-/// whose trace goes on where that of [`explain`] is full, nothing is said. `name` is the file's name as people gave it.
+/// what was found and what is wanted; no text if neither is refused. Of what is refused after the first 200,000 instants
+/// of a file of version 3, or after the trace of [`explain`] is full, nothing is said. `name` is the file's name as people
+/// gave it.
 ///
 /// It takes at most as long as `explain`. Fault: memory was refused.
 pub fn explain_settling(alloc: Global, name: &str, file: &[u8]) -> Result<String, AllocError> {
@@ -54,10 +56,10 @@ pub fn explain_settling(alloc: Global, name: &str, file: &[u8]) -> Result<String
     }
 }
 
-/// Why a file, or its new world, is refused that may be of version 3.
+/// Why a file, or its run, is refused that may be of version 3.
 fn of_stream_file(document: &Document<'_>) -> Result<String, AllocError> {
     match read_stream(document.alloc, document.file) {
-        Ok(scenario) => of_world(document, scenario.once()),
+        Ok(scenario) => of_stream_run(document, &scenario),
         Err(ScenarioFault::NoMemory) => Err(AllocError),
         Err(fault) => of_file(document, &fault),
     }

@@ -22,6 +22,7 @@ mod param_hints;
 mod plays;
 mod run_hints;
 mod shown;
+mod stream_hints;
 mod tails;
 mod texts;
 mod warnings;

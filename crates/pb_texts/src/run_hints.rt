@@ -4,7 +4,6 @@ use crate::documents::Document;
 use pb_scenario::{
     Deed, Event, Key, Kind, NewFault, RunFault, Scenario, Section, WorldFault, course_of,
 };
-use pb_world::new_bus;
 use std::alloc::AllocError;
 
 /// The hint for a run that is refused, of which at most so many events may be kept; no text for a run that isn't.
@@ -35,14 +34,6 @@ pub(crate) fn of_settling_run(
     match course.fault {
         Some(RunFault::At(_, WorldFault::TraceFull)) | None => Ok(String::new(document.alloc)),
         Some(fault) => of_fault(document, scenario, step, &fault),
-    }
-}
-
-/// The hint for a new world that is refused.
-pub(crate) fn of_world(document: &Document<'_>, scenario: &Scenario) -> Result<String, AllocError> {
-    match new_bus(document.alloc, *scenario.params(), scenario.taps()) {
-        Ok(_) => Ok(String::new(document.alloc)),
-        Err(fault) => of_new(document, scenario, fault),
     }
 }
 
@@ -77,7 +68,7 @@ fn ended(
 }
 
 /// A world that there isn't.
-fn of_new(
+pub(crate) fn of_new(
     document: &Document<'_>,
     scenario: &Scenario,
     fault: NewFault,
@@ -134,7 +125,7 @@ pub(crate) fn name_of(scenario: &Scenario, tap: usize) -> &str {
 }
 
 /// An event that is refused at a clock.
-fn of_event(
+pub(crate) fn of_event(
     document: &Document<'_>,
     scenario: &Scenario,
     step: Option<usize>,
@@ -150,7 +141,7 @@ fn of_event(
             "at {clock}, time would pass an end on the bus"
         )),
         _ => match step {
-            Some(place) => of_step(document, scenario, place, fault),
+            Some(place) => of_step(document, scenario, place, clock, fault),
             None => document.whole(format_args!("at {clock}, an event is refused: {fault}")),
         },
     }
@@ -184,18 +175,19 @@ fn inbox_full(
     }
 }
 
-/// A step whose event is refused.
+/// A step whose event is refused at a moment.
 fn of_step(
     document: &Document<'_>,
     scenario: &Scenario,
     place: usize,
+    at: u64,
     fault: WorldFault,
 ) -> Result<String, AllocError> {
     let spot = document.key(Section::Step(place), Key::At);
     let Some(step) = scenario.steps().get(place) else {
         return document.whole(format_args!("a step is refused: {fault}"));
     };
-    let (at, tap) = (step.at, tap_of(&step.deed));
+    let tap = tap_of(&step.deed);
     let name = name_of(scenario, tap);
     match fault {
         WorldFault::Running => document.at(

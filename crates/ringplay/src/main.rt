@@ -104,13 +104,13 @@ fn answer<T: AllocGlobal + Clock + Eprint + Files + Input + Print + Threads + Wa
             let shown = terminals.shown(false, is_quiet);
             capture(rt, file.as_str(), tap, shown, is_quiet)
         }
-        Ask::Export { file, export } => match export.streamed() {
-            Some(streamed) => {
-                let shown = terminals.shown(false, is_quiet);
-                export_as_it_settles(rt, file.as_str(), &streamed, shown, is_quiet)
-            }
-            None => export_whole(rt, file.as_str(), &export, is_quiet),
-        },
+        Ask::Export {
+            file,
+            export: asked,
+        } => {
+            let shown = terminals.shown(false, is_quiet);
+            export(rt, file.as_str(), &asked, shown, is_quiet)
+        }
         Ask::Stream {
             file,
             until,
@@ -200,8 +200,8 @@ fn bounds<T: AllocGlobal + Eprint + Files + Input + Print>(
     Ok(status)
 }
 
-/// `ringplay monitor [FILE]`, from standard input to standard output; hints, and what an export has no place for, go to
-/// standard error.
+/// `ringplay monitor [FILE]`, from standard input to standard output; hints, and what an export or a summary for programs has
+/// no place for, go to standard error.
 fn watch<T: AllocGlobal + Eprint + Files + Input + Print>(
     rt: &T,
     path: Option<String>,
@@ -227,6 +227,7 @@ fn watch<T: AllocGlobal + Eprint + Files + Input + Print>(
         }
     }
     let mut reader = CountedReader::new(rt.reader());
+    let mut notes = ErrorLines::new(rt, is_quiet);
     match export {
         Some(export) => export_capture(
             rt.alloc(),
@@ -235,9 +236,16 @@ fn watch<T: AllocGlobal + Eprint + Files + Input + Print>(
             &export,
             &mut reader,
             &mut writer,
-            &mut ErrorLines::new(rt, is_quiet),
+            &mut notes,
         ),
-        None => monitor(rt.alloc(), params, options, &mut reader, &mut writer),
+        None => monitor(
+            rt.alloc(),
+            params,
+            options,
+            &mut reader,
+            &mut writer,
+            &mut notes,
+        ),
     }
 }
 
@@ -255,6 +263,22 @@ fn capture<T: AllocGlobal + Clock + Eprint + Files + Input + Print>(
     let answer = capture_file(rt.alloc(), &file, tap, &mut writer, &mut line);
     line.end();
     Ok(settled(rt, path, &file, &answer?, is_quiet))
+}
+
+/// `ringplay export FILE`.
+fn export<T: AllocGlobal + Clock + Eprint + Files + Input + Print>(
+    rt: &T,
+    path: &str,
+    export: &Export,
+    shown_when: Shown,
+    is_quiet: bool,
+) -> Result<Status, CliFault>
+    requires { IsBaud export.now.baud }
+{
+    match export.streamed() {
+        Some(streamed) => export_as_it_settles(rt, path, &streamed, shown_when, is_quiet),
+        None => export_whole(rt, path, export, is_quiet),
+    }
 }
 
 /// `ringplay export FILE` in a form that is written entry by entry, to standard output; progress, the line of an event that

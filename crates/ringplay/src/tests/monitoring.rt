@@ -9,7 +9,7 @@ use pb_cli::{
     monitor,
 };
 use pb_export::{CaptureExport, CaptureForm, Link};
-use pb_monitor::{Classes, Form};
+use pb_monitor::{Classes, Form, SummaryForm};
 use std::alloc::AllocGlobal;
 use std::io::ErrorKind;
 use std::process::Abort;
@@ -44,7 +44,14 @@ fn each_line_is_answered_as_it_comes(rt: HostRuntime) {
             kind: ErrorKind::UnexpectedEof,
         });
         let mut writer = CountedWriter::new(Vec::new(rt.alloc()));
-        let answer = monitor(rt.alloc(), None, options(), &mut reader, &mut writer);
+        let answer = monitor(
+            rt.alloc(),
+            None,
+            options(),
+            &mut reader,
+            &mut writer,
+            &mut notes(),
+        );
         equal(&rt, &answer, &Err(CliFault::Read));
         let written = writer.writer().len();
         assert!(rt; PRINTED.starts_with(writer.writer()));
@@ -61,7 +68,14 @@ fn an_interrupted_read_goes_on(rt: HostRuntime) {
             kind: ErrorKind::Interrupted,
         });
         let mut writer = CountedWriter::new(Vec::new(rt.alloc()));
-        let answer = monitor(rt.alloc(), None, options(), &mut reader, &mut writer);
+        let answer = monitor(
+            rt.alloc(),
+            None,
+            options(),
+            &mut reader,
+            &mut writer,
+            &mut notes(),
+        );
         equal(&rt, &answer, &Ok(Status::Refused));
         equal(&rt, &writer.writer().as_slice(), &PRINTED);
     }
@@ -79,7 +93,14 @@ fn a_writer_that_fails_leaves_a_front(rt: HostRuntime) {
             kind: ErrorKind::BrokenPipe,
             errors: 1,
         });
-        let answer = monitor(rt.alloc(), None, options(), &mut reader, &mut writer);
+        let answer = monitor(
+            rt.alloc(),
+            None,
+            options(),
+            &mut reader,
+            &mut writer,
+            &mut notes(),
+        );
         equal(&rt, &answer, &Err(CliFault::Write));
         let taken = writer.writer().taken.as_slice();
         equal(&rt, &taken.len(), &(calls_before as usize));
@@ -202,6 +223,29 @@ fn an_export_says_what_was_refused(rt: HostRuntime) {
     );
     equal(&rt, &answer, &Ok(Status::Refused));
     equal(&rt, &writer.writer().as_slice(), &EXPORTED);
+    assert!(rt; said.is_same && said.left.is_empty());
+}
+
+/// In a form for programs a summary is all that is written.
+#[test]
+fn a_summary_for_programs_stands_alone(rt: HostRuntime) {
+    let mut writer = CountedWriter::new(Vec::new(rt.alloc()));
+    let mut said = notes();
+    let asked = Options {
+        summary: Some(SummaryForm::Json),
+        ..options()
+    };
+    let answer = monitor(
+        rt.alloc(),
+        None,
+        asked,
+        &mut CountedReader::new(CAPTURE),
+        &mut writer,
+        &mut said,
+    );
+    equal(&rt, &answer, &Ok(Status::Refused));
+    let text = writer.writer();
+    assert!(rt; text.starts_with(b"{\"bursts\":2,") && text.ends_with(b"]}\n"));
     assert!(rt; said.is_same && said.left.is_empty());
 }
 
