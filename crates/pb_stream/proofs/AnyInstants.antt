@@ -120,7 +120,7 @@ run-goes-on m k p now w a b c d t one two three is four =
 
 -- ---- a watched bus
 
-watched-leave-others : LeavesOthers watched_bus
+pub watched-leave-others : LeavesOthers watched_bus
 watched-leave-others c u i j r other ok = turns-leave-others c.world u.world i j r other (watched-ok c u (Turn i) r (step c.world (Turn i)) ok)
 
 pub watched-one-by-one : (p : Plan Event) (now n : ℕ) (c : Course) → n ≡ length (dues c.world) → all watched_bus now (turns watched_bus p now c) c ≡ one_by_one watched_bus p now n 0 c

@@ -13,20 +13,22 @@ use Rattle.law_model.specs.Step.{step}
 use Rattle.law_runs.specs.Premises.{Course, followed}
 use Rattle.law_runs.specs.Scenarios.{Deed}
 use Rattle.law_runs.specs.Runs as runs
-use Rattle.law_runs.specs.Runs.{Plan, all, and_then, one_by_one, turns, wants}
+use Rattle.law_turn.specs.Stations.{earlier}
+use Rattle.law_runs.specs.Runs.{Plan, all, and_then, comes, next_turn, one_by_one, turns, wants}
 use Rattle.law_runs.specs.Bus.{due_in, dues}
 use Rattle.law_streams.specs.Audits.{watched_bus, watched_on}
 use Rattle.law_streams.proofs.PastSteps.{step-behind}
 use Rattle.pb_taps.specs.declared.faults.WorldFault.{WorldFault}
 use Rattle.pb_world.specs.Buses.{world_of, world_with}
 use Rattle.pb_world.specs.Worlds.{due_at}
+use Rattle.pb_world.proofs.Instants.{sooner-all, sooner-more}
 use Rattle.pb_scenario.specs.declared.deeds.When.{When}
 use Rattle.pb_scenario.specs.Faults.{model_fault}
 use Rattle.pb_scenario.specs.Plays.{turn_if}
 use Rattle.pb_scenario.specs.Said.{said_in, said_of}
 use Rattle.pb_stream.specs.Plays.{HappenedAt, Plays, StoppedAt}
 use Rattle.pb_stream.specs.Stages.{StageView, GoesFrom, IsAt}
-use Rattle.pb_stream.proofs.AnyInstants.{all-append, all-stops, watched-one-by-one}
+use Rattle.pb_stream.proofs.AnyInstants.{all-append, all-stops, watched-leave-others, watched-one-by-one}
 
 -- ---- refusals
 
@@ -106,13 +108,13 @@ module _ {X : Type 0} (f : X → Deed) (when : When) (i : ℕ) (xs : List X) (x 
       ∙ ap (λ es. said_of when (map f (take i xs)) ++ es) (said-join (x ∷ []) (drop (i + 1) xs) ∙ ap (λ es. es ++ said_of when (map f (drop (i + 1) xs))) said-one)
 
   pub deed-played : (now : ℕ) (old : List Entry) (c : Course) (v new : StageView) → HappenedAt now old c (said_of when (map f (take i xs))) v
-      → Plays v (option_to_list (said_in when (f x))) (Ok tt) new → HappenedAt now old c (said_of when (map f (take (i + 1) xs))) new
+      → Plays {A = Unit {0}} v (option_to_list (said_in when (f x))) (Ok (tt {0})) new → HappenedAt now old c (said_of when (map f (take (i + 1) xs))) new
   deed-played now old c v new before one =
       subst (λ es. HappenedAt now old c es new) (sym said-more)
       (happened-then now old c (said_of when (map f (take i xs))) (option_to_list (said_in when (f x))) v new before (λ d from. one now old d from))
 
   pub deed-refused : (now : ℕ) (old : List Entry) (c : Course) (v new : StageView) (fault : WorldFault) → HappenedAt now old c (said_of when (map f (take i xs))) v
-      → Plays v (option_to_list (said_in when (f x))) (Err fault) new → IfSome (model_fault fault) (λ g. StoppedAt now old c (said_of when (map f xs)) g new)
+      → Plays {A = Unit {0}} v (option_to_list (said_in when (f x))) (Err fault) new → IfSome (model_fault fault) (λ g. StoppedAt now old c (said_of when (map f xs)) g new)
   deed-refused now old c v new fault before stops =
       let past = said_of when (map f (take i xs)) in
       let here = option_to_list (said_in when (f x)) in
@@ -172,7 +174,7 @@ at-tap p clock n tap old c v less at =
     ∙ ap (λ m. one_by_one watched_bus p clock m tap c) same
 
 pub turn-more : (p : Plan Event) (clock n tap : ℕ) (old : List Entry) (first : Course) (v new : StageView) → tap < n → AreLeft p clock n tap old first v
-    → Plays v (turn_if (wants p clock tap (due_at (world_of v.bus) tap)) tap) (Ok tt) new → AreLeft p clock n (tap + 1) old first new
+    → Plays {A = Unit {0}} v (turn_if (wants p clock tap (due_at (world_of v.bus) tap)) tap) (Ok (tt {0})) new → AreLeft p clock n (tap + 1) old first new
 turn-more p clock n tap old first v new less (c, from, left) plays =
     let (d, to, ok) = plays clock old c from in
     (d, to, sym (turn-then p clock (n - (tap + 1)) tap c d (wants p clock tap (due_at (world_of v.bus) tap)) ok) ∙ at-tap p clock n tap old c v less from.at ∙ left)
@@ -187,7 +189,7 @@ turns-played p clock n tap old first v new at count past (c, from, left) =
     (c, from, watched-one-by-one p clock n first (counted old first v n at count) ∙ sym left ∙ sym (ap (λ m. one_by_one watched_bus p clock m tap c) none))
 
 pub turns-refused : (p : Plan Event) (clock n tap : ℕ) (old : List Entry) (first : Course) (v mid new : StageView) (fault : WorldFault) → IsAt v old first → n ≡ length (world_of v.bus).taps → tap < n
-    → AreLeft p clock n tap old first mid → Plays mid (turn_if (wants p clock tap (due_at (world_of mid.bus) tap)) tap) (Err fault) new
+    → AreLeft p clock n tap old first mid → Plays {A = Unit {0}} mid (turn_if (wants p clock tap (due_at (world_of mid.bus) tap)) tap) (Err fault) new
     → IfSome (model_fault fault) (λ f. StoppedAt clock old first (turns watched_bus p clock first) f new)
 turns-refused p clock n tap old first v mid new fault at count less left stops =
     let c = left.0 in
@@ -200,3 +202,50 @@ turns-refused p clock n tap old first v mid new fault at count less left stops =
           ∙ turn-refused p clock (n - (tap + 1)) tap c b (clock, (s.0, f)) s.2,
     ))
     (stops clock old c left.1)
+
+-- ---- the first moment at which some tap may take a turn next
+
+-- the taps in front of one are due when they are due in another world
+abbrev pub Agrees : ℕ → World → World → Type 0
+Agrees n a b = (j : ℕ) → j < n → slice_get (dues a) j ≡ slice_get (dues b) j
+
+-- Of the taps in front of one this is the first moment: so far, whenever those behind are due.
+abbrev pub ComesSoFar : Plan Event → (clock n tap : ℕ) → World → Option ℕ → Type 0
+ComesSoFar p clock n tap w first =
+    (v : World) → length v.taps ≡ n → Agrees tap v w → earlier first (next_turn p clock tap (drop tap (dues v))) ≡ next_turn p clock 0 (dues v)
+
+pub so-far-none : (p : Plan Event) (clock n : ℕ) (w : World) → ComesSoFar p clock n 0 w None
+so-far-none p clock n w v count agrees = by (next_turn p clock 0 (dues v))
+  where
+    by : (o : Option ℕ) → earlier None o ≡ o
+    by None = refl
+    by (Some m) = refl
+
+pub so-far-more : (p : Plan Event) (clock n tap : ℕ) (w u : World) (first next : Option ℕ) → tap < n → Agrees tap u w → next ≡ earlier first (comes p clock tap (due_at u tap))
+    → ComesSoFar p clock n tap w first → ComesSoFar p clock n (tap + 1) u next
+so-far-more p clock n tap w u first next less leaves is so_far v count agrees =
+    let same : due_at u tap ≡ due_at v tap =
+    sym (due-found u tap) ∙ ap (λ o. runs.due_at o) (sym (agrees tap (omega arith))) ∙ due-found v tap in
+    sooner-more p clock v tap first next (next_turn p clock 0 (dues v)) (omega (arith, less, count)) (is ∙ ap (λ d. earlier first (comes p clock tap d)) same)
+    (so_far v count (λ j front. agrees j (omega (arith, front)) ∙ leaves j front))
+
+pub so-far-all : (p : Plan Event) (clock n tap : ℕ) (w : World) (first : Option ℕ) → n ≤ tap → length w.taps ≡ n → ComesSoFar p clock n tap w first
+    → first ≡ next_turn p clock 0 (dues w)
+so-far-all p clock n tap w first past count so_far = sooner-all p clock w tap first (next_turn p clock 0 (dues w)) (omega (arith, past, count)) (so_far w count (λ j front. refl))
+
+-- a tap's turn leaves when those in front of it are due
+pub turn-agrees : (clock tap : ℕ) (old : List Entry) (c : Course) (v new : StageView) (b : Bool) → IsAt v old c → HappenedAt clock old c (turn_if b tap) new
+    → Agrees tap (world_of new.bus) (world_of v.bus)
+turn-agrees clock tap old c v new b at (d, to, ok) j front =
+    ap (λ (w : World). slice_get (dues w) j) (sym to.at.here) ∙ leaves b ok ∙ ap (λ (w : World). slice_get (dues w) j) at.here
+  where
+    leaves : (b : Bool) → all watched_bus clock (turn_if b tap) c ≡ Ok d → slice_get (dues d.world) j ≡ slice_get (dues c.world) j
+    leaves false ok = let is : c ≡ d = cc in ap (λ (x : Course). slice_get (dues x.world) j) (sym is)
+    leaves true ok = by (watched_on c (Turn tap) (step c.world (Turn tap))) refl ok
+      where
+        by : (o : Result (Course × Reply) (Course × Fault)) → watched_on c (Turn tap) (step c.world (Turn tap)) ≡ o → and_then clock o (all watched_bus clock []) ≡ Ok d
+            → slice_get (dues d.world) j ≡ slice_get (dues c.world) j
+        by (Ok x) is ok =
+            let same : x.0 ≡ d = cc in
+            ap (λ (y : Course). slice_get (dues y.world) j) (sym same) ∙ watched-leave-others c x.0 tap j x.1 (λ e. omega (arith, e, front)) is
+        by (Err f) is ok = absurd cc

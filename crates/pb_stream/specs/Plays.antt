@@ -4,10 +4,12 @@ use Rattle.law_model.specs.Trace.{Entry}
 use Rattle.law_model.specs.World.{Event, Fault}
 use Rattle.pb_taps.specs.declared.faults.WorldFault.{WorldFault}
 use Rattle.law_runs.specs.Premises.{Course}
-use Rattle.law_runs.specs.Runs.{all, ending, run, turns}
+use Rattle.law_runs.specs.Bus.{dues}
+use Rattle.law_runs.specs.Runs.{all, ending, next_turn, run, turns}
 use Rattle.law_streams.specs.Audits.{watched_bus}
 use Rattle.pb_scenario.specs.Faults.{model_fault}
 use Rattle.pb_scenario.specs.Walks.{WalkView, plan_in}
+use Rattle.pb_world.specs.Buses.{world_of}
 use Rattle.pb_stream.specs.Courses.{Reaches}
 use Rattle.pb_stream.specs.Stages.{StageView, GoesFrom, IsAt}
 
@@ -22,17 +24,21 @@ abbrev pub StoppedAt : ℕ → List Entry → Course → List Event → Fault �
 StoppedAt now old c es f new = (after : Course) × IsAt new old after × (all watched_bus now es c ≡ Err (now, (after, f)))
 
 -- they happen, or one of them is refused; refused memory is no fault of the run
-abbrev pub PlayedAt : ℕ → List Entry → Course → List Event → Result (Unit {0}) WorldFault → StageView → Type 0
+abbrev pub PlayedAt : {A : Type 0} → ℕ → List Entry → Course → List Event → Result A WorldFault → StageView → Type 0
 PlayedAt now old c es result new = MatchResult result (λ _. HappenedAt now old c es new) (λ fault. IfSome (model_fault fault) (λ f. StoppedAt now old c es f new))
 
 -- at any moment, after whatever course has led to the stage
-abbrev pub Plays : StageView → List Event → Result (Unit {0}) WorldFault → StageView → Type 0
+abbrev pub Plays : {A : Type 0} → StageView → List Event → Result A WorldFault → StageView → Type 0
 Plays v es result new = (now : ℕ) (old : List Entry) (c : Course) → GoesFrom v old c → PlayedAt now old c es result new
 
 -- the turns of an instant
-abbrev pub PlaysTurns : WalkView → StageView → Result (Unit {0}) WorldFault → StageView → Type 0
+abbrev pub PlaysTurns : {A : Type 0} → WalkView → StageView → Result A WorldFault → StageView → Type 0
 PlaysTurns walk v result new = (old : List Entry) (c : Course) → GoesFrom v old c
     → PlayedAt walk.clock old c (turns watched_bus (plan_in walk) walk.clock c) result new
+
+-- the first moment after now at which some tap may take a turn next
+abbrev pub IsFirst : WalkView → StageView → Option ℕ → Type 0
+IsFirst walk v first = first ≡ next_turn (plan_in walk) walk.clock 0 (dues (world_of v.bus))
 
 -- ---- instants
 

@@ -1,6 +1,6 @@
 //! Plays the instants of a run on a stage.
 
-ghost use Rattle.std.specs.Prelude.{◌≡◌, ◌<◌, IfOk, IfSome, OnOk, map};
+ghost use Rattle.std.specs.Prelude.{◌≡◌, ◌<◌, IfOk, IfSome, List, OnOk, map};
 ghost use Rattle.std.specs.Option.{option_to_list};
 ghost use Rattle.pb_world.specs.Buses.{world_of};
 ghost use Rattle.pb_world.specs.Worlds.{due_at};
@@ -10,11 +10,14 @@ ghost use Rattle.pb_scenario.specs.Plays.{turn_if};
 ghost use Rattle.pb_scenario.specs.Said.{said_in, said_of};
 ghost use Rattle.pb_scenario.specs.Steps.{deed_of};
 ghost use Rattle.pb_scenario.specs.Walks.{passes, plan_in};
-ghost use Rattle.pb_stream.specs.Plays.{Goes, IsNext, Plays, PlaysTurns};
-ghost use Rattle.pb_stream.specs.Stages.{taps_of};
+ghost use Rattle.law_model.specs.Trace.{Entry};
+ghost use Rattle.law_runs.specs.Premises.{Course};
+ghost use Rattle.pb_stream.specs.Plays.{Goes, IsFirst, IsNext, Plays, PlaysTurns};
+ghost use Rattle.pb_stream.specs.Stages.{GoesFrom, taps_of};
 
 use crate::stages::Stage;
 use pb_scenario::{Deed, Event, StreamWalk, When, WorldFault};
+use pb_timers::Moment;
 use std::alloc::Global;
 
 /// Plays the instant at which the walk is, and returns the next instant, if there is one.
@@ -33,9 +36,9 @@ pub(crate) fn play_instant<S: Stage>(
     ensures taps { OnOk result (taps_of (S.view stage.new) ≡ taps_of (S.view stage.old)) }
 {
     play_deeds(alloc, stage, walk.today(), When::BeforeTurns)?;
-    play_turns(alloc, stage, walk)?;
-    play_deeds(alloc, stage, walk.today(), When::AfterTurns)?;
-    let next = walk.next_by(next_turn(stage, walk), stage.bus().next_change());
+    let soonest = play_turns(alloc, stage, walk)?;
+    let turn = play_late(alloc, stage, walk, soonest)?;
+    let next = walk.next_by(turn, stage.bus().next_change());
     play_pass(alloc, stage, walk.pass_to(next))?;
     Ok(next)
 }
@@ -78,45 +81,75 @@ fn play_deed<S: Stage>(
     }
 }
 
-/// Plays the turns of the taps that are due and not withheld. A turn does not change when the other taps are due, so
-/// each tap is asked just before its own turn.
+/// Plays the turns of the taps that are due and not withheld, and returns the first moment after now at which some tap may
+/// take a turn next. A turn does not change when the other taps are due, so each tap is asked just before its own turn, and
+/// behind it only where it took one.
 fn play_turns<S: Stage>(
     alloc: Global,
     stage: &mut S,
     walk: &StreamWalk<'_>,
-) -> Result<(), WorldFault>
+) -> Result<Option<u64>, WorldFault>
     requires taps { taps_of (S.view stage.old) ≡ walk.now.taps }
     requires ready { (S.view stage.old).ready }
     ensures plays { PlaysTurns walk.now (S.view stage.old) result (S.view stage.new) }
+    ensures first { IfOk result (λ first. (old : List Entry) (c : Course) → GoesFrom (S.view stage.old) old c
+        → IsFirst walk.now (S.view stage.new) first) }
     ensures ready { OnOk result (S.view stage.new).ready }
     ensures taps { OnOk result (taps_of (S.view stage.new) ≡ taps_of (S.view stage.old)) }
 {
+    let mut first = None;
     for tap in 0..walk.taps() {
-        play_turn(alloc, stage, walk, tap)?;
+        let due = play_turn(alloc, stage, walk, tap)?;
+        first = walk.sooner(first, tap, due);
     }
-    Ok(())
+    Ok(first)
 }
 
-/// Plays a tap's turn, if the tap is due now and not withheld.
+/// Plays a tap's turn, if the tap is due now and not withheld, and returns when it is due then.
 fn play_turn<S: Stage>(
     alloc: Global,
     stage: &mut S,
     walk: &StreamWalk<'_>,
     tap: usize,
-) -> Result<(), WorldFault>
+) -> Result<Option<Moment>, WorldFault>
     requires tap { tap < walk.now.taps }
     requires ready { (S.view stage.old).ready }
     ensures plays { Plays (S.view stage.old)
         (turn_if (wants (plan_in walk.now) walk.now.clock tap (due_at (world_of (S.view stage.old).bus) tap)) tap)
         result (S.view stage.new) }
+    ensures due { IfOk result (λ due. due ≡ due_at (world_of (S.view stage.new).bus) tap) }
     ensures ready { OnOk result (S.view stage.new).ready }
     ensures taps { OnOk result (taps_of (S.view stage.new) ≡ taps_of (S.view stage.old)) }
 {
-    if walk.wants(tap, stage.bus().due(tap)) {
-        stage.apply(alloc, &Event::Turn(tap))
-    } else {
-        Ok(())
+    let due = stage.bus().due(tap);
+    if walk.wants(tap, due.as_ref().copied()) {
+        stage.apply(alloc, &Event::Turn(tap))?;
+        return Ok(stage.bus().due(tap));
     }
+    Ok(due)
+}
+
+/// Plays the events that steps trigger after the turns, and returns the first moment after now at which some tap may take a
+/// turn next. Before them it was `first`.
+fn play_late<S: Stage>(
+    alloc: Global,
+    stage: &mut S,
+    walk: &StreamWalk<'_>,
+    first: Option<u64>,
+) -> Result<Option<u64>, WorldFault>
+    requires taps { taps_of (S.view stage.old) ≡ walk.now.taps }
+    requires ready { (S.view stage.old).ready }
+    ensures plays { Plays (S.view stage.old) ((plan_in walk.now).late walk.now.clock) result (S.view stage.new) }
+    ensures first { IfOk result (λ last. IsFirst walk.now (S.view stage.old) first
+        → IsFirst walk.now (S.view stage.new) last) }
+    ensures ready { OnOk result (S.view stage.new).ready }
+    ensures taps { OnOk result (taps_of (S.view stage.new) ≡ taps_of (S.view stage.old)) }
+{
+    if walk.today().is_empty() {
+        return Ok(first);
+    }
+    play_deeds(alloc, stage, walk.today(), When::AfterTurns)?;
+    Ok(next_turn(stage, walk))
 }
 
 /// Lets time pass, in bit times, if it does.

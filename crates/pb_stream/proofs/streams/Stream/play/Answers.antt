@@ -1,5 +1,5 @@
 -- What was to come before an instant is still to come behind it.
-use Rattle.std.proofs.Common.{◌≡◌, ◌∙◌, [], Some, None, length, ap, arith, subst, sym}
+use Rattle.std.proofs.Common.{◌≡◌, ◌∙◌, [], Some, ap, arith, subst, sym}
 use Rattle.std.specs.Prelude.{IfSome}
 use Rattle.law_runs.specs.Scenarios.{At}
 use Rattle.law_streams.specs.Audits.{no_events}
