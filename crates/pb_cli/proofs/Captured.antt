@@ -1,5 +1,6 @@
 -- A capture that is written piece by piece.
 use Rattle.std.proofs.Common.{◌≡◌, ◌≢◌, ◌∙◌, ap, refl, sym, arith, ℕ, List, [], ◌++◌, Option, Some, None, Result}
+use Rattle.std.proofs.lemmas.Result.{IfOk-weaker}
 use Rattle.std.specs.Prelude.{IfOk}
 use Rattle.std.specs.Io.KnownBytes.{Appends}
 use Rattle.law_model.specs.Trace.{Entry}
@@ -22,8 +23,8 @@ use Rattle.pb_stream.specs.declared.streams.Progress.TheVariants as progress
 use Rattle.pb_stream.specs.declared.streams.Stream.{Stream}
 use Rattle.pb_texts.specs.Faults.{new_line, refused_line}
 use Rattle.pb_texts.proofs.Outcomes.{world_fault-of}
-use Rattle.pb_cli.proofs.Written.{appends_both, appends_nothing, behind_both, behind_nothing, in_ok, some_map}
-use Rattle.pb_cli.specs.Capturing.{Captures, CapturesOn, CapturesRest, CapturesScenario, Refuses, StandsFor}
+use Rattle.pb_cli.proofs.Written.{appends_both, appends_nothing, behind_both, behind_nothing, some_map}
+use Rattle.pb_cli.specs.Capturing.{Captures, CapturesOn, CapturesRest, CapturesScenario, Refuses, IsCaptureOf}
 use Rattle.pb_cli.specs.Settling.{IsOfRun}
 use Rattle.pb_cli.specs.declared.faults.CliFault.{CliFault}
 use Rattle.pb_cli.specs.declared.faults.Status.TheVariants.{Done, Refused}
@@ -92,7 +93,7 @@ goes_on whole stream next text before mid after i c written = record {
   ready = c.ready;
 }
 
-stands : (f : Option RunFault) (lines : List ℕ) → IsOfRun f → StandsFor f lines
+stands : (f : Option RunFault) (lines : List ℕ) → IsOfRun f → IsCaptureOf f lines
 stands None lines of_run = tt
 stands (Some (At clock f)) lines of_run = tt
 stands (Some (New f)) lines of_run = absurd of_run
@@ -126,4 +127,4 @@ pub refuses : (s : StreamView) (f : taps.NewFault) (line : List ℕ) (before aft
     → RefusesNew (new_world s.once.scenario.params s.once.scenario.taps) f → f ≢ new.NoMemory → line ≡ new_line f → IfOk r (Refuses line before after)
     → IfOk r (CapturesScenario s before after)
 refuses s f line before after r is told same written =
-    in_ok (Refuses line before after) (CapturesScenario s before after) r (λ ended w. no_world s f line before after ended is told same w) written
+    IfOk-weaker r (Refuses line before after) (CapturesScenario s before after) (λ ended w. no_world s f line before after ended is told same w) written

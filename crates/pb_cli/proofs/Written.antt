@@ -1,7 +1,7 @@
 -- A stream that is written piece by piece.
-use Rattle.std.proofs.Common.{◌≡◌, ◌≢◌, ◌∙◌, ap, refl, sym, subst, append_assoc, ℕ, List, [], ◌++◌, Option, Some, None, Result, Ok, Err}
+use Rattle.std.proofs.Common.{◌≡◌, ◌≢◌, ◌∙◌, ap, refl, sym, subst, append_assoc, ℕ, List, [], ◌++◌, Option, Some, None}
 use Rattle.std.proofs.lemmas.List.{append-nil}
-use Rattle.std.specs.Prelude.{IfOk, IfSome}
+use Rattle.std.specs.Prelude.{IfSome}
 use Rattle.std.specs.Io.KnownBytes.{Appends}
 use Rattle.law_model.specs.Trace.{Entry}
 use Rattle.law_model.specs.World as model
@@ -84,10 +84,6 @@ ended old new text before after (entries, is, rest) written =
 pub some_map : {A : Type 0} (P Q : A → Type 0) (o : Option A) → ((a : A) → P a → Q a) → IfSome o P → IfSome o Q
 some_map P Q None f p = p
 some_map P Q (Some a) f p = f a p
-
-pub in_ok : {A E : Type 0} (P Q : A → Type 0) (r : Result A E) → ((a : A) → P a → Q a) → IfOk r P → IfOk r Q
-in_ok P Q (Ok a) f p = f a p
-in_ok P Q (Err e) f p = tt
 
 pub stopped : (old new : Stream) (clock : ℕ) (f : WorldFault) (text line : List ℕ) (before mid after : Option (List ℕ))
     → Tells (progress.Refused clock f) old new [] text → Appends before mid text → line ≡ refused_line f clock → f ≢ fault.NoMemory

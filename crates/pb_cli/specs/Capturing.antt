@@ -17,15 +17,15 @@ use Rattle.pb_cli.specs.declared.settled.Settled.{Settled}
 
 -- ---- a run
 
--- what stands for a run: some lines, or where there is no world the line of that fault
-abbrev pub StandsFor : Option RunFault → (lines : List ℕ) → Type 0
-StandsFor None lines = Unit {0}
-StandsFor (Some (At clock fault)) lines = Unit {0}
-StandsFor (Some (New fault)) lines = lines ≡ run_line (New fault)
+-- what is written of a run: some lines, or where there is no world the line of that fault
+abbrev pub IsCaptureOf : Option RunFault → (lines : List ℕ) → Type 0
+IsCaptureOf None lines = Unit {0}
+IsCaptureOf (Some (At clock fault)) lines = Unit {0}
+IsCaptureOf (Some (New fault)) lines = lines ≡ run_line (New fault)
 
 abbrev pub Captures : Option Streamed → (before after : Option (List ℕ)) → Settled → Type 0
 Captures o before after ended =
-    (stream : Streamed) × (o ≡ Some stream) × ((lines : List ℕ) × Appends before after lines × StandsFor stream.fault lines)
+    (stream : Streamed) × (o ≡ Some stream) × ((lines : List ℕ) × Appends before after lines × IsCaptureOf stream.fault lines)
     × Says ended stream.fault
 
 -- an instant is played, and what is over may be let go: what was to come is this, and then what is still to come

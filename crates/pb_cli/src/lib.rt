@@ -1,10 +1,11 @@
 //! What the program `ringplay` does, over any reader and writer.
 //!
 //! [`ask`] reads the program's words, [`decode_lines`] decodes lines of hex, [`play`] plays a scenario file with some
-//! workers, [`audit_file`] judges its run, [`bounds_file`] computes the bounds of its bus, [`export_file`] and
-//! [`export_stream`] write its trace for other tools, [`monitor`] reads captures, and [`export_capture`] writes them for other tools. The contracts name the bytes:
-//! what is written is a stated function of what is read, and `Read`, `TooLong` and `Write` are returned only if their
-//! cause is there. A [`Source`] is read from and a [`Sink`] is written to; [`CountedReader`] and [`CountedWriter`] make
+//! workers, [`audit_file`] judges its run, [`bounds_file`] computes the bounds of its bus, and [`export_file`] writes its
+//! trace for other tools. [`stream_file`], [`audit_stream_file`], [`export_stream`] and [`capture_file`] write of a run of any
+//! length as it settles. [`monitor`] reads captures, and [`export_capture`] writes them for other tools. The contracts name
+//! the bytes: what is written is a stated function of what is read, and `Read`, `TooLong` and `Write` are returned only if
+//! their cause is there. A [`Source`] is read from and a [`Sink`] is written to; [`CountedReader`] and [`CountedWriter`] make
 //! them from any reader and writer of std.
 #![tactic(auto)]
 

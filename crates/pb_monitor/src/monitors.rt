@@ -117,7 +117,8 @@ impl Monitor {
 
     /// From now on summaries are kept apart from the other lines, those of bursts, of alarms and of refused input.
     pub fn set_apart(&mut self, alloc: Global)
-        ensures { MatchOption self.new.apart ⊥ (λ kept. kept.items ≡ []) }
+        ensures apart { MatchOption self.new.apart ⊥ (λ kept. kept.items ≡ []) }
+        ensures rest { record self.new { apart = None } ≡ record self.old { apart = None } }
     {
         self.apart = Some(Vec::new(alloc));
     }
@@ -134,7 +135,8 @@ impl Monitor {
 
     /// Forgets the summaries that were kept apart.
     pub fn clear_summaries(&mut self)
-        ensures { MatchOption self.new.apart (self.old.apart ≡ None) (λ kept. kept.items ≡ []) }
+        ensures apart { MatchOption self.new.apart (self.old.apart ≡ None) (λ kept. kept.items ≡ []) }
+        ensures rest { record self.new { apart = None } ≡ record self.old { apart = None } }
     {
         if let Some(kept) = &mut self.apart {
             kept.clear();

@@ -36,9 +36,17 @@ abbrev pub PlaysTurns : {A : Type 0} → WalkView → StageView → Result A Wor
 PlaysTurns walk v result new = (old : List Entry) (c : Course) → GoesFrom v old c
     → PlayedAt walk.clock old c (turns watched_bus (plan_in walk) walk.clock c) result new
 
+-- the events that steps trigger after the turns
+abbrev pub PlaysLate : {A : Type 0} → WalkView → StageView → Result A WorldFault → StageView → Type 0
+PlaysLate walk v result new = Plays v ((plan_in walk).late walk.clock) result new
+
 -- the first moment after now at which some tap may take a turn next
 abbrev pub IsFirst : WalkView → StageView → Option ℕ → Type 0
 IsFirst walk v first = first ≡ next_turn (plan_in walk) walk.clock 0 (dues (world_of v.bus))
+
+-- the same of a stage, after whatever course has led to the one before
+abbrev pub FindsFirst : WalkView → (v new : StageView) → Option ℕ → Type 0
+FindsFirst walk v new first = (old : List Entry) (c : Course) → GoesFrom v old c → IsFirst walk new first
 
 -- ---- instants
 

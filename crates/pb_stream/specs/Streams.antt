@@ -1,6 +1,7 @@
 -- A stream: what is still to come of it, what a call appends, and how much is kept.
 use Rattle.std.specs.Prelude.{◌≡◌, ℕ, ◌+◌, ◌<◌, ◌≤◌, List, ◌++◌, length, max, Option, Some, None, IfSome}
 use Rattle.law_model.specs.Trace.{Entry}
+use Rattle.law_model.specs.World.{Event}
 use Rattle.law_runs.specs.Runs.{run}
 use Rattle.law_runs.specs.Scenarios.{At}
 use Rattle.law_streams.specs.Streams.{Streamed, telling_bus, streamed_of}
@@ -11,6 +12,8 @@ use Rattle.pb_medium.specs.declared.traces.Trace.{Trace}
 use Rattle.pb_world.specs.Buses.{world_of, IsKept}
 use Rattle.pb_world.specs.LettingGo.{LetsPastGo}
 use Rattle.pb_world.specs.declared.buses.Bus.{Bus}
+use Rattle.pb_scenario.specs.declared.deeds.When.{When}
+use Rattle.pb_scenario.specs.declared.deeds.When.TheVariants.{AfterTurns, BeforeTurns}
 use Rattle.pb_scenario.specs.Faults.{model_fault}
 use Rattle.pb_scenario.specs.Texts.{entries_text}
 use Rattle.pb_scenario.specs.Walks.{plan_in}
@@ -31,6 +34,11 @@ clock_of s = s.walk.clock
 -- what is still to come: what the run has from the walk's moment on
 abbrev pub rest_of : Stream → Option Streamed
 rest_of s = streamed_of (run (s.walk.until + 1) telling_bus (plan_in s.walk) s.walk.clock (world_of s.bus))
+
+-- the events that its steps trigger at the next instant, before the turns or after them
+abbrev pub said_at : When → Stream → List Event
+said_at BeforeTurns s = (plan_in s.walk).early s.walk.clock
+said_at AfterTurns s = (plan_in s.walk).late s.walk.clock
 
 -- the invariant of its fields
 pub record IsStreaming (s : Stream) : Type 0 where

@@ -1,6 +1,6 @@
 //! Plays the instants of a run on a stage.
 
-ghost use Rattle.std.specs.Prelude.{◌≡◌, ◌<◌, IfOk, IfSome, List, OnOk, map};
+ghost use Rattle.std.specs.Prelude.{◌≡◌, ◌<◌, IfOk, IfSome, OnOk, map};
 ghost use Rattle.std.specs.Option.{option_to_list};
 ghost use Rattle.pb_world.specs.Buses.{world_of};
 ghost use Rattle.pb_world.specs.Worlds.{due_at};
@@ -10,10 +10,8 @@ ghost use Rattle.pb_scenario.specs.Plays.{turn_if};
 ghost use Rattle.pb_scenario.specs.Said.{said_in, said_of};
 ghost use Rattle.pb_scenario.specs.Steps.{deed_of};
 ghost use Rattle.pb_scenario.specs.Walks.{passes, plan_in};
-ghost use Rattle.law_model.specs.Trace.{Entry};
-ghost use Rattle.law_runs.specs.Premises.{Course};
-ghost use Rattle.pb_stream.specs.Plays.{Goes, IsFirst, IsNext, Plays, PlaysTurns};
-ghost use Rattle.pb_stream.specs.Stages.{GoesFrom, taps_of};
+ghost use Rattle.pb_stream.specs.Plays.{FindsFirst, Goes, IsFirst, IsNext, Plays, PlaysLate, PlaysTurns};
+ghost use Rattle.pb_stream.specs.Stages.{taps_of};
 
 use crate::stages::Stage;
 use pb_scenario::{Deed, Event, StreamWalk, When, WorldFault};
@@ -92,8 +90,7 @@ fn play_turns<S: Stage>(
     requires taps { taps_of (S.view stage.old) ≡ walk.now.taps }
     requires ready { (S.view stage.old).ready }
     ensures plays { PlaysTurns walk.now (S.view stage.old) result (S.view stage.new) }
-    ensures first { IfOk result (λ first. (old : List Entry) (c : Course) → GoesFrom (S.view stage.old) old c
-        → IsFirst walk.now (S.view stage.new) first) }
+    ensures first { IfOk result (FindsFirst walk.now (S.view stage.old) (S.view stage.new)) }
     ensures ready { OnOk result (S.view stage.new).ready }
     ensures taps { OnOk result (taps_of (S.view stage.new) ≡ taps_of (S.view stage.old)) }
 {
@@ -139,7 +136,7 @@ fn play_late<S: Stage>(
 ) -> Result<Option<u64>, WorldFault>
     requires taps { taps_of (S.view stage.old) ≡ walk.now.taps }
     requires ready { (S.view stage.old).ready }
-    ensures plays { Plays (S.view stage.old) ((plan_in walk.now).late walk.now.clock) result (S.view stage.new) }
+    ensures plays { PlaysLate walk.now (S.view stage.old) result (S.view stage.new) }
     ensures first { IfOk result (λ last. IsFirst walk.now (S.view stage.old) first
         → IsFirst walk.now (S.view stage.new) last) }
     ensures ready { OnOk result (S.view stage.new).ready }

@@ -52,8 +52,11 @@ impl<'a> Stream<'a> {
     ghost use Rattle.pb_taps.specs.Faults.{RefusesNew};
     ghost use Rattle.pb_medium.specs.Entries.{entry_of};
     ghost use Rattle.pb_stream.specs.Streams.{HasPlayed, IsStreaming, KeepsFew, LetsGo, Tells};
-    ghost use Rattle.pb_stream.specs.Streams.{clock_of, kept_of, names_of, past_in, rest_of, stream_end};
+    ghost use Rattle.pb_stream.specs.Streams.{clock_of, kept_of, names_of, past_in, rest_of, said_at, stream_end};
     ghost use Rattle.pb_scenario.specs.Repeats.{unrolled};
+    ghost use Rattle.pb_scenario.specs.Said.{said_of};
+    ghost use Rattle.pb_scenario.specs.Steps.{deed_of};
+    ghost use Rattle.pb_scenario.specs.declared.deeds.When.TheVariants.{AfterTurns, BeforeTurns};
 
     /// The stream of a scenario at 0, up to the moment `until`, in bit times, in place of the scenario's own.
     ///
@@ -143,7 +146,12 @@ impl<'a> Stream<'a> {
     }
 
     /// What steps do at the next instant, in the order of the scenario.
-    pub fn today(&self) -> &[&'a Deed] {
+    pub fn today(&self) -> &[&'a Deed]
+        ensures early { said_of BeforeTurns (map (λ d. deed_of d.now) result.now)
+            ≡ said_at BeforeTurns self.entry.now }
+        ensures late { said_of AfterTurns (map (λ d. deed_of d.now) result.now)
+            ≡ said_at AfterTurns self.entry.now }
+    {
         self.walk.today()
     }
 

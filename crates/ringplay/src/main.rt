@@ -192,11 +192,7 @@ fn bounds<T: AllocGlobal + Eprint + Files + Input + Print>(
     let mut reader = CountedReader::new(file.as_slice());
     let mut writer = CountedWriter::new(io::writer(rt));
     let status = bounds_file(rt.alloc(), &mut reader, &mut writer, baud, json)?;
-    if let Status::Refused = status
-        && !is_quiet
-    {
-        hint(rt, explain_settling(rt.alloc(), shown(path), &file));
-    }
+    hint_of(rt, path, &file, status, is_quiet);
     Ok(status)
 }
 
@@ -312,12 +308,23 @@ fn settled<T: AllocGlobal + Eprint>(
     if let Ok(line) = str::from_utf8(&ended.line) {
         let _ = eprint!(rt; "{line}");
     }
-    if let Status::Refused = ended.status
+    hint_of(rt, path, file, ended.status, is_quiet);
+    ended.status
+}
+
+/// Why a scenario file, or its run without a limit of entries, is refused, on standard error.
+fn hint_of<T: AllocGlobal + Eprint>(
+    rt: &T,
+    path: &str,
+    file: &[u8],
+    status: Status,
+    is_quiet: bool,
+) {
+    if let Status::Refused = status
         && !is_quiet
     {
         hint(rt, explain_settling(rt.alloc(), shown(path), file));
     }
-    ended.status
 }
 
 /// `ringplay export FILE` in a form that needs the whole trace, to standard output; hints go to standard error.
@@ -358,11 +365,7 @@ fn stream<T: AllocGlobal + Clock + Eprint + Files + Input + Print>(
     let answer = stream_file(rt.alloc(), &file, until, flush, &mut writer, &mut line);
     line.end();
     let status = answer?;
-    if let Status::Refused = status
-        && !is_quiet
-    {
-        hint(rt, explain_settling(rt.alloc(), shown(path), &file));
-    }
+    hint_of(rt, path, &file, status, is_quiet);
     Ok(status)
 }
 
@@ -382,11 +385,7 @@ fn stream_audit<T: AllocGlobal + Clock + Eprint + Files + Input + Print>(
     let answer = audit_stream_file(rt.alloc(), &file, until, &mut writer, &mut line);
     line.end();
     let status = answer?;
-    if let Status::Refused = status
-        && !is_quiet
-    {
-        hint(rt, explain_settling(rt.alloc(), shown(path), &file));
-    }
+    hint_of(rt, path, &file, status, is_quiet);
     Ok(status)
 }
 

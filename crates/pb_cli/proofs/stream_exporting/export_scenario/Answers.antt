@@ -1,4 +1,5 @@
 use Rattle.std.proofs.Common.{◌∙◌, ◌++◌, List, ℕ, ap, subst}
+use Rattle.std.proofs.lemmas.Result.{IfOk-weaker}
 use Rattle.std.specs.Io.KnownBytes.{Appends}
 use Rattle.law_streams.specs.Streams.{stream_limit, stream_within}
 use Rattle.pb_scenario.specs.Repeats.{unrolled}
@@ -7,7 +8,6 @@ use Rattle.pb_export.specs.Streamed.{head_of}
 use Rattle.pb_cli.specs.Exporting.{ExportsRun, ExportsScenario}
 use Rattle.pb_cli.specs.declared.settled.Settled.{Settled}
 use Rattle.pb_cli.proofs.Appended.{no_world, whole_run}
-use Rattle.pb_cli.proofs.Written.{in_ok}
 use Rattle.pb_cli.proofs.stream_exporting.export_scenario.Goals as goal
 
 pub returns-in_ok-write_out-in-Ok-clause-bytes : goal.returns-in_ok-write_out-in-Ok-clause-bytes
@@ -20,7 +20,7 @@ returns-in_ok-write_out-in-Ok-clause-bytes g c =
     let after = g.W.Sink.contents c.export_run.new.writer in
     let whole = c.in-Ok.ensures.rest ∙ ap (λ n. stream_within stream_limit (unrolled n s)) c.until.ensures.until in
     let bytes = c.deref.ensures.value ∙ c.in_ok-push_stream_head-in-Ok.ensures ∙ ap (λ (l : List ℕ). l ++ head_of x s) c.new-bytes.ensures.items in
-    in_ok (ExportsRun x s o mid after) (ExportsScenario x s before after) c.export_run.result
+    IfOk-weaker c.export_run.result (ExportsRun x s o mid after) (ExportsScenario x s before after)
     (λ ended run. whole_run x s o before mid after ended whole (subst (Appends before mid) bytes c.in_ok-write_out-in-Ok.ensures.whole) run) c.export_run.ensures.bytes
 
 pub returns-in_ok-write_out-in-Err-clause-bytes : goal.returns-in_ok-write_out-in-Err-clause-bytes
