@@ -399,8 +399,9 @@ uint32_t fdl_port_outcome(struct fdl_port *port, struct fdl_outcome *outcome);
 /* ---- A bus ---- */
 
 /* A bus with stations at its taps: a simulation whose events and moments the caller chooses. A tap is an index, from 0. The
- * clock counts bit times from 0 to 1,000,000,000,000. Its trace has at most 100,000 entries, some 7,000,000 bit times of an idle
- * ring of two; then events that add one are refused (FDL_TRACE_FULL). The bus is empty where `at` is NULL. */
+ * clock counts bit times from 0 to 1,000,000,000,000. Its trace has at most as many entries as it was made for, 100,000 by
+ * fdl_bus_new, some 7,000,000 bit times of an idle ring of two; then events that add one are refused (FDL_TRACE_FULL). A bus that
+ * runs on is made by fdl_bus_new_within, and lets go of what is over (fdl_bus_let_go). The bus is empty where `at` is NULL. */
 struct fdl_bus {
     void *at;
 };
@@ -447,6 +448,11 @@ struct fdl_audit {
  * Codes: FDL_BUS_IN_USE; a fault of the parameters; FDL_LONG_DATA where a tap's count is over 246; FDL_NO_TAPS;
  * FDL_TOO_MANY_TAPS; FDL_BAD_STATION for a master's address over params->hsa, or another's over 126; FDL_NO_MEMORY. */
 uint32_t fdl_bus_new(struct fdl_bus *bus, const struct fdl_params *params, const struct fdl_tap *taps, size_t count);
+
+/* The same, of a bus whose trace may have `entries` entries, those that are let go included: 1,000,000,000,000 are more than its
+ * clock has time for. */
+uint32_t fdl_bus_new_within(struct fdl_bus *bus, const struct fdl_params *params, const struct fdl_tap *taps, size_t count,
+                            size_t entries);
 
 /* Frees a bus, which is empty then. An empty bus stays so. */
 void fdl_bus_free(struct fdl_bus *bus);
@@ -564,9 +570,20 @@ uint32_t fdl_bus_entries(struct fdl_bus *bus, size_t *count);
  * Codes, with *entry unchanged: FDL_NO_BUS; FDL_NO_ENTRY where there are no more than index. */
 uint32_t fdl_bus_entry(struct fdl_bus *bus, size_t index, struct fdl_entry *entry);
 
-/* What an audit says of the events so far goes to *audit: where no premise broke, no entry is illegal. It takes time in
- * proportion to the trace.
- * Code: FDL_NO_BUS, with *audit unchanged. */
+/* How many of the first entries are over goes to *count: what they say, `heard` included, no longer changes, and fdl_bus_let_go
+ * removes them.
+ * Code: FDL_NO_BUS, with *count unchanged. */
+uint32_t fdl_bus_over(struct fdl_bus *bus, size_t *count);
+
+/* Removes the entries that are over from the trace, as fdl_bus_over counts them; how many they were goes to *count. The run goes
+ * on as if they still stood there, and an audit still knows them. The entries that are left have the indices from 0 on.
+ * Codes: FDL_NO_BUS; FDL_NO_MEMORY. With either, *count is unchanged, and nothing is removed. */
+uint32_t fdl_bus_let_go(struct fdl_bus *bus, size_t *count);
+
+/* What an audit says of the events so far goes to *audit: where no premise broke, no entry is illegal. The index of an illegal
+ * one is that in the whole trace, with the entries counted that were let go. It takes time in proportion to the entries that
+ * were not.
+ * Codes, with *audit unchanged: FDL_NO_BUS; FDL_NO_MEMORY. */
 uint32_t fdl_bus_audit(struct fdl_bus *bus, struct fdl_audit *audit);
 
 /* ---- A monitor ---- */

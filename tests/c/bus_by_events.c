@@ -1,5 +1,6 @@
-/* Buses that run to a moment by fdl_bus_run, and the same ones event by event: their traces, audits and phases are equal. Events
- * from outside come at random moments. Prints what differs, and at last how many buses are equal. */
+/* Buses that run to a moment by fdl_bus_run and let go of what is over at random moments, and the same ones event by event, which
+ * keep everything: their traces, audits and phases are equal. Events from outside come at random moments. Prints what differs, and
+ * at last how many buses are equal. */
 #include "pbfdl.h"
 
 #include <inttypes.h>
@@ -77,10 +78,37 @@ static void disturb(struct fdl_bus *one, struct fdl_bus *other, size_t taps)
     }
 }
 
-static int differ(struct fdl_bus *one, struct fdl_bus *other, size_t taps)
+/* Whether entries of two buses differ: count ones, from an index on in each. */
+static int entries_differ(struct fdl_bus *one, size_t first, struct fdl_bus *other, size_t second, size_t count)
+{
+    static struct fdl_entry entry[2];
+    for (size_t index = 0; index < count; index++) {
+        memset(entry, 0, sizeof entry);
+        check(fdl_bus_entry(one, first + index, &entry[0]), "entry");
+        check(fdl_bus_entry(other, second + index, &entry[1]), "entry");
+        if (memcmp(&entry[0], &entry[1], sizeof entry[0]))
+            return 1;
+    }
+    return 0;
+}
+
+/* A bus lets go of what is over, which is so in the trace of the other, too; *gone counts all that it has let go. */
+static int let_go(struct fdl_bus *one, struct fdl_bus *other, size_t *gone)
+{
+    size_t over, count, left;
+    check(fdl_bus_entries(one, &left), "entries");
+    check(fdl_bus_over(one, &over), "over");
+    const int wrong = entries_differ(one, 0, other, *gone, over);
+    check(fdl_bus_let_go(one, &count), "let go");
+    *gone += count;
+    const size_t before = left;
+    check(fdl_bus_entries(one, &left), "entries");
+    return wrong || count != over || left != before - over;
+}
+
+static int differ(struct fdl_bus *one, struct fdl_bus *other, size_t taps, size_t gone)
 {
     struct fdl_bus *bus[2] = {one, other};
-    static struct fdl_entry entry[2];
     static struct fdl_audit audit[2];
     size_t count[2];
     uint32_t phase[2];
@@ -89,18 +117,12 @@ static int differ(struct fdl_bus *one, struct fdl_bus *other, size_t taps)
         check(fdl_bus_entries(bus[k], &count[k]), "entries");
         check(fdl_bus_audit(bus[k], &audit[k]), "audit");
     }
-    if (count[0] != count[1] || audit[0].premise != audit[1].premise || audit[0].moment != audit[1].moment)
+    if (gone + count[0] != count[1] || audit[0].premise != audit[1].premise || audit[0].moment != audit[1].moment)
         return 1;
     if (audit[0].illegal != audit[1].illegal || audit[0].entry != audit[1].entry)
         return 1;
-    for (size_t index = 0; index < count[0]; index++) {
-        for (int k = 0; k < 2; k++) {
-            memset(&entry[k], 0, sizeof entry[k]);
-            check(fdl_bus_entry(bus[k], index, &entry[k]), "entry");
-        }
-        if (memcmp(&entry[0], &entry[1], sizeof entry[0]))
-            return 1;
-    }
+    if (entries_differ(one, 0, other, gone, count[0]))
+        return 1;
     for (size_t tap = 0; tap < taps; tap++) {
         for (int k = 0; k < 2; k++)
             check(fdl_bus_phase(bus[k], tap, &phase[k]), "phase");
@@ -115,11 +137,14 @@ int main(void)
     const struct fdl_params params = {
         .tsl = 200, .tid1 = 37, .tid2 = 60, .tsdr = 11, .lag = 0, .ttr = 10000, .gap = 2, .hsa = 9, .retries = 1, .ttd = 5};
     int equal = 0;
+    size_t all_gone = 0;
     for (int number = 0; number < BUSES; number++) {
         static struct fdl_tap tap[MOST_TAPS];
         const size_t taps = 1 + drawn(MOST_TAPS);
         struct fdl_bus one = FDL_BUS_EMPTY, other = FDL_BUS_EMPTY;
         uint64_t now = 0;
+        size_t gone = 0;
+        int wrong = 0;
         for (size_t k = 0; k < taps; k++) {
             tap[k].address = (uint8_t)(1 + k);
             tap[k].master = drawn(3) > 0;
@@ -133,14 +158,17 @@ int main(void)
             now += drawn(4) ? drawn(5000) : drawn(40);
             check(fdl_bus_run(&one, now), "run");
             play(&other, taps, now);
+            if (drawn(3) == 0)
+                wrong |= let_go(&one, &other, &gone);
         }
-        if (differ(&one, &other, taps))
+        all_gone += gone;
+        if (wrong || differ(&one, &other, taps, gone))
             printf("bus_by_events: bus %d differs\n", number);
         else
             equal++;
         fdl_bus_free(&one);
         fdl_bus_free(&other);
     }
-    printf("bus_by_events: %d equal, %d differ\n", equal, BUSES - equal);
-    return equal != BUSES;
+    printf("bus_by_events: %d equal, %d differ, %zu entries let go\n", equal, BUSES - equal, all_gone);
+    return equal != BUSES || all_gone < 10000;
 }

@@ -323,6 +323,8 @@ static void on_an_empty_bus(void)
     WANT(FDL_NO_BUS, fdl_bus_outcome(&bus, 0, &outcome));
     WANT(FDL_NO_BUS, fdl_bus_entries(&bus, &count));
     WANT(FDL_NO_BUS, fdl_bus_entry(&bus, 0, &entry));
+    WANT(FDL_NO_BUS, fdl_bus_over(&bus, &count));
+    WANT(FDL_NO_BUS, fdl_bus_let_go(&bus, &count));
     WANT(FDL_NO_BUS, fdl_bus_audit(&bus, &audit));
     want(1, moment == 7 && phase == 7 && count == 7 && active, "nothing is written");
     want(1, bus.at == NULL, "the bus stays empty");
@@ -349,6 +351,7 @@ static void on_a_new_bus(void)
     many[0].address = 5;
     WANT(FDL_OK, fdl_bus_new(&bus, &usual, many, 127));
     WANT(FDL_BUS_IN_USE, fdl_bus_new(&bus, &late, many, 128));
+    WANT(FDL_BUS_IN_USE, fdl_bus_new_within(&bus, &late, many, 128, 1));
     fdl_bus_free(&bus);
     want(1, bus.at == NULL, "a freed bus is empty");
     fdl_bus_free(&bus);
@@ -401,6 +404,34 @@ static void on_events(void)
     WANT(FDL_OK, fdl_bus_stop(&bus, 0));
     WANT(FDL_OK, fdl_bus_due(&bus, 0, &moment));
     want(1, moment == FDL_NEVER, "a stopped station is never due");
+    fdl_bus_free(&bus);
+}
+
+/* A bus that may say four telegrams, and lets them go: those that are gone count, too. */
+static void on_a_bus_that_lets_go(void)
+{
+    struct fdl_bus bus = FDL_BUS_EMPTY;
+    struct fdl_audit audit;
+    struct fdl_entry entry;
+    size_t count = 7, gone = 7;
+    WANT(FDL_NO_TAPS, fdl_bus_new_within(&bus, &usual, stations, 0, SIZE_MAX));
+    WANT(FDL_OK, fdl_bus_new_within(&bus, &usual, stations, 3, 4));
+    WANT(FDL_OK, fdl_bus_over(&bus, &count));
+    WANT(FDL_OK, fdl_bus_let_go(&bus, &gone));
+    want(1, count == 0 && gone == 0, "nothing is over yet");
+    WANT(FDL_OK, fdl_bus_start(&bus, 0));
+    WANT(FDL_OK, fdl_bus_run(&bus, 810));
+    WANT(FDL_OK, fdl_bus_over(&bus, &count));
+    want(0, (uint32_t)count, "the claim is on the bus still");
+    WANT(FDL_OK, fdl_bus_run(&bus, 840));
+    WANT(FDL_OK, fdl_bus_let_go(&bus, &gone));
+    want(1, (uint32_t)gone, "the claim is over");
+    WANT(FDL_NO_ENTRY, fdl_bus_entry(&bus, 0, &entry));
+    WANT(FDL_TRACE_FULL, fdl_bus_run(&bus, 5000));
+    WANT(FDL_OK, fdl_bus_entries(&bus, &count));
+    want(3, (uint32_t)count, "the claim counts, too");
+    WANT(FDL_OK, fdl_bus_audit(&bus, &audit));
+    want(1, audit.premise == 0 && !audit.illegal, "the audit knows of it");
     fdl_bus_free(&bus);
 }
 
@@ -473,6 +504,8 @@ static void on_a_run(void)
 static void with_memory_for_a_bus_refused(void)
 {
     struct fdl_bus bus = FDL_BUS_EMPTY;
+    struct fdl_audit audit = {.premise = 7};
+    size_t count, over, left, gone = 7;
     uint64_t moment = 0;
     for (granted = 0;; granted++) {
         const long allowed = granted;
@@ -493,6 +526,16 @@ static void with_memory_for_a_bus_refused(void)
     WANT(FDL_NO_MEMORY, fdl_bus_turn(&bus, 0));
     granted = -1;
     WANT(FDL_OK, fdl_bus_run(&bus, 2000));
+    WANT(FDL_OK, fdl_bus_entries(&bus, &count));
+    WANT(FDL_OK, fdl_bus_over(&bus, &over));
+    granted = 0;
+    WANT(FDL_NO_MEMORY, fdl_bus_let_go(&bus, &gone));
+    WANT(FDL_NO_MEMORY, fdl_bus_audit(&bus, &audit));
+    WANT(FDL_OK, fdl_bus_entries(&bus, &left));
+    want(1, left == count && gone == 7 && audit.premise == 7, "nothing is let go or told");
+    granted = -1;
+    WANT(FDL_OK, fdl_bus_let_go(&bus, &gone));
+    want(1, gone == over && over > 0, "what is over is let go");
     fdl_bus_free(&bus);
 }
 
@@ -635,6 +678,7 @@ int main(void)
     on_an_empty_bus();
     on_a_new_bus();
     on_events();
+    on_a_bus_that_lets_go();
     on_a_run();
     with_memory_for_a_bus_refused();
     on_an_empty_monitor();

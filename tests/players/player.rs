@@ -159,8 +159,10 @@ fn played(plan: &Plan) -> String {
         return format!("fault {} at {}", fault.code(), bus.now());
     }
     let names: Vec<&str> = plan.names.iter().map(String::as_str).collect();
-    let audit = bus.audit();
-    format!("{}{audit}", bus.trace().text(&names))
+    match bus.audit() {
+        Ok(audit) => format!("{}{audit}", bus.trace().text(&names)),
+        Err(fault) => format!("fault {}", fault.code()),
+    }
 }
 
 fn main() -> io::Result<()> {

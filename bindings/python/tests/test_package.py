@@ -377,6 +377,63 @@ class Buses(unittest.TestCase):
         self.assertEqual(kinds[2:5], [("request", 9, 1), ("acknowledgement", None, None), ("request", 2, 1)])
         self.assertEqual(kinds[5:6], [("reply", 1, 2)])
 
+    def test_a_bus_runs_on_without_what_is_over(self):
+        whole, bus, stepped = self.ring(), self.ring(), self.ring()
+        whole.run(20_000)
+        streamed = list(bus.stream(20_000, step=900))
+        settled = []
+        for moment in range(1_000, 20_001, 1_000):
+            stepped.run(moment)
+            settled += stepped.take_settled()
+            self.assertEqual(stepped.take_settled(), [])
+        for it, found in ((bus, streamed), (stepped, settled)):
+            self.assertGreater(len(found), 200)
+            self.assertLess(len(it.trace), 5)
+            self.assertEqual(found + list(it.trace), whole.trace)
+            self.assertEqual((it.audit(), it.now), (whole.audit(), 20_000))
+        with self.assertRaises(ValueError):
+            next(bus.stream(30_000, step=0))
+        with self.assertRaises(pbfdl.Backwards):
+            next(bus.stream(10_000))
+
+    def test_the_entries_that_are_let_go_count(self):
+        bus = Bus(PARAMS, [Tap(1), Tap(2)], entries=10)
+        bus.start(0)
+        bus.start(1)
+        bus.run(1_200)
+        settled = bus.take_settled()
+        self.assertGreater(len(settled), 2)
+        with self.assertRaises(pbfdl.TraceFull):
+            bus.run(100_000)
+        self.assertEqual(len(settled) + len(bus.trace), 10)
+        with self.assertRaises(ValueError):
+            Bus(PARAMS, [Tap(1)], entries=-1)
+
+    def test_a_run_without_an_end(self):
+        bus = Bus(PARAMS, [Tap(1), Tap(2)], entries=10**12)
+        bus.start(0)
+        bus.start(1)
+        count = kept = 0
+        for entry in bus.stream(8_000_000, step=100_000):
+            count += 1
+            kept = max(kept, len(bus.trace))
+        self.assertGreater(count, 100_000)
+        self.assertLess(kept, 5)
+        self.assertTrue(bus.audit().is_clean)
+
+    def test_an_audit_knows_what_was_let_go(self):
+        bus = Bus(PARAMS, [Tap(1), Tap(2)])
+        bus.start(0)
+        bus.start(1)
+        bus.run(800)
+        bus.unheard(1, 0)
+        bus.stop(0)
+        bus.run(990)
+        self.assertEqual(len(bus.take_settled()), 1)
+        bus.run(1_000)
+        self.assertEqual([(entry.tap, entry.kind) for entry in bus.trace], [(1, "token")])
+        self.assertEqual((bus.audit().premise, bus.audit().illegal), (2, 1))
+
     def test_an_audit_finds_a_lost_telegram(self):
         bus = self.ring()
         bus.run(800)
@@ -429,6 +486,10 @@ class Memory(unittest.TestCase):
         self.assertGreater(self.refused(lambda: bus.run(5000)), 0)
         other.run(5000)
         self.assertEqual(bus.trace, other.trace)
+        self.assertGreater(self.refused(bus.audit), 0)
+        self.assertEqual(bus.trace, other.trace)
+        self.assertGreater(self.refused(bus.take_settled), 0)
+        self.assertGreater(len(other.trace), len(bus.trace))
 
 
 if __name__ == "__main__":

@@ -136,6 +136,6 @@ fn main() -> Result<(), Box<dyn Error>> {
         let Controller { polls, .. } = known;
         println!("tank {address}: level {}.{} % of {} %, valve {valve} %, {polls} polls", level / 10, level % 10, target / 10);
     }
-    println!("{} telegrams in {until} bit times\n{}", bus.trace().len(), bus.audit());
+    println!("{} telegrams in {until} bit times\n{}", bus.trace().len(), bus.audit()?);
     Ok(())
 }

@@ -14,6 +14,9 @@ use crate::traces::{Audit, Entry, Trace};
 /// Damages all characters of a telegram.
 const ALL_CHARACTERS: u32 = 256;
 
+/// How many entries the trace of a bus has, if nothing else is said.
+const MOST_ENTRIES: usize = 100_000;
+
 /// A place on the bus with its station.
 #[derive(Clone, Debug, PartialEq, Eq, Hash)]
 pub struct Tap {
@@ -75,17 +78,26 @@ pub struct Bus {
 }
 
 impl Bus {
-    /// A bus with 1 to 127 taps.
+    /// A bus with 1 to 127 taps, whose trace may have 100,000 entries.
     ///
     /// # Errors
     /// The first fault of the parameters; `LongData`; `NoTaps`; `TooManyTaps`; `BadStation` for a master's address over `params.hsa`,
     /// or another's over 126; `NoMemory`.
     pub fn new(params: &Params, taps: &[Tap]) -> Result<Bus, Fault> {
+        Bus::within(params, taps, MOST_ENTRIES)
+    }
+
+    /// A bus whose trace may have this many entries; then events that add one answer `TraceFull`. Entries that are let go
+    /// ([`Bus::take_settled`]) count, too: 10^12 are enough for any run.
+    ///
+    /// # Errors
+    /// As [`Bus::new`].
+    pub fn within(params: &Params, taps: &[Tap], entries: usize) -> Result<Bus, Fault> {
         params.check()?;
         let given = taps.iter().map(Tap::given).collect::<Result<Vec<_>, _>>()?;
         let bus = Bus { bus: UnsafeCell::new(sys::fdl_bus { at: ptr::null_mut() }), taps: taps.len() };
         // SAFETY: the bus is empty, and the array has as many taps as is said.
-        check(unsafe { sys::fdl_bus_new(bus.at(), params, given.as_ptr(), given.len()) })?;
+        check(unsafe { sys::fdl_bus_new_within(bus.at(), params, given.as_ptr(), given.len(), entries) })?;
         Ok(bus)
     }
 
@@ -296,17 +308,51 @@ impl Bus {
         Ok(Outcome::of(&found))
     }
 
-    /// What has been on the bus so far.
+    /// The first entries of the trace, which are over and no longer change, and lets them go: they leave the trace, whose other
+    /// entries then count from 0. The run goes on as if they still stood there, and an audit still knows them. So a bus runs for as
+    /// long as it likes in the same memory.
+    ///
+    /// ```
+    /// use pbfdl::{Bus, Entry, Params, Tap};
+    ///
+    /// let params = Params { tsl: 100, tid1: 37, tid2: 60, tsdr: 11, lag: 0, ttr: 10_000, gap: 10, hsa: 5, retries: 1, ttd: 0 };
+    /// let mut bus = Bus::within(&params, &[Tap::master(1), Tap::master(2)], 1_000_000_000_000)?;
+    /// bus.start(0)?;
+    /// bus.start(1)?;
+    /// let mut tokens = 0;
+    /// for step in 1..101 {
+    ///     bus.run(step * 10_000)?;
+    ///     tokens += bus.take_settled()?.iter().filter(|entry| matches!(entry, Entry::Sent { octets, .. } if octets.len() == 3)).count();
+    /// }
+    /// assert_eq!(tokens, 14_177);
+    /// # Ok::<(), pbfdl::Fault>(())
+    /// ```
+    ///
+    /// # Errors
+    /// `NoMemory`, and nothing is let go then.
+    pub fn take_settled(&mut self) -> Result<Vec<Entry>, Fault> {
+        let mut count = 0;
+        let _ = unsafe { sys::fdl_bus_over(self.at(), &mut count) };
+        let settled = (0..count).filter_map(|index| self.entry(index)).collect();
+        check(unsafe { sys::fdl_bus_let_go(self.at(), &mut count) })?;
+        Ok(settled)
+    }
+
+    /// What has been on the bus so far, and was not let go.
     pub fn trace(&self) -> Trace<'_> {
         Trace::new(self)
     }
 
-    /// Judges all events so far: whether the premises were kept, and whether each token and request is legal. It takes time in
-    /// proportion to the trace.
-    pub fn audit(&self) -> Audit {
+    /// Judges all events so far: whether the premises were kept, and whether each token and request is legal. The index of an
+    /// illegal entry is that in the whole trace, with those counted that were let go. It takes time in proportion to those that were
+    /// not.
+    ///
+    /// # Errors
+    /// `NoMemory`.
+    pub fn audit(&self) -> Result<Audit, Fault> {
         let mut found = sys::fdl_audit { premise: 0, moment: 0, illegal: false, entry: 0 };
-        let _ = unsafe { sys::fdl_bus_audit(self.at(), &mut found) };
-        Audit::of(&found)
+        check(unsafe { sys::fdl_bus_audit(self.at(), &mut found) })?;
+        Ok(Audit::of(&found))
     }
 
     pub(crate) fn entries(&self) -> usize {

@@ -212,6 +212,13 @@ extern "C" {
     pub fn fdl_port_outcome(port: *mut fdl_port, outcome: *mut fdl_outcome) -> u32;
 
     pub fn fdl_bus_new(bus: *mut fdl_bus, params: *const fdl_params, taps: *const fdl_tap, count: usize) -> u32;
+    pub fn fdl_bus_new_within(
+        bus: *mut fdl_bus,
+        params: *const fdl_params,
+        taps: *const fdl_tap,
+        count: usize,
+        entries: usize,
+    ) -> u32;
     pub fn fdl_bus_free(bus: *mut fdl_bus);
     pub fn fdl_bus_start(bus: *mut fdl_bus, tap: usize) -> u32;
     pub fn fdl_bus_stop(bus: *mut fdl_bus, tap: usize) -> u32;
@@ -237,6 +244,8 @@ extern "C" {
     pub fn fdl_bus_outcome(bus: *mut fdl_bus, tap: usize, outcome: *mut fdl_outcome) -> u32;
     pub fn fdl_bus_entries(bus: *mut fdl_bus, count: *mut usize) -> u32;
     pub fn fdl_bus_entry(bus: *mut fdl_bus, index: usize, entry: *mut fdl_entry) -> u32;
+    pub fn fdl_bus_over(bus: *mut fdl_bus, count: *mut usize) -> u32;
+    pub fn fdl_bus_let_go(bus: *mut fdl_bus, count: *mut usize) -> u32;
     pub fn fdl_bus_audit(bus: *mut fdl_bus, audit: *mut fdl_audit) -> u32;
 
     pub fn fdl_monitor_new(monitor: *mut fdl_monitor, options: *const fdl_monitor_options, params: *const fdl_params) -> u32;

@@ -158,7 +158,7 @@ fn a_bus_runs_and_is_judged() {
     bus.run(2000).unwrap();
     assert_eq!(bus.outcome(0), Ok(Some(Outcome::Data(9, vec![0xaa, 0xbb]))));
     assert_eq!((bus.executed(2), bus.is_active(0, 2), bus.phase(2)), (Ok(1), Ok(true), Ok(Phase::PassiveIdle)));
-    assert_eq!(bus.audit().to_string(), "premises kept\ntrace legal");
+    assert_eq!(bus.audit().unwrap().to_string(), "premises kept\ntrace legal");
     let heard = vec![Heard::Own, Heard::Whole, Heard::Whole];
     let first = Entry::Sent { begin: 800, end: 833, tap: 0, octets: vec![0xdc, 1, 1], heard };
     let entries: Vec<Entry> = bus.trace().into_iter().collect();
@@ -201,9 +201,40 @@ fn a_tap_replies_with_other_data() {
     bus.queue(0, 9, Service::Srd, Priority::Low, &[]).unwrap();
     bus.run(4000).unwrap();
     assert_eq!(bus.outcome(0), Ok(Some(Outcome::Data(9, vec![0xcc]))));
-    assert_eq!(bus.audit().to_string(), "premises kept\ntrace legal");
+    assert_eq!(bus.audit().unwrap().to_string(), "premises kept\ntrace legal");
     assert_eq!(bus.set_reply(2, &[0; 247]), Err(Fault::LongData));
     assert_eq!(bus.set_reply(3, &[]), Err(Fault::NoSuchTap));
+}
+
+#[test]
+fn a_bus_runs_on_without_what_is_over() {
+    let mut whole = ring();
+    whole.run(20_000).unwrap();
+    let entries: Vec<Entry> = whole.trace().into_iter().collect();
+    let mut bus = ring();
+    let mut settled = Vec::new();
+    for step in 1..21 {
+        bus.run(step * 1_000).unwrap();
+        settled.extend(bus.take_settled().unwrap());
+        assert_eq!(bus.take_settled(), Ok(vec![]));
+    }
+    assert!(settled.len() > 200 && bus.trace().len() < 5);
+    settled.extend(bus.trace());
+    assert_eq!(settled, entries);
+    assert_eq!((bus.audit(), bus.now()), (whole.audit(), 20_000));
+}
+
+#[test]
+fn the_entries_that_are_let_go_count() {
+    let taps = [Tap::master(1), Tap::master(2)];
+    let mut bus = Bus::within(&PARAMS, &taps, 10).unwrap();
+    bus.start(0).unwrap();
+    bus.start(1).unwrap();
+    bus.run(1_200).unwrap();
+    let settled = bus.take_settled().unwrap().len();
+    assert!(settled > 2);
+    assert_eq!(bus.run(100_000), Err(Fault::TraceFull));
+    assert_eq!(settled + bus.trace().len(), 10);
 }
 
 #[test]
@@ -212,5 +243,5 @@ fn an_audit_finds_a_lost_telegram() {
     bus.run(800).unwrap();
     bus.unheard(1, 0).unwrap();
     bus.run(900).unwrap();
-    assert_eq!(bus.audit(), Audit { premise: Some((2, 800)), illegal: None });
+    assert_eq!(bus.audit(), Ok(Audit { premise: Some((2, 800)), illegal: None }));
 }

@@ -3,6 +3,7 @@
 mod edges;
 mod examples;
 mod indications;
+mod letting_go;
 mod memory;
 mod past;
 mod reasons;

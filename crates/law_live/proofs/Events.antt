@@ -17,7 +17,7 @@ use Rattle.law_turn.proofs.Retrying.{left-after_marks}
 use Rattle.law_model.specs.Trace.{Hit, Record, Entry, Sent, with_entry, cut_at, is_noise_at, noisy_until, begins_from, unheard_at, entry_begin, entry_end}
 use Rattle.law_model.specs.Trace as trace
 use Rattle.law_model.specs.Medium.{TapSpec, Tap, new_marks, entry_at}
-use Rattle.law_model.specs.World.{World, Event, Turn, Pass, Damage, Start, Stop, Queue, Noise, Unheard, NoSuchTap, Running, NotRunning, NothingInAir, ZeroTime, QueueFull, TraceFull, trace_limit, queue_limit, is_in_air_by, stopped_tap, new_world, new_faults, next_end_of}
+use Rattle.law_model.specs.World.{World, Event, Turn, Pass, Damage, Start, Stop, Queue, Noise, Unheard, NoSuchTap, Running, NotRunning, NothingInAir, ZeroTime, QueueFull, TraceFull, queue_limit, is_in_air_by, stopped_tap, IsNewWorld, new_faults, next_end_of}
 use Rattle.law_model.specs.World as world
 use Rattle.law_model.specs.Step.{sending, with_said, step_turn, told, pass_faults, with_hit, change_first, has_place, started_tap, step_start, halted, step_stop, step_queue, with_noise, is_noisy, step}
 use Rattle.law_model.proofs.Worlds.{unless-Ok}
@@ -311,10 +311,10 @@ new_stopped p (spec ∷ specs) zero t at = subst (λ (z : Tap). z.running ≡ fa
 new_stopped p (spec ∷ specs) (suc k) t at = new_stopped p specs k t at
 
 -- so a new world has it
-pub new_flow : (p : Params) (specs : List TapSpec) (w : World) → p.tsdr + p.lag + 2 * p.ttd < p.tsl → new_world p specs ≡ Ok w → Flow w
+pub new_flow : (p : Params) (specs : List TapSpec) (w : World) → p.tsdr + p.lag + 2 * p.ttd < p.tsl → IsNewWorld p specs w → Flow w
 new_flow p specs w fits new =
-    let made : World = record { params = p; now = 0; trace = []; taps = map (stopped_tap p) specs; limit = trace_limit } in
-    let same = unless-Ok (new_faults p specs) made w new in
+    let made : World = record { params = p; now = 0; trace = []; taps = map (stopped_tap p) specs; limit = new.0 } in
+    let same = unless-Ok (new_faults p specs) made w new.1 in
     subst (λ z. Flow z) same.1 (record {
       reply_in_time = fits;
       short = tt;

@@ -10,7 +10,6 @@ use Rattle.law_model.specs.Step.{step, world_after, RunsTo}
 use Rattle.law_model.specs.Laws.{AreEvents}
 use Rattle.law_runs.specs.Premises.{Waited, has_namesakes, loses, comes_late, two_have_waited, first_number, waited_by, broken_by, broken_or, first_broken, followed, course_of}
 use Rattle.law_runs.specs.Headline.{NoneLosesOrComesLate}
-use Rattle.law_model.proofs.Worlds.{unless-Ok}
 use Rattle.law_runs.specs.Activity.{is_silent}
 use Rattle.law_token.specs.Places.{LeavesTime}
 use Rattle.law_token.specs.Promises.{HasRun, IsMasterAt}
@@ -18,6 +17,7 @@ use Rattle.law_token.proofs.whole.JoinedRuns.{runs_same}
 use Rattle.law_token.specs.Invariant.{Invariant}
 use Rattle.law_token.proofs.whole.Keeping.{fits_valid, unbroken}
 use Rattle.law_token.proofs.bus.NewWorlds.{new_invariant}
+use Rattle.law_token.proofs.whole.Stays.{new_params}
 use Rattle.law_token.proofs.quiet.Bound.{silence_at_speakers}
 use Rattle.law_live.specs.NeverDead.{cycle, cycle_to_reply, longest_without, has_token_since, has_noise_since, NeverDead}
 use Rattle.law_live.specs.Flow.{Flow}
@@ -70,13 +70,7 @@ runs_left (e ∷ es) w next waited are runs none i f =
       none = (not_both (loses e) both.0, not_both (comes_late w e) both.1, λ other reply ok. subst (λ z. NoneLosesOrComesLate z es) (same_step (step w e) between other runs.1 reply runs.2 ok) rest.none);
     }
 
--- a new world has the parameters that it was made with
-new_params : (p : Params) (specs : List TapSpec) (w : World) → world.new_world p specs ≡ Ok w → w.params ≡ p
-new_params p specs w new =
-    let made : World = record { params = p; now = 0; trace = []; taps = map (world.stopped_tap p) specs; limit = world.trace_limit } in
-    let same = unless-Ok (world.new_faults p specs) made w new in ap (λ (z : World). z.params) (sym same.1)
-
--- and so has each that a run leads to
+-- each world that a run leads to has the parameters that the new one was made with
 pub params_of : (p : Params) (specs : List TapSpec) (events : List Event) (new w : World) → HasRun p specs events new w → w.params ≡ p
 params_of p specs events new w run = (runs_same events new w run.runs).params ∙ new_params p specs new run.made
 

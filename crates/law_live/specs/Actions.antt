@@ -1,9 +1,9 @@
 -- What is promised of the worlds that actions leave: events, and changes of data between them.
-use Rattle.std.specs.Prelude.{◌≡◌, List, [], ◌++◌, None, Ok}
+use Rattle.std.specs.Prelude.{◌≡◌, List, [], ◌++◌, None}
 use Rattle.pb_timers.specs.Timers.{Params}
 use Rattle.pb_timers.specs.ParamRules.{IsValid}
 use Rattle.law_model.specs.Medium.{TapSpec}
-use Rattle.law_model.specs.World.{World, new_world}
+use Rattle.law_model.specs.World.{World, IsNewWorld}
 use Rattle.law_model.specs.Laws.{AllFit}
 use Rattle.law_token.specs.Actions.{Action, AreActions, LeadsTo, HasActed, first_broken_by, NoneActsLate}
 use Rattle.law_token.specs.Promises.{HasOneToken, LeavesNoneInSilence}
@@ -38,4 +38,4 @@ ActionsLeadOn = (w next : World) (actions : List Action) → AreActions actions 
 
 -- no actions have led to the new world of a bus, and it keeps the promises
 abbrev pub NewWorldsAct : Type 0
-NewWorldsAct = (p : Params) (specs : List TapSpec) (w : World) → IsValid p → AllFit specs → new_world p specs ≡ Ok w → ActedTo w [] w × KeepsPromisesBy w [] w
+NewWorldsAct = (p : Params) (specs : List TapSpec) (w : World) → IsValid p → AllFit specs → IsNewWorld p specs w → ActedTo w [] w × KeepsPromisesBy w [] w

@@ -1,9 +1,9 @@
 -- What the calls of a world promise about the worlds that they leave, by the events that led to them.
-use Rattle.std.specs.Prelude.{◌≡◌, List, [], ◌++◌, None, Ok}
+use Rattle.std.specs.Prelude.{◌≡◌, List, [], ◌++◌, None}
 use Rattle.pb_timers.specs.Timers.{Params}
 use Rattle.pb_timers.specs.ParamRules.{IsValid}
 use Rattle.law_model.specs.Medium.{TapSpec}
-use Rattle.law_model.specs.World.{World, Event, new_world}
+use Rattle.law_model.specs.World.{World, Event, IsNewWorld}
 use Rattle.law_model.specs.Step.{RunsTo}
 use Rattle.law_model.specs.Laws.{AllFit, AreEvents}
 use Rattle.law_runs.specs.Headline.{NoneLosesOrComesLate}
@@ -39,4 +39,4 @@ RunsLeadOn = (w next : World) (events : List Event) → AreEvents events → Run
 
 -- no events have led to the new world of a bus, and it keeps the promises
 abbrev pub NewWorldsBegin : Type 0
-NewWorldsBegin = (p : Params) (specs : List TapSpec) (w : World) → IsValid p → AllFit specs → new_world p specs ≡ Ok w → LeadTo w [] w × KeepsPromises w [] w
+NewWorldsBegin = (p : Params) (specs : List TapSpec) (w : World) → IsValid p → AllFit specs → IsNewWorld p specs w → LeadTo w [] w × KeepsPromises w [] w

@@ -16,7 +16,7 @@ use Rattle.law_turn.proofs.Keeping.{Sayable, cycles-new, cycles-started, cycles-
 use Rattle.law_model.specs.Trace.{Hit, Record, Entry, Sent, Noise, entry_begin, entry_end, goes_before, with_entry, cut_end, cut_at, is_noise_at, noisy_until, begins_from, unheard_at}
 use Rattle.law_model.specs.Medium.{TapSpec, Tap, reaches, ends_between, entry_at, heard_by}
 use Rattle.law_model.specs.World as world
-use Rattle.law_model.specs.World.{World, Event, Turn, Pass, Damage, Start, Stop, Queue, Reply, Fault, NoSuchTap, Running, NotRunning, NothingInAir, ZeroTime, QueueFull, TraceFull, unless, unless_fault, is_in_air_by, new_world, stopped_tap, new_faults, queue_limit}
+use Rattle.law_model.specs.World.{World, Event, Turn, Pass, Damage, Start, Stop, Queue, Reply, Fault, NoSuchTap, Running, NotRunning, NothingInAir, ZeroTime, QueueFull, TraceFull, unless, unless_fault, is_in_air_by, IsNewWorld, stopped_tap, new_faults, queue_limit}
 use Rattle.law_model.specs.Step.{sending, with_said, step_turn, told, pass_faults, step_pass, with_hit, change_first, has_place, step_damage, started_tap, step_start, halted, step_stop, step_queue, with_noise, is_noisy, step_noise, step_unheard, step, world_after, replay}
 use Rattle.law_model.specs.Laws.{AllBegun, AllInOrder, InOrder, AllSayable, IsEvent, AreEvents, AllFit, IsSound}
 use Rattle.law_model.proofs.Cases.{by_test}
@@ -263,10 +263,10 @@ unless-Ok {F} {X} tests x y = by_fault (first_fault tests) refl
     by_fault None e ok = (none_holds tests e, cc)
     by_fault (Some fault) e ok = absurd cc
 
-pub sound-new_world : (p : Params) (specs : List TapSpec) (w : World) → AllFit specs → new_world p specs ≡ Ok w → IsSound w
+pub sound-new_world : (p : Params) (specs : List TapSpec) (w : World) → AllFit specs → IsNewWorld p specs w → IsSound w
 sound-new_world p specs w fit new =
-    let made : World = record { params = p; now = 0; trace = []; taps = map (stopped_tap p) specs; limit = world.trace_limit } in
-    let same = unless-Ok (new_faults p specs) made w new in
+    let made : World = record { params = p; now = 0; trace = []; taps = map (stopped_tap p) specs; limit = new.0 } in
+    let same = unless-Ok (new_faults p specs) made w new.1 in
     subst IsSound same.1 (record { begun = tt; in_order = sound-stopped_taps p specs; sayable = sayable-stopped_taps p specs fit })
 
 -- ---- the clock

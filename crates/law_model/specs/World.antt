@@ -1,5 +1,5 @@
 -- The world: taps on one medium, the clock and the trace; its events and their refusals.
-use Rattle.std.specs.Prelude.{ℕ, ◌+◌, Bool, false, if◌then◌else◌, ◌==◌, nat_lt, ◌&&◌, List, [], ◌∷◌, length, map, Option, Some, None, Result, Ok, Err, is_some, unwrap_or}
+use Rattle.std.specs.Prelude.{◌≡◌, ℕ, ◌+◌, Bool, false, if◌then◌else◌, ◌==◌, nat_lt, ◌&&◌, List, [], ◌∷◌, length, map, Option, Some, None, Result, Ok, Err, is_some, unwrap_or}
 use Rattle.pb_faults.specs.FirstFault.{first_fault}
 use Rattle.pb_timers.specs.Timers.{Params}
 use Rattle.pb_cycles.specs.RequestFields.{RequestFields}
@@ -117,6 +117,10 @@ new_world_within limit p specs = unless (new_faults p specs) (record { params = 
 
 abbrev pub new_world : Params → List TapSpec → Result World NewFault
 new_world p specs = new_world_within trace_limit p specs
+
+-- a world is the new one of some taps, whatever number of entries its trace may have
+abbrev pub IsNewWorld : Params → List TapSpec → World → Type 0
+IsNewWorld p specs w = (limit : ℕ) × (new_world_within limit p specs ≡ Ok w)
 
 -- ---- what is on the bus
 

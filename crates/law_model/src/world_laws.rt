@@ -3,7 +3,7 @@
 ghost use Rattle.std.specs.Prelude.{◌≡◌, ◌≤◌, ℕ, Bool, true, List, [], ◌∷◌, Ok, Err, Some, slice_get};
 ghost use Rattle.pb_timers.specs.Timers.{Params};
 ghost use Rattle.law_model.specs.Medium.{TapSpec, Tap};
-ghost use Rattle.law_model.specs.World.{World, Event, Turn, Pass, Reply, Fault, new_world};
+ghost use Rattle.law_model.specs.World.{World, Event, Turn, Pass, Reply, Fault, IsNewWorld};
 ghost use Rattle.law_model.specs.Step.{step, replay};
 ghost use Rattle.law_model.specs.Behind.{behind, all_behind, IsPast};
 ghost use Rattle.law_model.specs.Trace.{Entry};
@@ -23,7 +23,7 @@ pub fn a_refused_event_changes_nothing()
 /// The unread marks of every tap are in order of time, up to the clock.
 pub fn marks_stand_in_order_of_time()
     ensures { (p : Params) (specs : List TapSpec) (w : World) (events : List Event)
-        → AllFit specs → AreEvents events → new_world p specs ≡ Ok w
+        → AllFit specs → AreEvents events → IsNewWorld p specs w
         → AllInOrder (replay w events).now (replay w events).taps }
 {}
 
@@ -33,7 +33,7 @@ pub fn marks_stand_in_order_of_time()
 pub fn what_a_pass_tells_a_tap()
     ensures { (p : Params) (specs : List TapSpec) (w : World) (events : List Event) (d tap : ℕ)
         (next : World) (reply : Reply) (t : Tap)
-        → AllFit specs → AreEvents events → new_world p specs ≡ Ok w
+        → AllFit specs → AreEvents events → IsNewWorld p specs w
         → step (replay w events) (Pass d) ≡ Ok (next, reply)
         → slice_get (replay w events).taps tap ≡ Some t → t.running ≡ true
         → PassTells (replay w events) next tap t }

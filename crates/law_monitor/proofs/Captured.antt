@@ -77,7 +77,7 @@ captured_with_delay = record {
   t = _;
   hears = record {
     time = record { slot = omega arith; idle = omega arith; idle_order = omega arith; take = omega arith; highest = omega arith };
-    run = record { fit = (omega arith, (omega arith, (omega arith, tt))); are = are_events heard_with_delay refl; made = refl; runs = runs_to (new_on bus_with_delay) heard_with_delay refl };
+    run = record { fit = (omega arith, (omega arith, (omega arith, tt))); are = are_events heard_with_delay refl; made = (trace_limit, refl); runs = runs_to (new_on bus_with_delay) heard_with_delay refl };
     keeps = refl;
     here = refl;
     running = refl;
@@ -96,7 +96,7 @@ captured_amid = record {
   t = _;
   hears = record {
     time = record { slot = omega arith; idle = omega arith; idle_order = omega arith; take = omega arith; highest = omega arith };
-    run = record { fit = (omega arith, (omega arith, (omega arith, tt))); are = are_events heard_amid refl; made = refl; runs = runs_to (new_on example_bus) heard_amid refl };
+    run = record { fit = (omega arith, (omega arith, (omega arith, tt))); are = are_events heard_amid refl; made = (trace_limit, refl); runs = runs_to (new_on example_bus) heard_amid refl };
     keeps = refl;
     here = refl;
     running = refl;
@@ -137,7 +137,7 @@ heard_beside = record {
       take_in_time = omega arith;
       reply_in_time = omega arith;
     };
-    run = record { fit = (omega arith, (omega arith, (omega arith, tt))); are = are_events heard_with_delay refl; made = refl; runs = runs_to (new_on bus_with_delay) heard_with_delay refl };
+    run = record { fit = (omega arith, (omega arith, (omega arith, tt))); are = are_events heard_with_delay refl; made = (trace_limit, refl); runs = runs_to (new_on bus_with_delay) heard_with_delay refl };
     near = beside_near;
     hears = inl (heard_as_said 0 (map (as_heard beside_second) (replay (new_on bus_with_delay) heard_with_delay).trace) refl);
   };
@@ -173,12 +173,12 @@ claimer_named = record {
   later = replay (new_on bus_with_delay) (take 15 heard_with_delay);
   hears = record {
     time = long_time;
-    run = record { fit = (omega arith, (omega arith, (omega arith, tt))); are = are_events (take 14 heard_with_delay) refl; made = refl; runs = runs_to (new_on bus_with_delay) (take 14 heard_with_delay) refl };
+    run = record { fit = (omega arith, (omega arith, (omega arith, tt))); are = are_events (take 14 heard_with_delay) refl; made = (trace_limit, refl); runs = runs_to (new_on bus_with_delay) (take 14 heard_with_delay) refl };
     are = (tt, tt);
     goes_on = runs_to (replay (new_on bus_with_delay) (take 14 heard_with_delay)) (Pass 22 ∷ []) refl;
     hears = heard_first (take 15 heard_with_delay) (replay (new_on bus_with_delay) (take 15 heard_with_delay)) _ (at 815 (token 1 1) ∷ []) (record {
       time = long_time;
-      run = record { fit = (omega arith, (omega arith, (omega arith, tt))); are = are_events (take 15 heard_with_delay) refl; made = refl; runs = runs_to (new_on bus_with_delay) (take 15 heard_with_delay) refl };
+      run = record { fit = (omega arith, (omega arith, (omega arith, tt))); are = are_events (take 15 heard_with_delay) refl; made = (trace_limit, refl); runs = runs_to (new_on bus_with_delay) (take 15 heard_with_delay) refl };
       keeps = refl;
       here = refl;
       running = refl;
@@ -200,12 +200,12 @@ taker_named = record {
   later = replay (new_on bus_with_delay) (take 59 heard_with_delay);
   hears = record {
     time = long_time;
-    run = record { fit = (omega arith, (omega arith, (omega arith, tt))); are = are_events (take 58 heard_with_delay) refl; made = refl; runs = runs_to (new_on bus_with_delay) (take 58 heard_with_delay) refl };
+    run = record { fit = (omega arith, (omega arith, (omega arith, tt))); are = are_events (take 58 heard_with_delay) refl; made = (trace_limit, refl); runs = runs_to (new_on bus_with_delay) (take 58 heard_with_delay) refl };
     are = (tt, tt);
     goes_on = runs_to (replay (new_on bus_with_delay) (take 58 heard_with_delay)) (Pass 37 ∷ []) refl;
     hears = heard_first (take 59 heard_with_delay) (replay (new_on bus_with_delay) (take 59 heard_with_delay)) _ (at 815 (token 1 1) ∷ at 885 (token 1 1) ∷ at 955 (question 2 1) ∷ at 1047 (answer 1 2) ∷ at 1165 (token 2 1) ∷ []) (record {
       time = long_time;
-      run = record { fit = (omega arith, (omega arith, (omega arith, tt))); are = are_events (take 59 heard_with_delay) refl; made = refl; runs = runs_to (new_on bus_with_delay) (take 59 heard_with_delay) refl };
+      run = record { fit = (omega arith, (omega arith, (omega arith, tt))); are = are_events (take 59 heard_with_delay) refl; made = (trace_limit, refl); runs = runs_to (new_on bus_with_delay) (take 59 heard_with_delay) refl };
       keeps = refl;
       here = refl;
       running = refl;

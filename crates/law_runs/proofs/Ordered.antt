@@ -1,5 +1,5 @@
 -- The trace of a world stands in order: by begin, and each entry lasts for some time.
-use Rattle.std.proofs.Common.{◌≡◌, ℕ, ◌+◌, ◌≤◌, List, [], ◌∷◌, length, map, Bool, true, false, not, ◌||◌, ◌&&◌, ◌==◌, nat_lt, nat_le, refl, ap, subst, sym, arith, Option, Some, None, Ok}
+use Rattle.std.proofs.Common.{◌≡◌, ℕ, ◌+◌, ◌≤◌, List, [], ◌∷◌, length, map, Bool, true, false, not, ◌||◌, ◌&&◌, ◌==◌, nat_lt, nat_le, refl, ap, subst, sym, arith, Option, Some, None}
 use Rattle.std.specs.Prelude.{slice_get, slice_set, is_some, is_none, find}
 use Rattle.std.specs.List.{list_any}
 use Rattle.std.proofs.lemmas.Bool.{and_parts, ltb-true, ltb-false, eqb-true}
@@ -10,7 +10,7 @@ use Rattle.law_turn.specs.Turns.{turn_of}
 use Rattle.law_model.specs.Trace.{Hit, Record, Entry, Sent, Noise, entry_begin, rank, goes_before, with_entry, cut_end, cut_at, is_noise_at, noisy_until, begins_from, unheard_at}
 use Rattle.law_model.specs.Medium.{TapSpec, Tap, reaches, ends_between, entry_at, heard_by}
 use Rattle.law_model.specs.World as world
-use Rattle.law_model.specs.World.{World, Event, Turn, Pass, Damage, Start, Stop, Queue, Reply, Fault, NoSuchTap, Running, NotRunning, NothingInAir, ZeroTime, QueueFull, TraceFull, trace_limit, is_in_air_by, new_world, stopped_tap, new_faults, queue_limit}
+use Rattle.law_model.specs.World.{World, Event, Turn, Pass, Damage, Start, Stop, Queue, Reply, Fault, NoSuchTap, Running, NotRunning, NothingInAir, ZeroTime, QueueFull, TraceFull, is_in_air_by, IsNewWorld, stopped_tap, new_faults, queue_limit}
 use Rattle.law_model.specs.Step.{sending, with_said, step_turn, told, pass_faults, step_pass, with_hit, change_first, has_place, step_damage, started_tap, step_start, halted, step_stop, step_queue, with_noise, is_noisy, step_noise, step_unheard, step, world_after, RunsTo}
 use Rattle.law_model.specs.Laws.{AllBegun, AllFit, AreEvents, IsSound}
 use Rattle.law_model.proofs.Cases.{by_test}
@@ -166,10 +166,10 @@ sound-after [] w next are leads sound = subst IsSound leads sound
 sound-after (e ∷ es) w next are (between, reply, done, leads) sound =
     sound-after es between next are.1 leads (subst IsSound (ap (world_after w) done) (sound-step w e are.0 sound))
 
-pub stands-new : (p : Params) (specs : List TapSpec) (new : World) → new_world p specs ≡ Ok new → Stands new
+pub stands-new : (p : Params) (specs : List TapSpec) (new : World) → IsNewWorld p specs new → Stands new
 stands-new p specs new made =
-    let first : World = record { params = p; now = 0; trace = []; taps = map (stopped_tap p) specs; limit = trace_limit } in
-    subst Stands (unless-Ok (new_faults p specs) first new made).1 tt
+    let first : World = record { params = p; now = 0; trace = []; taps = map (stopped_tap p) specs; limit = made.0 } in
+    subst Stands (unless-Ok (new_faults p specs) first new made.1).1 tt
 
 ordered-by : (from now : ℕ) (es : List Entry) → StandsFrom from es → AllBegun now es → IsOrderedFrom from es
 ordered-by from now [] stands begun = tt
@@ -180,11 +180,11 @@ pub is-ordered : (w : World) → IsSound w → Stands w → IsOrdered w.trace
 is-ordered w sound stands = ordered-by 0 w.now w.trace stands sound.begun
 
 -- accepted events lead from a new world to one whose trace stands by begin
-pub leads-in-order : (p : Params) (specs : List TapSpec) (events : List Event) (new w : World) → new_world p specs ≡ Ok new → RunsTo new events w → Stands w
+pub leads-in-order : (p : Params) (specs : List TapSpec) (events : List Event) (new w : World) → IsNewWorld p specs new → RunsTo new events w → Stands w
 leads-in-order p specs events new w made leads = stands-after events new w leads (stands-new p specs new made)
 
 -- where their requests are proper, its trace is in order
 pub is-ordered-after : (p : Params) (specs : List TapSpec) (events : List Event) (new w : World) → AllFit specs → AreEvents events
-    → new_world p specs ≡ Ok new → RunsTo new events w → IsOrdered w.trace
+    → IsNewWorld p specs new → RunsTo new events w → IsOrdered w.trace
 is-ordered-after p specs events new w fit are made leads =
     is-ordered w (sound-after events new w are leads (sound-new_world p specs new fit made)) (leads-in-order p specs events new w made leads)

@@ -4,7 +4,7 @@ use Rattle.pb_timers.specs.Timers.{Params, tto}
 use Rattle.pb_timers.specs.ParamRules.{IsValid}
 use Rattle.law_turn.specs.Phases.{may_initiate, is_offline}
 use Rattle.law_model.specs.Medium.{TapSpec, Tap}
-use Rattle.law_model.specs.World.{World, Event, Reply, new_world}
+use Rattle.law_model.specs.World.{World, Event, Reply, IsNewWorld}
 use Rattle.law_model.specs.Step.{step, RunsTo}
 use Rattle.law_model.specs.Laws.{AllFit, AreEvents}
 use Rattle.law_runs.specs.Activity.{is_silent}
@@ -34,7 +34,7 @@ pub record HasAtMostOneHolder (w : World) : Type 0 where
 -- list.
 abbrev pub TokenTheorem : Type 0
 TokenTheorem = (p : Params) (specs : List TapSpec) (events : List Event) (new w : World) → IsValid p → AllFit specs → AreEvents events
-    → new_world p specs ≡ Ok new → RunsTo new events w → first_broken new events ≡ None → HasAtMostOneHolder w
+    → IsNewWorld p specs new → RunsTo new events w → first_broken new events ≡ None → HasAtMostOneHolder w
 
 -- events of which none loses a telegram or lets a turn be late
 abbrev pub NoneLosesOrComesLate : World → List Event → Type 0
@@ -45,6 +45,6 @@ NoneLosesOrComesLate w (e ∷ es) = (loses e ≡ true → ⊥) × (comes_late w 
 -- lag and the cable delay, with each telegram at its speaker's moments.
 abbrev pub SilenceBound : Type 0
 SilenceBound = (p : Params) (specs : List TapSpec) (events : List Event) (new w : World) (i m : ℕ) (t : Tap) → IsValid p → AllFit specs → AreEvents events
-    → new_world p specs ≡ Ok new → RunsTo new events w → NoneLosesOrComesLate new events
+    → IsNewWorld p specs new → RunsTo new events w → NoneLosesOrComesLate new events
     → slice_get w.taps i ≡ Some t → t.running ≡ true → t.spec.master ≡ true → (is_offline t.station.phase ≡ true → ⊥)
     → t.since ≤ m → m < w.now → is_silent 0 i w.trace m w.now ≡ true → w.now ≤ m + (tto p t.spec.address + p.lag + p.ttd)

@@ -5,7 +5,7 @@ use Rattle.law_turn.specs.Laws.{Fits}
 use Rattle.pb_timers.specs.Timers.{Params}
 use Rattle.pb_timers.specs.ParamRules.{IsValid}
 use Rattle.law_model.specs.Medium.{TapSpec}
-use Rattle.law_model.specs.World.{World, Event, Reply, Fault, new_world}
+use Rattle.law_model.specs.World.{World, Event, Reply, Fault, IsNewWorld}
 use Rattle.law_model.specs.Step.{step}
 use Rattle.law_model.specs.Laws.{AllFit, IsEvent}
 use Rattle.law_runs.specs.Headline.{HasAtMostOneHolder}
@@ -44,7 +44,7 @@ LeadsTo w (a ∷ more) next = (between : World) × ActsTo w a between × LeadsTo
 pub record HasActed (p : Params) (specs : List TapSpec) (actions : List Action) (new w : World) : Type 0 where
   pub fit : AllFit specs
   pub are : AreActions actions
-  pub made : new_world p specs ≡ Ok new
+  pub made : IsNewWorld p specs new
   pub leads : LeadsTo new actions w
 
 -- ---- the premises

@@ -3,7 +3,7 @@ use Rattle.std.specs.Prelude.{◌≡◌, ℕ, true, false, List, [], ◌++◌, O
 use Rattle.pb_timers.specs.Timers.{Params}
 use Rattle.law_model.specs.Trace.{Record, Sent}
 use Rattle.law_model.specs.Medium.{TapSpec, Tap}
-use Rattle.law_model.specs.World.{World, Event, Reply, new_world}
+use Rattle.law_model.specs.World.{World, Event, Reply, IsNewWorld}
 use Rattle.law_model.specs.Step.{step}
 use Rattle.law_model.specs.Laws.{AllFit, IsEvent}
 use Rattle.law_runs.specs.Headline.{specs_of}
@@ -55,4 +55,4 @@ KeepsInvariant w e = (waited : List Waited) (next : World) (reply : Reply) → s
 
 -- a new world satisfies the invariant
 abbrev pub BeginsWithInvariant : Type 0
-BeginsWithInvariant = (p : Params) (specs : List TapSpec) (w : World) → LeavesTime p → AllFit specs → new_world p specs ≡ Ok w → Invariant w []
+BeginsWithInvariant = (p : Params) (specs : List TapSpec) (w : World) → LeavesTime p → AllFit specs → IsNewWorld p specs w → Invariant w []

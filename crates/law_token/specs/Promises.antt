@@ -1,10 +1,10 @@
 -- The token theorem and the silence bound for every cable delay, and as readers of a world need them.
-use Rattle.std.specs.Prelude.{◌≡◌, ℕ, ◌+◌, ◌≤◌, ◌<◌, true, List, slice_get, Some, None, Ok}
+use Rattle.std.specs.Prelude.{◌≡◌, ℕ, ◌+◌, ◌≤◌, ◌<◌, true, List, slice_get, Some, None}
 use Rattle.pb_timers.specs.Timers.{Params, tto}
 use Rattle.pb_timers.specs.ParamRules.{IsValid}
 use Rattle.law_turn.specs.Phases.{may_initiate, is_offline}
 use Rattle.law_model.specs.Medium.{TapSpec, Tap}
-use Rattle.law_model.specs.World.{World, Event, new_world}
+use Rattle.law_model.specs.World.{World, Event, IsNewWorld}
 use Rattle.law_model.specs.Step.{RunsTo}
 use Rattle.law_model.specs.Laws.{AllFit, AreEvents}
 use Rattle.law_runs.specs.Activity.{is_silent}
@@ -20,7 +20,7 @@ use Rattle.law_token.specs.Places.{LeavesTime}
 pub record HasRun (p : Params) (specs : List TapSpec) (events : List Event) (new w : World) : Type 0 where
   pub fit : AllFit specs
   pub are : AreEvents events
-  pub made : new_world p specs ≡ Ok new
+  pub made : IsNewWorld p specs new
   pub runs : RunsTo new events w
 
 -- ---- the token

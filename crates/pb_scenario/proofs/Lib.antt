@@ -5,6 +5,7 @@ pub mod Joined
 pub mod Going
 pub mod Playing
 pub mod Moving
+pub mod Soonest
 pub mod PlayedInstants
 pub mod Looking
 pub mod Chains

@@ -1,8 +1,8 @@
 -- The results of playing events and instants.
 use Rattle.std.specs.Prelude.{◌≡◌, ℕ, suc, ◌<◌, ◌≤◌, Bool, List, [], ◌∷◌, ◌++◌, length, Option, Some, None, Result, Ok, Err, MatchResult, IfSome, if◌then◌else◌}
 use Rattle.law_model.specs.World as model
-use Rattle.law_runs.specs.Runs.{Plan, all, run, with_front}
-use Rattle.law_runs.specs.Bus.{bus}
+use Rattle.law_runs.specs.Runs.{Plan, all, next_turn, run, with_front}
+use Rattle.law_runs.specs.Bus.{bus, dues}
 use Rattle.law_runs.specs.Scenarios as runs
 use Rattle.law_runs.specs.Scenarios.{Scenario}
 pub use Rattle.pb_world.specs.RunTo.{run_with, turn_if}
@@ -25,8 +25,12 @@ pub record Happened (now : ℕ) (old : StageView) (es : List model.Event) (new :
   pub comes : ComesOn old es new
 
 -- they happen, or the fault is that of the first refused one
-abbrev pub Plays : ℕ → StageView → List model.Event → Result (Unit {0}) RunFault → StageView → Type 0
+abbrev pub Plays : {A : Type 0} → ℕ → StageView → List model.Event → Result A RunFault → StageView → Type 0
 Plays now old es result new = MatchResult result (λ _. Happened now old es new) (λ fault. Stops Err fault (all bus now es old.world))
+
+-- the first moment after now at which some tap may take a turn next
+abbrev pub IsFirst : WalkView → StageView → Option ℕ → Type 0
+IsFirst walk v first = first ≡ next_turn (plan_in walk) walk.clock 0 (dues v.world)
 
 -- ---- instants
 

@@ -1,19 +1,19 @@
 //! Plays a scenario's run, instant by instant.
 
-ghost use Rattle.std.specs.Prelude.{◌≡◌, ◌≤◌, ◌<◌, ◌∷◌, [], Ok, IfErr, OnOk, length, map};
+ghost use Rattle.std.specs.Prelude.{◌≡◌, ◌≤◌, ◌<◌, ◌∷◌, [], Ok, IfErr, IfOk, OnOk, length, map};
 ghost use Rattle.std.specs.Option.{option_map, option_to_list};
 ghost use Rattle.pb_timers.specs.Timers.{last_moment};
 ghost use Rattle.law_model.specs.World.{new_world};
 ghost use Rattle.pb_taps.specs.Events.{event_of};
 ghost use Rattle.pb_world.specs.Worlds.{due_at};
-ghost use Rattle.law_runs.specs.Runs.{next_turn, turns, wants};
-ghost use Rattle.law_runs.specs.Bus.{bus, dues};
+ghost use Rattle.law_runs.specs.Runs.{turns, wants};
+ghost use Rattle.law_runs.specs.Bus.{bus};
 ghost use Rattle.pb_scenario.specs.Steps.{deed_of, steps_of};
 ghost use Rattle.pb_scenario.specs.Said.{said_by, said_in};
 ghost use Rattle.pb_scenario.specs.Walks.{passes, plan_in};
 ghost use Rattle.pb_scenario.specs.Faults.{EndsBy};
 ghost use Rattle.pb_scenario.specs.Stages.{IsReady};
-ghost use Rattle.pb_scenario.specs.Plays.{Goes, IsPlayed, Plays, turn_if};
+ghost use Rattle.pb_scenario.specs.Plays.{Goes, IsFirst, IsPlayed, Plays, turn_if};
 
 use crate::deeds::{Deed, Step, When};
 use crate::faults::RunFault;
@@ -61,9 +61,9 @@ fn play_instant<S: Stage>(
 {
     let now = moment_of(walk);
     play_steps(alloc, stage, now, walk.today(), When::BeforeTurns)?;
-    play_turns(alloc, stage, now, walk)?;
-    play_steps(alloc, stage, now, walk.today(), When::AfterTurns)?;
-    let next = walk.next_by(next_turn(stage, walk), stage.bus().next_change());
+    let soonest = play_turns(alloc, stage, now, walk)?;
+    let turn = play_late(alloc, stage, now, walk, soonest)?;
+    let next = walk.next_by(turn, stage.bus().next_change());
     play_pass(alloc, stage, now, walk.pass_to(next))?;
     Ok(next)
 }
@@ -103,44 +103,73 @@ fn play_deed<S: Stage>(
     }
 }
 
-/// Plays the turns of the taps that are due and not withheld. A turn does not change when the other taps are due, so
-/// each tap is asked just before its own turn.
+/// Plays the turns of the taps that are due and not withheld, and returns the first moment after now at which some tap may
+/// take a turn next. A turn does not change when the other taps are due, so each tap is asked just before its own turn, and
+/// behind it only where it took one.
 fn play_turns<S: Stage>(
     alloc: Global,
     stage: &mut S,
     now: Moment,
     walk: &Walk<'_>,
-) -> Result<(), RunFault>
+) -> Result<Option<u64>, RunFault>
     requires taps { length (S.view stage.old).world.taps ≡ walk.now.taps }
     requires ready { IsReady (S.view stage.old) }
-    ensures { Plays now (S.view stage.old)
+    ensures plays { Plays now (S.view stage.old)
         (turns bus (plan_in walk.now) walk.now.clock (S.view stage.old).world) result (S.view stage.new) }
+    ensures first { IfOk result (IsFirst walk.now (S.view stage.new)) }
 {
+    let mut first = None;
     for tap in 0..walk.taps() {
-        play_turn(alloc, stage, now, walk, tap)?;
+        let due = play_turn(alloc, stage, now, walk, tap)?;
+        first = walk.sooner(first, tap, due);
     }
-    Ok(())
+    Ok(first)
 }
 
-/// Plays a tap's turn, if the tap is due now and not withheld.
+/// Plays a tap's turn, if the tap is due now and not withheld, and returns when it is due then.
 fn play_turn<S: Stage>(
     alloc: Global,
     stage: &mut S,
     now: Moment,
     walk: &Walk<'_>,
     tap: usize,
-) -> Result<(), RunFault>
+) -> Result<Option<Moment>, RunFault>
     requires tap { tap < walk.now.taps }
     requires ready { IsReady (S.view stage.old) }
-    ensures { Plays now (S.view stage.old)
+    ensures plays { Plays now (S.view stage.old)
         (turn_if (wants (plan_in walk.now) walk.now.clock tap (due_at (S.view stage.old).world tap)) tap)
         result (S.view stage.new) }
+    ensures due { IfOk result (λ due. due ≡ due_at (S.view stage.new).world tap) }
 {
-    if walk.wants(tap, stage.bus().due(tap)) {
-        happens(alloc, stage, now, &Event::Turn(tap))
-    } else {
-        Ok(())
+    let due = stage.bus().due(tap);
+    if walk.wants(tap, due.as_ref().copied()) {
+        happens(alloc, stage, now, &Event::Turn(tap))?;
+        return Ok(stage.bus().due(tap));
     }
+    Ok(due)
+}
+
+/// Plays the events that steps trigger after the turns, and returns the first moment after now at which some tap may take a
+/// turn next. Before them it was `first`.
+fn play_late<S: Stage>(
+    alloc: Global,
+    stage: &mut S,
+    now: Moment,
+    walk: &Walk<'_>,
+    first: Option<u64>,
+) -> Result<Option<u64>, RunFault>
+    requires taps { length (S.view stage.old).world.taps ≡ walk.now.taps }
+    requires ready { IsReady (S.view stage.old) }
+    ensures plays { Plays now (S.view stage.old) ((plan_in walk.now).late walk.now.clock) result
+        (S.view stage.new) }
+    ensures first { IfOk result (λ last. IsFirst walk.now (S.view stage.old) first
+        → IsFirst walk.now (S.view stage.new) last) }
+{
+    if walk.today().is_empty() {
+        return Ok(first);
+    }
+    play_steps(alloc, stage, now, walk.today(), When::AfterTurns)?;
+    Ok(next_turn(stage, walk))
 }
 
 /// Lets time pass, in bit times, if it does.
@@ -179,8 +208,7 @@ fn happens<S: Stage>(
 fn next_turn<S: Stage>(stage: &S, walk: &Walk<'_>) -> Option<u64>
     requires taps { length (S.view stage.now).world.taps ≡ walk.now.taps }
     requires ready { IsReady (S.view stage.now) }
-    ensures { result
-        ≡ next_turn (plan_in walk.now) walk.now.clock 0 (dues (S.view stage.entry.now).world) }
+    ensures { IsFirst walk.now (S.view stage.entry.now) result }
 {
     let mut first = None;
     for tap in 0..walk.taps() {

@@ -1,10 +1,10 @@
 -- A new world, and of what it is made.
-use Rattle.std.proofs.Common.{◌≡◌, ℕ, ◌+◌, zero, suc, List, [], ◌∷◌, ◌++◌, map, take, Some, None, Ok, refl, ap, sym, ◌∙◌, arith}
+use Rattle.std.proofs.Common.{◌≡◌, ℕ, ◌+◌, zero, suc, List, [], ◌∷◌, ◌++◌, map, take, Some, None, Ok, refl, ap, sym, subst, ◌∙◌, arith}
 use Rattle.std.specs.Prelude.{slice_get}
 use Rattle.std.proofs.lemmas.Option.{none-some, same_Some}
 use Rattle.pb_timers.specs.Timers.{Params}
 use Rattle.law_model.specs.Medium.{Tap, TapSpec}
-use Rattle.law_model.specs.World.{World, stopped_tap, new_faults, new_world, trace_limit}
+use Rattle.law_model.specs.World.{World, stopped_tap, new_faults, new_world, new_world_within, IsNewWorld, trace_limit}
 use Rattle.law_model.proofs.Worlds.{unless-Ok}
 use Rattle.law_runs.specs.Headline.{specs_of}
 use Rattle.pb_segment.specs.Origins.{Origin, IsMadeOf, IsMade, IsNew}
@@ -30,9 +30,15 @@ made_new p specs w new =
     let same : specs_of w ≡ specs = made_specs (record { params = p; specs = specs }) w new in
     ap (λ (q : Params). new_world q (specs_of w)) params ∙ ap (λ l. new_world p l) same ∙ new
 
+new_limit : (p : Params) (specs : List TapSpec) (w : World) → (new : IsNewWorld p specs w) → new.0 ≡ w.limit
+new_limit p specs w new = ap (λ (z : World). z.limit) (unless-Ok (new_faults p specs) (record { params = p; now = 0; trace = []; taps = map (stopped_tap p) specs; limit = new.0 }) w new.1).1
+
 -- a new world is made of its own origin
 pub own_origin : (w : World) → IsNew w → IsMade w
-own_origin w new = made_new new.p new.specs w new.run.made
+own_origin w new =
+    let run = new.0.run in
+    let limit : run.made.0 ≡ trace_limit = new_limit new.0.p new.0.specs w run.made ∙ new.1 in
+    made_new new.0.p new.0.specs w (subst (λ l. new_world_within l new.0.p new.0.specs ≡ Ok w) limit run.made.1)
 
 some_tap : (p : Params) (specs : List TapSpec) → (new_world p specs ≡ Ok (made p specs)) → slice_get (map (stopped_tap p) specs) 0 ≡ None → ⊥
 some_tap p [] new none = absurd cc

@@ -201,8 +201,8 @@ kept_new o w turns limit made new zeros bound =
       first = w;
       made = made;
       replays = refl;
-      lead = new;
-      promises = kept_promises w w [] new;
+      lead = new.0;
+      promises = kept_promises w w [] new.0;
       taps = sym len;
       counts = record {
         turns = λ i small. let inside : i < length w.taps = omega (arith, len, small) in ap (λ (l : List ℕ). slice_index l i) zeros ∙ get_or-replicate (length w.taps) i 0 0 inside;

@@ -2,7 +2,7 @@
 use Rattle.std.specs.Prelude.{◌≡◌, List, [], Ok}
 use Rattle.pb_timers.specs.Timers.{Params}
 use Rattle.law_model.specs.Medium.{TapSpec}
-use Rattle.law_model.specs.World.{World, new_world}
+use Rattle.law_model.specs.World.{World, new_world, trace_limit}
 use Rattle.law_runs.specs.Headline.{specs_of}
 use Rattle.law_live.specs.Promises.{LeadTo}
 
@@ -24,4 +24,4 @@ IsMade w = IsMadeOf (origin_of w) w
 
 -- a world is the new world of a bus: no events have led to it yet
 abbrev pub IsNew : World → Type 0
-IsNew w = LeadTo w [] w
+IsNew w = LeadTo w [] w × (w.limit ≡ trace_limit)

@@ -1,7 +1,9 @@
 -- What an instant of an audit leaves to be found.
-use Rattle.std.proofs.Common.{◌≡◌, ◌∙◌, ap, refl, sym, subst, arith, ℕ, suc, ◌+◌, List, [], ◌∷◌, ◌++◌, length, map, Option, Some, None, Result, Ok, Err}
+use Rattle.std.proofs.Common.{◌≡◌, ◌∙◌, ap, append-nil, refl, sym, subst, arith, ℕ, suc, ◌+◌, List, [], ◌∷◌, ◌++◌, length, map, Option, Some, None, Result, Ok, Err}
 use Rattle.std.specs.Prelude.{IfSome}
+use Rattle.std.specs.Option.{option_map}
 use Rattle.std.proofs.lemmas.List.{length-map}
+use Rattle.std.proofs.lemmas.Option.{none-some}
 use Rattle.pb_timers.specs.Timers.{Params}
 use Rattle.law_model.specs.Medium.{TapSpec}
 use Rattle.law_model.specs.Trace.{Entry, entry_begin}
@@ -24,7 +26,10 @@ use Rattle.pb_scenario.specs.Faults.{model_fault}
 use Rattle.pb_scenario.specs.Repeats.{StreamView, unrolled}
 use Rattle.pb_scenario.specs.Walks.{WalkView, new_walk, plan_in}
 use Rattle.pb_world.specs.Judges.{HasHeard}
-use Rattle.pb_world.specs.Watched.{world_in, IsAtEnd, IsFollowed, LetsGoOf}
+use Rattle.pb_world.specs.Auditing.{broken_at}
+use Rattle.pb_world.specs.Watched.{world_in, IsAtEnd, IsFollowed, IsOfRun, LetsGoOf}
+use Rattle.pb_world.proofs.Coming.{run-legal}
+use Rattle.pb_world.proofs.Lasting.{params-within, specs-within}
 use Rattle.pb_world.specs.declared.findings.Audit.{Audit}
 use Rattle.pb_world.specs.declared.judge.Judge.{Judge}
 use Rattle.pb_world.specs.declared.watched.Watched.{Watched}
@@ -40,25 +45,21 @@ use Rattle.pb_stream.proofs.Playing.{stops-so}
 
 -- ---- a new audit
 
-same-specs : (p : Params) (specs : List TapSpec) → map (λ t. t.spec) (map (stopped_tap p) specs) ≡ specs
-same-specs p [] = refl
-same-specs p (spec ∷ specs) = ap (λ (rest : List TapSpec). spec ∷ rest) (same-specs p specs)
-
 pub begins : (s : StreamView) (until : ℕ) (a : AuditStream) → new_world_within stream_limit s.once.scenario.params s.once.scenario.taps ≡ Ok (world_in a.watched)
-    → IsFollowed a.watched → IsAtEnd a.watched [] (no_events (world_in a.watched)) → HasHeard s.once.scenario.params s.once.scenario.taps [] a.judge
+    → IsFollowed a.watched → IsAtEnd a.watched [] (no_events (world_in a.watched)) → IsOfRun (no_events (world_in a.watched)) → HasHeard s.once.scenario.params s.once.scenario.taps [] a.judge
     → a.walk ≡ new_walk (unrolled until s).steps (length s.once.scenario.taps) until → a.found ≡ record { premise = None; illegal = None }
     → IsAuditOf (audited_within stream_limit (unrolled until s)) a
-begins s until a new followed at heard walk nothing =
+begins s until a new followed at came heard walk nothing =
     let p = s.once.scenario.params in
     let specs = s.once.scenario.taps in
     let w = world_in a.watched in
     let is : made stream_limit p specs ≡ w = (unless-Ok (new_faults p specs) (made stream_limit p specs) w new).1 in
-    let params : p ≡ w.params = ap (λ (w : World). w.params) is in
-    let taps : specs ≡ specs_of w = sym (same-specs p specs) ∙ ap specs_of is in
+    let params : p ≡ w.params = sym (params-within stream_limit p specs w new) in
+    let taps : specs ≡ specs_of w = sym (specs-within stream_limit p specs w new) in
     record {
       gone = [];
       course = no_events w;
-      from = record { at = record { kept = followed.kept; past = at.past; here = at.here; found = at.stands }; knows = at.knows };
+      from = record { at = record { kept = followed.kept; past = at.past; here = at.here; found = (at.stands, came) }; knows = at.knows };
       followed = followed;
       stands = subst Stands is tt;
       heard = subst (λ q. HasHeard q (specs_of w) [] a.judge) params (subst (λ ts. HasHeard p ts [] a.judge) taps heard);
@@ -75,6 +76,18 @@ begins s until a new followed at heard walk nothing =
 front-in-order : (from : ℕ) (xs ys : List Entry) → IsOrderedFrom from (xs ++ ys) → IsOrderedFrom from xs
 front-in-order from [] ys ordered = tt
 front-in-order from (x ∷ xs) ys ordered = (ordered.0, ordered.1, front-in-order (entry_begin x) xs ys ordered.2)
+
+-- none of the first of some entries is illegal if none of all is
+front-legal : (p : Params) (specs : List TapSpec) (xs ys : List Entry) → IsOrdered (xs ++ ys) → first_illegal p specs (xs ++ ys) ≡ None → (kept_of p specs xs).illegal ≡ None
+front-legal p specs xs ys ordered none = by (kept_of p specs xs).illegal refl
+  where
+    by : (o : Option ℕ) → (kept_of p specs xs).illegal ≡ o → o ≡ None
+    by None is = refl
+    by (Some place) is =
+        let later : first_illegal p specs (xs ++ ys) ≡ Some place =
+        sym (judged-as-heard p specs (xs ++ ys) ordered) ∙ ap (λ k. k.illegal) (hears-on p specs (nothing_kept specs) xs ys) ∙ illegal-stays p specs place (kept_of p specs xs) ys is in
+        let wrong : None ≡ Some place = sym none ∙ later in
+        absurd (none-some place wrong)
 
 -- the trace of a course that has led to a stage is in order
 in-order : (w : Watched) (old : List Entry) (c : Course) → IsAt (watched_view w) old c → Stands c.world → IsOrdered (old ++ (world_in w).trace)
@@ -101,16 +114,22 @@ module _ (whole : Option Audited) (s : AuditStream) (i : IsAuditOf whole s) (w :
       by.illegal after.world.params (specs_of after.world) (i.gone ++ more) still-heard ordered
       ∙ sym (judged-as-heard after.world.params (specs_of after.world) (i.gone ++ more) ordered)
 
-  pub stays : premise_of found ≡ after.broken → IsOrdered (i.gone ++ more) → StaysFound s.found found
-  stays premise ordered = record {
-    premise = λ b is. premise ∙ broken-stays b i.course after reached (sym i.premise ∙ is);
-    illegal = λ place is.
-        found-illegal ordered
-        ∙ ap (λ q. (kept_of q (specs_of after.world) (i.gone ++ more)).illegal) same-params
-        ∙ ap (λ ts. (kept_of i.course.world.params ts (i.gone ++ more)).illegal) same-taps
-        ∙ ap (λ k. k.illegal) (hears-on i.course.world.params (specs_of i.course.world) (nothing_kept (specs_of i.course.world)) i.gone more)
-        ∙ illegal-stays i.course.world.params (specs_of i.course.world) place (kept_of i.course.world.params (specs_of i.course.world) i.gone) more (sym i.illegal ∙ is);
-  }
+  pub stays : (rest : List Entry) → premise_of found ≡ after.broken → IsOrdered ((i.gone ++ more) ++ rest) → after.world.trace ≡ (i.gone ++ more) ++ rest → IsOfRun after → StaysFound s.found found
+  stays rest premise whole_ordered trace run =
+      let ordered = front-in-order 0 (i.gone ++ more) rest whole_ordered in
+      record {
+        premise = λ b is. premise ∙ broken-stays b i.course after reached (sym i.premise ∙ is);
+        illegal = λ place is.
+            found-illegal ordered
+            ∙ ap (λ q. (kept_of q (specs_of after.world) (i.gone ++ more)).illegal) same-params
+            ∙ ap (λ ts. (kept_of i.course.world.params ts (i.gone ++ more)).illegal) same-taps
+            ∙ ap (λ k. k.illegal) (hears-on i.course.world.params (specs_of i.course.world) (nothing_kept (specs_of i.course.world)) i.gone more)
+            ∙ illegal-stays i.course.world.params (specs_of i.course.world) place (kept_of i.course.world.params (specs_of i.course.world) i.gone) more (sym i.illegal ∙ is);
+        legal = λ none.
+            found-illegal ordered
+            ∙ front-legal after.world.params (specs_of after.world) (i.gone ++ more) rest whole_ordered
+            (ap (first_illegal after.world.params (specs_of after.world)) (sym trace) ∙ run-legal after run (sym premise ∙ ap (option_map broken_at) none));
+      }
 
   -- where all entries of the course are heard
   pub all-found : IsAt (watched_view w) i.gone after → more ≡ (world_in w).trace → (fault : Option RunFault)
@@ -118,13 +137,14 @@ module _ (whole : Option Audited) (s : AuditStream) (i : IsAuditOf whole s) (w :
   all-found at all fault =
       let stands = reached-stands i.course after reached i.stands in
       let ordered : IsOrdered (i.gone ++ more) = subst (λ es. IsOrdered (i.gone ++ es)) (sym all) (in-order w i.gone after at stands) in
-      let premise = by.premise after at.found in
+      let premise = by.premise after at.found.0 in
       let trace : i.gone ++ more ≡ after.world.trace = ap (λ es. i.gone ++ es) all ∙ sym (ap (λ (w : World). w.trace) at.here) in
+      let none = append-nil (i.gone ++ more) in
       let illegal : found.illegal ≡ illegal_in after.world =
       by.illegal after.world.params (specs_of after.world) (i.gone ++ more) still-heard ordered ∙ ap (first_illegal after.world.params (specs_of after.world)) trace in (
         ap (λ b. record { premise = b; illegal = illegal_in after.world; fault = fault }) (sym premise)
             ∙ ap (λ n. record { premise = premise_of found; illegal = n; fault = fault }) (sym illegal),
-        stays premise ordered,
+        stays [] premise (subst IsOrdered (sym none) ordered) (sym trace ∙ sym none) at.found.1,
       )
 
 -- ---- an instant
@@ -150,10 +170,12 @@ goes whole s new i mid at g next taps heard followed lets moved by =
     let after = g.after in
     let gone = past_of mid.bus.trace in
     let f = g.from.at in
-    let end : IsAtEnd new.watched (i.gone ++ gone) after = lets i.gone after (record { past = f.past; here = f.here; knows = g.from.knows; stands = f.found }) in
-    let here : IsAt (watched_view new.watched) (i.gone ++ gone) after = record { kept = followed.kept; past = end.past; here = end.here; found = end.stands } in
+    let end : IsAtEnd new.watched (i.gone ++ gone) after = lets i.gone after (record { past = f.past; here = f.here; knows = g.from.knows; stands = f.found.0 }) in
+    let here : IsAt (watched_view new.watched) (i.gone ++ gone) after = record { kept = followed.kept; past = end.past; here = end.here; found = (end.stands, f.found.1) } in
     let stands = reached-stands i.course after g.reached i.stands in
-    let ordered = front-in-order 0 (i.gone ++ gone) (world_in new.watched).trace (in-order new.watched (i.gone ++ gone) after here stands) in
+    let rest = (world_in new.watched).trace in
+    let whole_ordered = in-order new.watched (i.gone ++ gone) after here stands in
+    let ordered = front-in-order 0 (i.gone ++ gone) rest whole_ordered in
     let premise = by.premise after end.stands in
     let clock = ap (λ (v : WalkView). v.clock) moved in
     let until = ap (λ (v : WalkView). v.until) moved in (
@@ -177,7 +199,7 @@ goes whole s new i mid at g next taps heard followed lets moved by =
         until = until;
         later = omega (arith, clock, next.later);
       },
-      stays whole s i new.watched new.judge new.found after gone g.reached heard by premise ordered,
+      stays whole s i new.watched new.judge new.found after gone g.reached heard by rest premise whole_ordered (ap (λ (w : World). w.trace) end.here) f.found.1,
     )
 
 pub ends : (whole : Option Audited) (s : AuditStream) (i : IsAuditOf whole s) (mid : Watched) (judge : Judge) (found : Audit)

@@ -21,11 +21,11 @@ use Rattle.law_streams.proofs.PastSteps.{step-behind}
 use Rattle.pb_taps.specs.declared.faults.WorldFault.{WorldFault}
 use Rattle.pb_world.specs.Buses.{world_of, world_with}
 use Rattle.pb_world.specs.Worlds.{due_at}
-use Rattle.pb_world.proofs.Instants.{sooner-all, sooner-more}
 use Rattle.pb_scenario.specs.declared.deeds.When.{When}
 use Rattle.pb_scenario.specs.Faults.{model_fault}
 use Rattle.pb_scenario.specs.Plays.{turn_if}
 use Rattle.pb_scenario.specs.Said.{said_in, said_of}
+use Rattle.pb_scenario.proofs.Soonest.{Agrees, due-found}
 use Rattle.pb_stream.specs.Plays.{HappenedAt, Plays, StoppedAt}
 use Rattle.pb_stream.specs.Stages.{StageView, GoesFrom, IsAt}
 use Rattle.pb_stream.proofs.AnyInstants.{all-append, all-stops, watched-leave-others, watched-one-by-one}
@@ -126,15 +126,6 @@ module _ {X : Type 0} (f : X → Deed) (when : When) (i : ℕ) (xs : List X) (x 
 
 -- ---- turns
 
--- when a tap is due, in other words
-due-found : (w : World) (tap : ℕ) → runs.due_at (slice_get (dues w) tap) ≡ due_at w tap
-due-found w tap = by w.taps tap
-  where
-    by : (ts : List Tap) (i : ℕ) → runs.due_at (slice_get (map (due_in w) ts) i) ≡ option_and_then (λ t. due_in w t) (slice_get ts i)
-    by [] i = refl
-    by (t ∷ ts) zero = refl
-    by (t ∷ ts) (suc i) = by ts i
-
 -- a tap's turn, if it takes one, and those of this many taps behind it
 abbrev from_tap : Plan Event → ℕ → ℕ → ℕ → Course → Bool → Result Course (ℕ × (Course × Fault))
 from_tap p clock k tap c b =
@@ -204,34 +195,6 @@ turns-refused p clock n tap old first v mid new fault at count less left stops =
     (stops clock old c left.1)
 
 -- ---- the first moment at which some tap may take a turn next
-
--- the taps in front of one are due when they are due in another world
-abbrev pub Agrees : ℕ → World → World → Type 0
-Agrees n a b = (j : ℕ) → j < n → slice_get (dues a) j ≡ slice_get (dues b) j
-
--- Of the taps in front of one this is the first moment: so far, whenever those behind are due.
-abbrev pub ComesSoFar : Plan Event → (clock n tap : ℕ) → World → Option ℕ → Type 0
-ComesSoFar p clock n tap w first =
-    (v : World) → length v.taps ≡ n → Agrees tap v w → earlier first (next_turn p clock tap (drop tap (dues v))) ≡ next_turn p clock 0 (dues v)
-
-pub so-far-none : (p : Plan Event) (clock n : ℕ) (w : World) → ComesSoFar p clock n 0 w None
-so-far-none p clock n w v count agrees = by (next_turn p clock 0 (dues v))
-  where
-    by : (o : Option ℕ) → earlier None o ≡ o
-    by None = refl
-    by (Some m) = refl
-
-pub so-far-more : (p : Plan Event) (clock n tap : ℕ) (w u : World) (first next : Option ℕ) → tap < n → Agrees tap u w → next ≡ earlier first (comes p clock tap (due_at u tap))
-    → ComesSoFar p clock n tap w first → ComesSoFar p clock n (tap + 1) u next
-so-far-more p clock n tap w u first next less leaves is so_far v count agrees =
-    let same : due_at u tap ≡ due_at v tap =
-    sym (due-found u tap) ∙ ap (λ o. runs.due_at o) (sym (agrees tap (omega arith))) ∙ due-found v tap in
-    sooner-more p clock v tap first next (next_turn p clock 0 (dues v)) (omega (arith, less, count)) (is ∙ ap (λ d. earlier first (comes p clock tap d)) same)
-    (so_far v count (λ j front. agrees j (omega (arith, front)) ∙ leaves j front))
-
-pub so-far-all : (p : Plan Event) (clock n tap : ℕ) (w : World) (first : Option ℕ) → n ≤ tap → length w.taps ≡ n → ComesSoFar p clock n tap w first
-    → first ≡ next_turn p clock 0 (dues w)
-so-far-all p clock n tap w first past count so_far = sooner-all p clock w tap first (next_turn p clock 0 (dues w)) (omega (arith, past, count)) (so_far w count (λ j front. refl))
 
 -- a tap's turn leaves when those in front of it are due
 pub turn-agrees : (clock tap : ℕ) (old : List Entry) (c : Course) (v new : StageView) (b : Bool) → IsAt v old c → HappenedAt clock old c (turn_if b tap) new

@@ -2,7 +2,8 @@
 use Rattle.std.proofs.Common.{◌≡◌, ◌∙◌, ap, sym, subst, [], ◌∷◌, length, Result, Ok, Err}
 use Rattle.std.specs.Prelude.{IfErr, OnErr, OnOk}
 use Rattle.law_model.specs.Behind.{behind, IsPast}
-use Rattle.law_model.specs.World.{Event, Reply}
+use Rattle.law_model.specs.Laws.{IsEvent}
+use Rattle.law_model.specs.World.{World, Event, Reply}
 use Rattle.law_model.specs.Step.{step}
 use Rattle.law_runs.specs.Premises.{followed}
 use Rattle.law_runs.specs.Watching as watching
@@ -16,6 +17,8 @@ use Rattle.pb_world.specs.Premises.{watched_of}
 use Rattle.pb_world.specs.Watched.{world_in, LeadsOnBy}
 use Rattle.pb_world.specs.declared.buses.Bus.{Bus}
 use Rattle.pb_world.specs.declared.watched.Watched.{Watched}
+use Rattle.pb_world.proofs.Behind.{steps-behind}
+use Rattle.pb_world.proofs.Coming.{run-on}
 use Rattle.pb_scenario.proofs.Playing.{refused-by}
 use Rattle.pb_stream.specs.Plays.{Plays, StoppedAt}
 use Rattle.pb_stream.specs.Stages.{bus_view, watched_view}
@@ -50,17 +53,19 @@ bus-counts bus next e (Err fault) does = tt
 
 -- ---- a watched bus
 
-pub watched-plays : (w next : Watched) (e : Event) (result : Result (Unit {0}) WorldFault) → IsKept next.bus → OnOk result (LeadsOnBy w e next)
+pub watched-plays : (w next : Watched) (e : Event) (result : Result (Unit {0}) WorldFault) → IsKept next.bus → IsEvent e → OnOk result (LeadsOnBy w e next)
     → OnOk result ((reply : Reply) × (step (world_in w) e ≡ Ok (world_in next, reply)))
     → IfErr result (λ fault. (world_in next ≡ world_in w) × Refuses (world_in w) e (step (world_in w) e) fault)
     → OnErr result (watched_of next.watch ≡ watched_of w.watch) → Plays (watched_view w) (e ∷ []) result (watched_view next)
-watched-plays w next e (Ok u) kept leads (reply, does) err found now old c from =
-    let end = leads old c (record { past = from.at.past; here = from.at.here; knows = from.knows; stands = from.at.found }) in (
+watched-plays w next e (Ok u) kept is leads (reply, does) err found now old c from =
+    let end = leads old c (record { past = from.at.past; here = from.at.here; knows = from.knows; stands = from.at.found.0 }) in
+    let steps = ap (λ (x : World). step x e) from.at.here ∙ steps-behind old (world_in w) (world_in next) e reply from.at.past does in
+    let run = run-on c (behind old (world_in next)) e reply is steps from.at.found.1 in (
       followed c e (step c.world e),
-      record { at = record { kept = kept; past = end.past; here = end.here; found = end.stands }; knows = end.knows },
+      record { at = record { kept = kept; past = end.past; here = end.here; found = (end.stands, run) }; knows = end.knows },
       one-happened old c (world_in w) e from.at.past from.at.here now (world_in next) reply does,
     )
-watched-plays w next e (Err fault) kept leads steps (same, refuses) found now old c from =
+watched-plays w next e (Err fault) kept is leads steps (same, refuses) found now old c from =
     stops-so fault (λ f. step (world_in w) e ≡ Err f) (λ f. StoppedAt now old c (e ∷ []) f (watched_view next))
     (λ f err. (
       c,
@@ -68,7 +73,7 @@ watched-plays w next e (Err fault) kept leads steps (same, refuses) found now ol
         kept = kept;
         past = subst (IsPast old) (sym same) from.at.past;
         here = from.at.here ∙ ap (behind old) (sym same);
-        found = subst (λ (v : watching.Watched). StandsFor v c) (sym found) from.at.found;
+        found = (subst (λ (v : watching.Watched). StandsFor v c) (sym found) from.at.found.0, from.at.found.1);
       },
       one-refused old c (world_in w) e from.at.past from.at.here now f err,
     ))

@@ -15,7 +15,7 @@ use Rattle.law_streams.specs.Audits.{Audited, audited_of, watched_bus}
 use Rattle.law_streams.specs.Judgement.{kept_of}
 use Rattle.pb_scenario.specs.Faults.{model_fault}
 use Rattle.pb_scenario.specs.Walks.{plan_in}
-use Rattle.pb_world.specs.Auditing.{broken_at}
+use Rattle.pb_world.specs.Auditing.{broken_at, IsLegalIfKept}
 use Rattle.pb_world.specs.Judges.{HasHeard}
 use Rattle.pb_world.specs.Premises.{watched_of}
 use Rattle.pb_world.specs.Watched.{world_in, IsFollowed}
@@ -36,10 +36,11 @@ premise_of found = option_map broken_at found.premise
 abbrev pub found_with : Audit → Option RunFault → Audited
 found_with found fault = record { premise = premise_of found; illegal = found.illegal; fault = fault }
 
--- what was found once is not found otherwise later
+-- what was found once is not found otherwise later; while no premise is broken, no record is illegal
 pub record StaysFound (old new : Audit) : Type 0 where
   pub premise : (b : Broken) → premise_of old ≡ Some b → premise_of new ≡ Some b
   pub illegal : (place : ℕ) → old.illegal ≡ Some place → new.illegal ≡ Some place
+  pub legal : IsLegalIfKept new
 
 -- it is what a watch has found in the events of a course, and what a judge has in the entries that it has heard
 pub record IsFoundBy (w : Watched) (judge : Judge) (found : Audit) : Type 0 where

@@ -6,7 +6,7 @@ use Rattle.law_runs.specs.Premises.{Course}
 use Rattle.law_runs.specs.Watching.{StandsFor}
 use Rattle.pb_world.specs.Buses.{world_of, world_with, IsKept}
 use Rattle.pb_world.specs.Premises.{Knows, watched_of}
-use Rattle.pb_world.specs.Watched.{IsFollowed}
+use Rattle.pb_world.specs.Watched.{IsFollowed, IsOfRun}
 use Rattle.pb_world.specs.declared.buses.Bus.{Bus}
 use Rattle.pb_world.specs.declared.watched.Watched.{Watched}
 
@@ -35,10 +35,10 @@ pub record GoesFrom (v : StageView) (old : List Entry) (c : Course) : Type 0 whe
   pub at : IsAt v old c
   pub knows : v.knows old
 
--- ---- the stages
+-- ---- the stages: a bus; and a watched one, whose watch stands for the course of a run
 
 abbrev pub bus_view : Bus → StageView
 bus_view bus = record { bus = bus; ready = IsKept bus; knows = λ old. Unit {0}; found = λ c. Unit {0} }
 
 abbrev pub watched_view : Watched → StageView
-watched_view w = record { bus = w.bus; ready = IsFollowed w; knows = λ old. Knows w.watch (world_with old w.bus); found = StandsFor (watched_of w.watch) }
+watched_view w = record { bus = w.bus; ready = IsFollowed w; knows = λ old. Knows w.watch (world_with old w.bus); found = λ c. StandsFor (watched_of w.watch) c × IsOfRun c }

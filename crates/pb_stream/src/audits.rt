@@ -1,16 +1,10 @@
 //! The audit of a scenario's run as it happens, in memory that does not grow with the run.
 
-ghost use Rattle.std.specs.Prelude.{◌≡◌, ◌++◌, List, OnOk, map};
-ghost use Rattle.law_model.specs.Medium as model;
-ghost use Rattle.law_model.specs.Trace as trace;
-ghost use Rattle.pb_medium.specs.Entries.{entry_of};
-ghost use Rattle.pb_timers.specs.Timers.{Params};
-ghost use Rattle.pb_world.specs.Judges.{HasHeard};
 ghost use Rattle.pb_stream.specs.Audits.{IsFoundBy};
 
 use crate::plays::play_instant;
 use crate::streams::{ENTRIES, Progress};
-use pb_scenario::{Audit, Entry, NewFault, StreamScenario, StreamWalk, WorldFault};
+use pb_scenario::{Audit, NewFault, StreamScenario, StreamWalk, WorldFault};
 use pb_world::{Judge, Watched, new_watched_within};
 use std::alloc::{AllocError, Global};
 
@@ -95,17 +89,17 @@ impl<'a> AuditStream<'a> {
         let progress = match play_instant(alloc, &mut self.watched, &self.walk) {
             Ok(Some(at)) => {
                 self.walk.go_to(at);
-                hear_all(&mut self.judge, self.watched.bus().past())?;
+                self.judge.hear_all(self.watched.bus().past())?;
                 self.watched.let_go();
                 Progress::Goes
             }
             Ok(None) => {
-                hear_all(&mut self.judge, self.watched.bus().trace.entries())?;
+                self.judge.hear_all(self.watched.bus().trace.entries())?;
                 Progress::Ended
             }
             Err(WorldFault::NoMemory) => return Err(AllocError),
             Err(fault) => {
-                hear_all(&mut self.judge, self.watched.bus().trace.entries())?;
+                self.judge.hear_all(self.watched.bus().trace.entries())?;
                 Progress::Refused {
                     clock: self.walk.now(),
                     fault,
@@ -125,19 +119,4 @@ fn findings(watched: &Watched, judge: &Judge) -> Audit
         premise: watched.broken(),
         illegal: judge.illegal(),
     }
-}
-
-/// A judge hears some entries, one after another.
-///
-/// Fault: that of [`Judge::hear`].
-fn hear_all(judge: &mut Judge, entries: &[Entry]) -> Result<(), AllocError>
-    ensures { OnOk result
-        ((p : Params) (specs : List model.TapSpec) (before : List trace.Entry)
-        → HasHeard p specs before judge.old
-        → HasHeard p specs (before ++ map entry_of entries.now) judge.new) }
-{
-    for entry in entries {
-        judge.hear(entry)?;
-    }
-    Ok(())
 }

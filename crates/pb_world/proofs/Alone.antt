@@ -14,7 +14,7 @@ use Rattle.pb_world.specs.Acted.{HasActed}
 use Rattle.pb_world.specs.Driven.{Applies, ComesOn, Stays}
 use Rattle.pb_world.specs.RunTo.{alone_until, GoesOn, Happened, HasRun, HasStopped, passes_to, Plays, run_to, run_with, Stopped, StopsIn, turn_if}
 use Rattle.pb_world.specs.Told.{tray_at}
-use Rattle.pb_world.specs.Watched.{IsWatched, world_in}
+use Rattle.pb_world.specs.Watched.{IsFollowed, world_in}
 use Rattle.pb_world.specs.Worlds.{due_at}
 use Rattle.pb_world.specs.declared.watched.Watched.{Watched}
 use Rattle.law_token.proofs.whole.JoinedRuns.{runs_join}
@@ -23,22 +23,22 @@ use Rattle.pb_world.proofs.Instants.{all-append, due-get, front-front, no-front,
 
 -- ---- events of a moment
 
-pub happened-none : (now : ℕ) (w : Watched) → IsWatched w → Happened now w [] w
-happened-none now w watched = record {
+pub happened-none : (now : ℕ) (w : Watched) → IsFollowed w → Happened now w [] w
+happened-none now w followed = record {
   world = refl;
   comes = record {
-    acts = λ start actions came. subst (HasActed w start) (sym (append-nil actions)) came;
+    acts = λ gone start actions came. subst (HasActed w gone start) (sym (append-nil actions)) came;
     runs = refl;
     told = λ k. sym (tray-none (tray_at w.told k));
   };
-  watched = watched;
+  followed = followed;
 }
 
 comes-join : (a b c : Watched) (xs ys : List Event) → ComesOn a xs b → ComesOn b ys c → ComesOn a (xs ++ ys) c
 comes-join a b c xs ys one two = record {
-  acts = λ start actions came.
-      subst (HasActed c start) (append_assoc actions (map Happens xs) (map Happens ys) ∙ ap (λ more. actions ++ more) (sym (map-append Happens xs ys)))
-      (two.acts start (actions ++ map Happens xs) (one.acts start actions came));
+  acts = λ gone start actions came.
+      subst (HasActed c gone start) (append_assoc actions (map Happens xs) (map Happens ys) ∙ ap (λ more. actions ++ more) (sym (map-append Happens xs ys)))
+      (two.acts gone start (actions ++ map Happens xs) (one.acts gone start actions came));
   runs = runs_join xs ys (world_in a) (world_in c) (world_in b, one.runs, two.runs);
   told = told-join a b c xs ys one.runs one.told two.told;
 }
@@ -47,14 +47,14 @@ pub happened-join : (now : ℕ) (a b c : Watched) (xs ys : List Event) → Happe
 happened-join now a b c xs ys one two = record {
   world = all-append now xs ys (world_in a) (world_in b) one.world ∙ two.world;
   comes = comes-join a b c xs ys one.comes two.comes;
-  watched = two.watched;
+  followed = two.followed;
 }
 
-one-happened : (now : ℕ) (old new : Watched) (e : Event) (reply : Reply) → IsWatched new → ComesOn old (e ∷ []) new → step (world_in old) e ≡ Ok (world_in new, reply) → Happened now old (e ∷ []) new
-one-happened now old new e reply watched comes goes = record { world = one-ok now (world_in old) (world_in new) reply e [] goes; comes = comes; watched = watched }
+one-happened : (now : ℕ) (old new : Watched) (e : Event) (reply : Reply) → IsFollowed new → ComesOn old (e ∷ []) new → step (world_in old) e ≡ Ok (world_in new, reply) → Happened now old (e ∷ []) new
+one-happened now old new e reply followed comes goes = record { world = one-ok now (world_in old) (world_in new) reply e [] goes; comes = comes; followed = followed }
 
-one-stopped : (now : ℕ) (old new : Watched) (e : Event) (fault : WorldFault) → IsWatched new → Stays old new → Refuses (world_in old) e (step (world_in old) e) fault → Stopped now old (e ∷ []) fault new
-one-stopped now old new e fault watched stays why = record {
+one-stopped : (now : ℕ) (old new : Watched) (e : Event) (fault : WorldFault) → IsFollowed new → Stays old new → Refuses (world_in old) e (step (world_in old) e) fault → Stopped now old (e ∷ []) fault new
+one-stopped now old new e fault followed stays why = record {
   before = [];
   refused = e;
   rest = [];
@@ -62,19 +62,19 @@ one-stopped now old new e fault watched stays why = record {
   happened = record {
     world = ap (λ (w : World). Ok w) (sym stays.rest.world);
     comes = record {
-      acts = λ start actions came. subst (HasActed new start) (sym (append-nil actions)) (stays.rest.came start actions came);
+      acts = λ gone start actions came. subst (HasActed new gone start) (sym (append-nil actions)) (stays.rest.came gone start actions came);
       runs = sym stays.rest.world;
       told = λ k. stays.told k ∙ sym (tray-none (tray_at old.told k));
     };
-    watched = watched;
+    followed = followed;
   };
   why = subst (λ (w : World). Refuses w e (step w e) fault) (sym stays.rest.world) why;
 }
 
 -- an event that is applied is played
-pub plays-one : (now : ℕ) (old new : Watched) (e : Event) (result : Result (Unit {0}) WorldFault) → IsWatched new → Applies old e result new → Plays now old (e ∷ []) result new
-plays-one now old new e (Ok done) watched (comes, steps) = one-happened now old new e steps.0 watched comes steps.1
-plays-one now old new e (Err fault) watched (stays, why) = one-stopped now old new e fault watched stays why
+pub plays-one : (now : ℕ) (old new : Watched) (e : Event) (result : Result (Unit {0}) WorldFault) → IsFollowed new → Applies old e result new → Plays now old (e ∷ []) result new
+plays-one now old new e (Ok done) followed (comes, steps) = one-happened now old new e steps.0 followed comes steps.1
+plays-one now old new e (Err fault) followed (stays, why) = one-stopped now old new e fault followed stays why
 
 -- events that stop are the first of some
 pub stopped-front : (now : ℕ) (old new : Watched) (xs ys : List Event) (fault : WorldFault) → Stopped now old xs fault new → Stopped now old (xs ++ ys) fault new
@@ -115,8 +115,8 @@ pub record HaveTurned (until now tap : ℕ) (old new : Watched) : Type 0 where
   pub left : taps ++ places tap (wanted (alone_until until) now tap (drop tap (dues (world_in old)))) ≡ places 0 (wanted (alone_until until) now 0 (dues (world_in old)))
   pub others : (other : ℕ) → tap ≤ other → slice_get (dues (world_in new)) other ≡ slice_get (dues (world_in old)) other
 
-pub none-turned : (until now : ℕ) (w : Watched) → IsWatched w → HaveTurned until now 0 w w
-none-turned until now w watched = record { taps = []; happened = happened-none now w watched; left = refl; others = λ other behind. refl }
+pub none-turned : (until now : ℕ) (w : Watched) → IsFollowed w → HaveTurned until now 0 w w
+none-turned until now w followed = record { taps = []; happened = happened-none now w followed; left = refl; others = λ other behind. refl }
 
 abbrev left_behind : ℕ → ℕ → ℕ → Watched → List ℕ
 left_behind until now tap old = places (tap + 1) (wanted (alone_until until) now (tap + 1) (drop (tap + 1) (dues (world_in old))))
@@ -203,7 +203,7 @@ goes-on until now old b new t one is later two =
       rest = λ before left. ap (with_front before) (run-instant until left now (world_in old) (world_in b) (world_in new) t one.world is two.world)
           ∙ rest-ending left p before (turned ++ passed) t (world_in new);
       later = later;
-      watched = two.watched;
+      followed = two.followed;
     }
 
 pub stops-turns : (until now : ℕ) (old new : Watched) (fault : WorldFault) → Stopped now old (turns bus (alone_until until) now (world_in old)) fault new → StopsIn until now old fault new
@@ -215,7 +215,7 @@ stops-turns until now old new fault stops = record {
       (run-unfolds until left now (world_in old)
       ∙ ap (λ o. on_ok o (from_turns until left now (world_in old))) (stopped-err now old new (turns bus (alone_until until) now (world_in old)) fault stops f err));
   comes = stops.happened.comes;
-  watched = stops.happened.watched;
+  followed = stops.happened.followed;
 }
 
 pub stops-passing : (until now : ℕ) (old b new : Watched) (t : Option ℕ) (fault : WorldFault) → Happened now old (turns bus (alone_until until) now (world_in old)) b
@@ -234,7 +234,7 @@ stops-passing until now old b new t fault one is stops =
           ∙ ap (λ o. on_ok o (λ x. ending nx (turned ++ passing bus p now nx) x (run left bus p)))
           (subst (λ (o : Option ℕ). all bus now (passing bus p now o) (world_in b) ≡ Err (now, f)) is (stopped-err now b new (passing bus p now t) fault stops f err)));
       comes = comes-join old b new turned stops.before one.comes stops.happened.comes;
-      watched = stops.happened.watched;
+      followed = stops.happened.followed;
     }
 
 -- time passes to the next instant, or to the end
@@ -250,14 +250,14 @@ pub record IsRest (until : ℕ) (old : Watched) (now : ℕ) (new : Watched) : Ty
   pub events : List Event
   pub comes : ComesOn old events new
   pub rest : (left : ℕ) → (instants : ℕ) × (run_to instants until (world_in old) ≡ run_with events (alone_until until) left (Some now) (world_in new))
-  pub watched : IsWatched new
+  pub followed : IsFollowed new
 
-pub rest-begins : (until now : ℕ) (w : Watched) → now ≡ (world_in w).now → IsWatched w → IsRest until w now w
-rest-begins until now w is watched = record {
+pub rest-begins : (until now : ℕ) (w : Watched) → now ≡ (world_in w).now → IsFollowed w → IsRest until w now w
+rest-begins until now w is followed = record {
   events = [];
-  comes = (happened-none now w watched).comes;
+  comes = (happened-none now w followed).comes;
   rest = λ left. (left, ap (λ n. run left bus (alone_until until) n (world_in w)) (sym is) ∙ sym (no-front (run left bus (alone_until until) now (world_in w))));
-  watched = watched;
+  followed = followed;
 }
 
 after-instant : (until now : ℕ) (first old new : Watched) (t : Option ℕ) → (goes : GoesOn until now old t new) (rest : IsRest until first now old) (left : ℕ)
@@ -270,7 +270,7 @@ rest-goes until now at first old new goes rest = record {
   events = rest.events ++ goes.events;
   comes = comes-join first old new rest.events goes.events rest.comes goes.comes;
   rest = after-instant until now first old new (Some at) goes rest;
-  watched = goes.watched;
+  followed = goes.followed;
 }
 
 pub rest-ends : (until now : ℕ) (first old new : Watched) → GoesOn until now old None new → IsRest until first now old → HasRun until first new

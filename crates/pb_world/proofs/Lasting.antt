@@ -15,6 +15,7 @@ use Rattle.law_model.specs.World as world
 use Rattle.law_model.specs.World.{World, Event, Turn, Pass, Damage, Start, Stop, Queue, Unheard, Reply, Fault, NoSuchTap, NotRunning, NothingInAir, ZeroTime, QueueFull, TraceFull, trace_limit, queue_limit, is_in_air_by, new_faults, new_world, new_world_within, stopped_tap}
 use Rattle.law_model.specs.Step.{step, step_turn, step_pass, step_damage, step_queue, step_noise, step_unheard, told, pass_faults, with_said, with_hit, change_first, has_place, with_noise, is_noisy, world_after}
 use Rattle.law_model.proofs.Worlds.{world_after-unless, unless-Ok}
+use Rattle.law_runs.specs.Headline.{specs_of}
 use Rattle.law_runs.specs.Premises.{runs_at, has_namesakes, has_waited, waited_by}
 use Rattle.law_runs.specs.Quiet.{quiet_in}
 use Rattle.pb_taps.specs.Events.{event_of}
@@ -180,6 +181,21 @@ namesakes-within limit p specs w ok =
 
 pub namesakes-new : (p : Params) (specs : List TapSpec) (w : World) → new_world p specs ≡ Ok w → has_namesakes w.taps ≡ false
 namesakes-new p specs w ok = namesakes-within trace_limit p specs w ok
+
+-- its trace may have so many entries
+pub limit-within : (limit : ℕ) (p : Params) (specs : List TapSpec) (w : World) → new_world_within limit p specs ≡ Ok w → w.limit ≡ limit
+limit-within limit p specs w ok = ap (λ (x : World). x.limit) (sym (unless-Ok (new_faults p specs) (made-within limit p specs) w ok).1)
+
+-- it has the parameters and the taps that it was made with
+pub params-within : (limit : ℕ) (p : Params) (specs : List TapSpec) (w : World) → new_world_within limit p specs ≡ Ok w → w.params ≡ p
+params-within limit p specs w ok = ap (λ (x : World). x.params) (sym (unless-Ok (new_faults p specs) (made-within limit p specs) w ok).1)
+
+stopped-specs : (p : Params) (specs : List TapSpec) → map (λ t. t.spec) (map (stopped_tap p) specs) ≡ specs
+stopped-specs p [] = refl
+stopped-specs p (spec ∷ specs) = ap (λ (rest : List TapSpec). spec ∷ rest) (stopped-specs p specs)
+
+pub specs-within : (limit : ℕ) (p : Params) (specs : List TapSpec) (w : World) → new_world_within limit p specs ≡ Ok w → specs_of w ≡ specs
+specs-within limit p specs w ok = ap specs_of (sym (unless-Ok (new_faults p specs) (made-within limit p specs) w ok).1) ∙ stopped-specs p specs
 
 -- nothing was sent in it
 pub empty-within : (limit : ℕ) (p : Params) (specs : List TapSpec) (w : World) → new_world_within limit p specs ≡ Ok w → w.trace ≡ []

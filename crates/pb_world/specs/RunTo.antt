@@ -7,7 +7,7 @@ use Rattle.law_runs.specs.Bus.{bus}
 use Rattle.pb_taps.specs.Faults.{Refuses}
 use Rattle.pb_taps.specs.declared.faults.WorldFault.{WorldFault}
 use Rattle.pb_world.specs.Driven.{ComesOn}
-use Rattle.pb_world.specs.Watched.{IsWatched, world_in}
+use Rattle.pb_world.specs.Watched.{IsFollowed, world_in}
 use Rattle.pb_world.specs.declared.watched.Watched.{Watched}
 
 -- nothing happens from outside up to a moment, and no tap is withheld
@@ -39,7 +39,7 @@ pub record HasStopped (until : ℕ) (fault : WorldFault) (old new : Watched) : T
 pub record Happened (now : ℕ) (old : Watched) (es : List Event) (new : Watched) : Type 0 where
   pub world : all bus now es (world_in old) ≡ Ok (world_in new)
   pub comes : ComesOn old es new
-  pub watched : IsWatched new
+  pub followed : IsFollowed new
 
 -- those before a refused one have happened
 pub record Stopped (now : ℕ) (old : Watched) (es : List Event) (fault : WorldFault) (new : Watched) : Type 0 where
@@ -75,7 +75,7 @@ pub record GoesOn (until now : ℕ) (old : Watched) (next : Option ℕ) (new : W
   pub rest : (before : List Event) (left : ℕ)
       → run_with before (alone_until until) (suc left) (Some now) (world_in old) ≡ run_with (before ++ events) (alone_until until) left next (world_in new)
   pub later : IfSome next (λ moment. (now < moment) × (moment ≤ until))
-  pub watched : IsWatched new
+  pub followed : IsFollowed new
 
 -- the run stops in the instant, before a refused event
 pub record StopsIn (until now : ℕ) (old : Watched) (fault : WorldFault) (new : Watched) : Type 0 where
@@ -85,7 +85,7 @@ pub record StopsIn (until now : ℕ) (old : Watched) (fault : WorldFault) (new :
   pub ends : (f : Fault) → step (world_in new) refused ≡ Err f
       → (before : List Event) (left : ℕ) → run_with before (alone_until until) (suc left) (Some now) (world_in old) ≡ Some (Err (now, f))
   pub comes : ComesOn old events new
-  pub watched : IsWatched new
+  pub followed : IsFollowed new
 
 abbrev pub Goes : ℕ → ℕ → Watched → Result (Option ℕ) WorldFault → Watched → Type 0
 Goes until now old result new = MatchResult result (λ next. GoesOn until now old next new) (λ fault. StopsIn until now old fault new)

@@ -45,6 +45,10 @@ FindsIn w found = (p : Params) (specs : List TapSpec) (start : World) (events : 
 
 -- ---- a bus whose past may be let go
 
+-- valid events have led to the world of a course from the new world of a bus
+abbrev pub IsOfRun : Course → Type 0
+IsOfRun c = (start : World) × (events : List Event) × LeadTo start events c.world × (c ≡ course_at start events)
+
 -- The watched bus is at the end of a course of events, in whose trace these entries stand in front of its own: they are
 -- over, and were let go.
 pub record IsAtEnd (w : Watched) (old : List Entry) (c : Course) : Type 0 where

@@ -1,6 +1,6 @@
 //! What a judge keeps of the entries on the bus: the latest ends of those that have begun at all taps, and the others.
 
-ghost use Rattle.std.specs.Prelude.{◌≡◌, ◌≤◌, drop, get_or, length, map};
+ghost use Rattle.std.specs.Prelude.{◌≡◌, ◌≤◌, IfOk, drop, get_or, length, map};
 ghost use Rattle.law_streams.specs.Judgement.{ends_by, ends_with, recent_at};
 ghost use Rattle.pb_world.specs.Airtimes.{air_of};
 
@@ -66,6 +66,19 @@ impl Air {
         Ok(())
     }
 
+    /// The same once more.
+    ///
+    /// Fault: memory was refused.
+    pub(crate) fn copied(&self, alloc: Global) -> Result<Air, AllocError>
+        ensures ends { IfOk result (λ air. air.ends.items ≡ self.now.ends.items) }
+        ensures recent { IfOk result (λ air. air.recent.items ≡ self.now.recent.items) }
+    {
+        Ok(Air {
+            ends: copied(alloc, &self.ends)?,
+            recent: copied(alloc, &self.recent)?,
+        })
+    }
+
     /// Whether no entry so far was active at a tap in `from` to `to`, `to` excluded and no earlier than the begin of the
     /// newest one.
     pub(crate) fn was_silent(&self, delay: u32, tap: usize, from: u64, to: u64) -> bool
@@ -90,6 +103,17 @@ fn settle(ends: &mut [u64], recent: &[Airtime], delay: u32, moment: u64) -> usiz
         take_in(ends, delay, airtime);
     }
     recent.len()
+}
+
+/// The elements of a list in a list of their own.
+///
+/// Fault: memory was refused.
+pub(crate) fn copied<T: Copy>(alloc: Global, list: &[T]) -> Result<Vec<T>, AllocError>
+    ensures { IfOk result (λ copy. copy.items ≡ list.now) }
+{
+    let mut copy = Vec::new(alloc);
+    copy.extend_from_slice(list)?;
+    Ok(copy)
 }
 
 /// The latest end at a tap; 0 if there is no such tap.

@@ -1,27 +1,33 @@
 //! A bus that a caller drives: by events, and by itself up to a moment.
 
-ghost use Rattle.std.specs.Prelude.{◌≡◌, true, is_some, IsSome, IfErr, OnOk};
+ghost use Rattle.std.specs.Prelude.{◌≡◌, true, is_some, IsSome, IfErr, IfOk, OnErr, OnOk, length};
 ghost use Rattle.law_model.specs.World.{Turn};
+ghost use Rattle.pb_medium.specs.LettingGo.{past_of};
 ghost use Rattle.pb_taps.specs.Events.{event_of};
-ghost use Rattle.pb_world.specs.Driven.{Applies, Forgets, KeepsFrom, RefusesToKeep, SetsReply, StaysBut};
+ghost use Rattle.pb_world.specs.Driven.{Applies, Forgets, KeepsFrom, LetsGo, RefusesToKeep, SetsReply, StaysBut};
 ghost use Rattle.pb_world.specs.Premises.{time_in};
 ghost use Rattle.pb_world.specs.Told.{tray_at};
-ghost use Rattle.pb_world.specs.Watched.{IsWatched};
+ghost use Rattle.pb_world.specs.Watched.{IsFollowed};
 
 use crate::buses::Bus;
 use crate::findings::Audit;
+use crate::judge::Judge;
 use crate::premises::follow;
 use crate::run_to::run_to;
-use crate::watched::{Watched, findings, new_watched};
+use crate::watched::{Watched, new_watched_within};
 use arrayvec::ArrayVec;
+use pb_medium::{Entry, TRACE_LIMIT};
 use pb_station::Indication;
 use pb_taps::{Event, NewFault, TapSpec, WorldFault};
 use pb_timers::BusParams;
-use std::alloc::Global;
+use std::alloc::{AllocError, Global};
 use std::marker::Model;
 
 /// A watched bus to which events have led from a new one, and between them changes of the data with which taps reply.
 /// What is refused changes nothing, so that a caller may go on after it.
+///
+/// Its trace grows with its run, up to a number of entries. Who wants a run of any length reads the entries that are over
+/// ([`past`](DrivenBus::past)) from time to time, and lets them go ([`let_go`](DrivenBus::let_go)).
 ///
 /// ```
 /// let alloc = rt.alloc();
@@ -41,59 +47,94 @@ use std::marker::Model;
 /// // after 800 bit times of silence the master claims the token; it is then alone on the bus
 /// bus.run(alloc, 1_400).expect(&rt, "a run");
 /// assert_eq!(rt; bus.bus().now.get(), 1_400);
-/// assert!(rt; bus.judge().premise.is_none());
+/// assert!(rt; bus.judge(alloc).expect(&rt, "memory").premise.is_none());
 /// ```
 #[derive(Drop)]
 pub struct DrivenBus {
-    watched: Watched,
+    driven: Driven,
+}
+
+/// What it is made of.
+#[derive(Drop)]
+pub struct Driven {
+    pub(crate) watched: Watched,
+    /// It has heard the entries that were let go.
+    pub(crate) judge: Judge,
 }
 
 impl Model for DrivenBus {
     ghost use Rattle.pb_world.specs.Acted.{IsOfActions};
-    ghost use Rattle.pb_world.specs.declared.watched.Watched.{Watched};
+    ghost use Rattle.pb_world.specs.declared.driven.Driven.{Driven};
 
-    ghost Value = { Watched };
+    ghost Value = { Driven };
 
-    ghost view = { λ b. b.watched };
+    ghost view = { λ b. b.driven };
 
-    ghost invariant = { λ b. IsOfActions b.watched };
+    ghost invariant = { λ b. IsOfActions b.driven };
 }
 
 impl DrivenBus {
-    ghost use Rattle.std.specs.Prelude.{◌≡◌, ℕ, [], None, Some, Ok, IfOk, IfErr, OnOk, MatchOption, map};
+    ghost use Rattle.std.specs.Prelude.{◌≡◌, ℕ, [], None, Some, Ok, IfOk, IfErr, OnErr, OnOk, MatchOption, length, map};
     ghost use Rattle.std.specs.Option.{option_map};
-    ghost use Rattle.law_model.specs.World.{new_world};
+    ghost use Rattle.law_model.specs.World.{new_world, new_world_within};
+    ghost use Rattle.pb_medium.specs.Entries.{entry_of};
+    ghost use Rattle.pb_medium.specs.LettingGo.{past_of};
     ghost use Rattle.pb_taps.specs.Events.{event_of};
     ghost use Rattle.pb_taps.specs.Faults.{RefusesNew};
     ghost use Rattle.pb_taps.specs.Taps.{spec_of};
     ghost use Rattle.pb_world.specs.Buses.{IsKept};
-    ghost use Rattle.pb_world.specs.Acted.{FindsBy, HasActed};
+    ghost use Rattle.pb_world.specs.Acted.{FindsBy, IsDrivenBy};
     ghost use Rattle.pb_station.specs.Indications.{fields_of};
-    ghost use Rattle.pb_world.specs.Driven.{Applies, Forgets, KeepsFrom, RefusesToKeep, SetsReply, StaysBut};
+    ghost use Rattle.pb_world.specs.Driven.{Applies, Forgets, KeepsFrom, LetsGo, RefusesToKeep, SetsReply, StaysBut};
     ghost use Rattle.pb_world.specs.Told.{requests_at, tray_at};
     ghost use Rattle.pb_world.specs.RunTo.{HasRun, HasStopped};
     ghost use Rattle.pb_world.specs.Watched.{world_in};
 
-    /// A bus at clock 0. No tap runs yet.
+    /// A bus at clock 0 whose trace may have 100,000 entries. No tap runs yet.
     ///
     /// Faults: those of the new bus.
     pub fn new(alloc: Global, params: BusParams, specs: &[TapSpec]) -> Result<DrivenBus, NewFault>
-        ensures new { IfOk result (λ b. new_world params (map spec_of specs.now) ≡ Ok (world_in b)) }
-        ensures came { IfOk result (λ b. HasActed b (world_in b) []) }
-        ensures told { IfOk result (λ b. (k : ℕ) → tray_at b.told k ≡ None) }
+        ensures new { IfOk result
+            (λ b. new_world params (map spec_of specs.now) ≡ Ok (world_in b.watched)) }
+        ensures came { IfOk result (λ b. IsDrivenBy b [] (world_in b.watched) []) }
+        ensures told { IfOk result (λ b. (k : ℕ) → tray_at b.watched.told k ≡ None) }
         ensures fault { IfErr result (RefusesNew (new_world params (map spec_of specs.now))) }
     {
-        let watched = new_watched(alloc, params, specs)?;
-        Ok(DrivenBus { watched })
+        DrivenBus::new_within(alloc, params, specs, TRACE_LIMIT)
+    }
+
+    /// A bus at clock 0 whose trace may have `limit` entries, those that are let go included. No tap runs yet.
+    ///
+    /// Faults: those of the new bus.
+    pub fn new_within(
+        alloc: Global,
+        params: BusParams,
+        specs: &[TapSpec],
+        limit: usize,
+    ) -> Result<DrivenBus, NewFault>
+        ensures new { IfOk result
+            (λ b. new_world_within limit params (map spec_of specs.now) ≡ Ok (world_in b.watched)) }
+        ensures came { IfOk result (λ b. IsDrivenBy b [] (world_in b.watched) []) }
+        ensures told { IfOk result (λ b. (k : ℕ) → tray_at b.watched.told k ≡ None) }
+        ensures fault { IfErr result (RefusesNew (new_world params (map spec_of specs.now))) }
+    {
+        let watched = new_watched_within(alloc, params, specs, limit)?;
+        match Judge::new(alloc, params, specs) {
+            Ok(judge) => Ok(DrivenBus {
+                driven: Driven { watched, judge },
+            }),
+            Err(_) => Err(NewFault::NoMemory),
+        }
     }
 
     /// Applies an event, and judges it by the premises. A refused event changes nothing.
     ///
     /// Faults: those of the event on a bus.
     pub fn apply(&mut self, alloc: Global, event: &Event) -> Result<(), WorldFault>
-        ensures { Applies self.old (event_of event.now) result self.new }
+        ensures applies { Applies self.old.watched (event_of event.now) result self.new.watched }
+        ensures judge { self.new.judge ≡ self.old.judge }
     {
-        apply(&mut self.watched, alloc, event)
+        apply(&mut self.driven.watched, alloc, event)
     }
 
     /// Lets the bus run to a moment, in bit times: at each instant the turns that are due, in the order of the taps,
@@ -102,10 +143,11 @@ impl DrivenBus {
     ///
     /// Faults: those of a turn and of a pass of time. The refused event changes nothing; those before it remain.
     pub fn run(&mut self, alloc: Global, until: u64) -> Result<(), WorldFault>
-        ensures run { OnOk result (HasRun until self.old self.new) }
-        ensures fault { IfErr result (λ fault. HasStopped until fault self.old self.new) }
+        ensures run { OnOk result (HasRun until self.old.watched self.new.watched) }
+        ensures fault { IfErr result (λ fault. HasStopped until fault self.old.watched self.new.watched) }
+        ensures judge { self.new.judge ≡ self.old.judge }
     {
-        run_to(&mut self.watched, alloc, until)
+        run_to(&mut self.driven.watched, alloc, until)
     }
 
     /// Changes the data with which the station at a tap replies to the next request for data, between two events. A
@@ -113,9 +155,10 @@ impl DrivenBus {
     ///
     /// Fault: `NoSuchTap`. Nothing is allocated.
     pub fn set_reply(&mut self, tap: usize, reply: ArrayVec<u8, 246>) -> Result<(), WorldFault>
-        ensures { SetsReply self.old tap reply.items result self.new }
+        ensures sets { SetsReply self.old.watched tap reply.items result self.new.watched }
+        ensures judge { self.new.judge ≡ self.old.judge }
     {
-        set_reply(&mut self.watched, tap, reply)
+        set_reply(&mut self.driven.watched, tap, reply)
     }
 
     /// Keeps the requests of others that the station at a tap executes from now on (message cycles: indications): the
@@ -128,50 +171,97 @@ impl DrivenBus {
         tap: usize,
         room: usize,
     ) -> Result<(), WorldFault>
-        ensures same { StaysBut self.old self.new }
-        ensures kept { OnOk result (KeepsFrom self.old tap room self.new) }
-        ensures fault { IfErr result (RefusesToKeep self.old tap self.new) }
+        ensures same { StaysBut self.old.watched self.new.watched }
+        ensures kept { OnOk result (KeepsFrom self.old.watched tap room self.new.watched) }
+        ensures fault { IfErr result (RefusesToKeep self.old.watched tap self.new.watched) }
+        ensures judge { self.new.judge ≡ self.old.judge }
     {
-        keep_indications(&mut self.watched, alloc, tap, room)
+        keep_indications(&mut self.driven.watched, alloc, tap, room)
     }
 
     /// The requests that are kept of a tap, in the order in which its station executed them; `None` if they are not
     /// asked for.
     pub fn indications(&self, tap: usize) -> Option<&[Indication]>
-        ensures { option_map (λ rs. map fields_of rs.now) result ≡ requests_at self.entry.now.told tap }
+        ensures { option_map (λ rs. map fields_of rs.now) result
+            ≡ requests_at self.entry.now.watched.told tap }
     {
-        self.watched.told.requests(tap)
+        self.driven.watched.told.requests(tap)
     }
 
     /// Forgets the requests that are kept of a tap, if they are asked for. Later ones are kept.
     pub fn forget_indications(&mut self, tap: usize)
-        ensures same { StaysBut self.old self.new }
-        ensures forgets { Forgets self.old tap self.new }
+        ensures same { StaysBut self.old.watched self.new.watched }
+        ensures forgets { Forgets self.old.watched tap self.new.watched }
+        ensures judge { self.new.judge ≡ self.old.judge }
     {
-        forget_indications(&mut self.watched, tap);
+        forget_indications(&mut self.driven.watched, tap);
     }
 
-    /// What an audit finds in the events so far.
-    pub fn judge(&self) -> Audit
-        ensures { FindsBy self.entry.now result }
+    /// The entries that [`let_go`](DrivenBus::let_go) removes: the first ones of the trace, which are over. Neither they
+    /// nor how they reached the taps changes any more.
+    pub fn past(&self) -> &[Entry]
+        ensures { map entry_of result.now ≡ past_of self.entry.now.watched.bus.trace }
     {
-        findings(&self.watched)
+        self.driven.watched.bus.past()
+    }
+
+    /// Removes these entries from the trace, and returns how many. No event has another effect without them, and an audit
+    /// still knows them.
+    ///
+    /// Fault: memory was refused. Then nothing changes.
+    pub fn let_go(&mut self, alloc: Global) -> Result<usize, AllocError>
+        ensures gone { OnOk result (LetsGo self.old self.new) }
+        ensures count { IfOk result (λ n. n ≡ length (past_of self.old.watched.bus.trace)) }
+        ensures fault { OnErr result (self.new ≡ self.old) }
+    {
+        let_go(&mut self.driven, alloc)
+    }
+
+    /// What an audit finds in the events so far. An illegal record is told by its place in the whole trace, those that were
+    /// let go counted.
+    ///
+    /// Fault: memory was refused.
+    pub fn judge(&self, alloc: Global) -> Result<Audit, AllocError>
+        ensures { IfOk result (FindsBy self.entry.now) }
+    {
+        let mut judge = self.driven.judge.copied(alloc)?;
+        judge.hear_all(self.driven.watched.bus.trace.entries())?;
+        Ok(Audit {
+            premise: self.driven.watched.broken(),
+            illegal: judge.illegal(),
+        })
     }
 
     /// The bus after the events so far.
     pub fn bus(&self) -> &Bus
-        ensures bus { result.now ≡ self.entry.now.bus }
+        ensures bus { result.now ≡ self.entry.now.watched.bus }
         ensures kept { IsKept result.now }
     {
-        self.watched.bus()
+        self.driven.watched.bus()
     }
+}
+
+/// Lets go of the entries that are over, once a judge has heard them.
+fn let_go(driven: &mut Driven, alloc: Global) -> Result<usize, AllocError>
+    requires { IsFollowed driven.old.watched }
+    ensures gone { OnOk result (LetsGo driven.old driven.new) }
+    ensures count { IfOk result (λ n. n ≡ length (past_of driven.old.watched.bus.trace)) }
+    ensures fault { OnErr result (driven.new ≡ driven.old) }
+{
+    let mut judge = driven.judge.copied(alloc)?;
+    let past = driven.watched.bus.past();
+    let count = past.len();
+    judge.hear_all(past)?;
+    driven.judge = judge;
+    driven.watched.let_go();
+    Ok(count)
 }
 
 /// Applies an event to a watched bus. A refused one changes nothing.
 pub(crate) fn apply(watched: &mut Watched, alloc: Global, event: &Event) -> Result<(), WorldFault>
-    requires { IsWatched watched.old }
+    requires { IsFollowed watched.old }
     ensures applies { Applies watched.old (event_of event.now) result watched.new }
-    ensures watched { IsWatched watched.new }
+    ensures followed { IsFollowed watched.new }
 {
     match event {
         Event::Pass(_) => apply_pass(watched, alloc, event),
@@ -188,10 +278,10 @@ fn apply_turn(
     tap: usize,
     event: &Event,
 ) -> Result<(), WorldFault>
-    requires watched { IsWatched watched.old }
+    requires followed { IsFollowed watched.old }
     requires turn { event_of event.now ≡ Turn tap }
     ensures applies { Applies watched.old (Turn tap) result watched.new }
-    ensures watched { IsWatched watched.new }
+    ensures followed { IsFollowed watched.new }
 {
     if watched.told.keeps(tap) {
         return apply_told(watched, alloc, tap, event);
@@ -207,11 +297,11 @@ fn apply_told(
     tap: usize,
     event: &Event,
 ) -> Result<(), WorldFault>
-    requires watched { IsWatched watched.old }
+    requires followed { IsFollowed watched.old }
     requires turn { event_of event.now ≡ Turn tap }
     requires kept { is_some (tray_at watched.old.told tap) ≡ true }
     ensures applies { Applies watched.old (Turn tap) result watched.new }
-    ensures watched { IsWatched watched.new }
+    ensures followed { IsFollowed watched.new }
 {
     let Watched { bus, watch, told } = watched;
     told.read(&bus.taps, tap, bus.now);
@@ -222,9 +312,9 @@ fn apply_told(
 
 /// Changes the data with which the station at a tap of a watched bus replies.
 fn set_reply(watched: &mut Watched, tap: usize, reply: ArrayVec<u8, 246>) -> Result<(), WorldFault>
-    requires { IsWatched watched.old }
+    requires { IsFollowed watched.old }
     ensures sets { SetsReply watched.old tap reply.items result watched.new }
-    ensures watched { IsWatched watched.new }
+    ensures followed { IsFollowed watched.new }
 {
     watched.bus.set_reply(tap, reply)
 }
@@ -236,11 +326,11 @@ fn keep_indications(
     tap: usize,
     room: usize,
 ) -> Result<(), WorldFault>
-    requires { IsWatched watched.old }
+    requires { IsFollowed watched.old }
     ensures same { StaysBut watched.old watched.new }
     ensures kept { OnOk result (KeepsFrom watched.old tap room watched.new) }
     ensures fault { IfErr result (RefusesToKeep watched.old tap watched.new) }
-    ensures watched { IsWatched watched.new }
+    ensures followed { IsFollowed watched.new }
 {
     let taps = watched.bus.taps.len();
     if tap >= taps {
@@ -252,10 +342,10 @@ fn keep_indications(
 
 /// Forgets those that are kept.
 fn forget_indications(watched: &mut Watched, tap: usize)
-    requires { IsWatched watched.old }
+    requires { IsFollowed watched.old }
     ensures same { StaysBut watched.old watched.new }
     ensures forgets { Forgets watched.old tap watched.new }
-    ensures watched { IsWatched watched.new }
+    ensures followed { IsFollowed watched.new }
 {
     watched.told.forget(tap);
 }
@@ -264,10 +354,10 @@ fn forget_indications(watched: &mut Watched, tap: usize)
 /// is too large to be copied for each. Kept out of line: else each turn pays for its frame.
 #[inline(never)]
 fn apply_pass(watched: &mut Watched, alloc: Global, event: &Event) -> Result<(), WorldFault>
-    requires watched { IsWatched watched.old }
+    requires followed { IsFollowed watched.old }
     requires pass { IsSome (time_in (event_of event.now)) }
     ensures applies { Applies watched.old (event_of event.now) result watched.new }
-    ensures watched { IsWatched watched.new }
+    ensures followed { IsFollowed watched.new }
 {
     if let Some(fault) = watched.bus.refusal(event, false) {
         return Err(fault);

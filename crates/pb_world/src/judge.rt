@@ -12,7 +12,7 @@ ghost use Rattle.pb_world.specs.Judges.{IsLast, IsLastOf, addresses_in};
 
 use crate::activity::is_active_in;
 use crate::addresses::NO_ADDRESS;
-use crate::air::Air;
+use crate::air::{Air, copied};
 use crate::initiators::{Meaning, claims_for, initiates, meaning_in, offered_by};
 use crate::last_heard::LastHeard;
 use crate::legality::{is_slot_over, is_whole};
@@ -37,7 +37,7 @@ pub struct Judge {
 }
 
 impl Judge {
-    ghost use Rattle.std.specs.Prelude.{◌≡◌, ◌≤◌, [], IfOk, List, OnOk, length, map};
+    ghost use Rattle.std.specs.Prelude.{◌≡◌, ◌≤◌, ◌++◌, [], IfOk, List, OnOk, length, map};
     ghost use Rattle.law_model.specs.Medium as model;
     ghost use Rattle.law_model.specs.Trace as trace;
     ghost use Rattle.law_runs.specs.Initiators.{offered_to, telegram_of};
@@ -85,6 +85,39 @@ impl Judge {
         self.air.push(entry)?;
         self.count = count;
         Ok(())
+    }
+
+    /// Hears the next entries, one after another.
+    ///
+    /// Fault: that of [`hear`](Judge::hear).
+    pub fn hear_all(&mut self, entries: &[Entry]) -> Result<(), AllocError>
+        ensures { OnOk result
+            ((p : Params) (specs : List model.TapSpec) (before : List trace.Entry)
+            → HasHeard p specs before self.old
+            → HasHeard p specs (before ++ map entry_of entries.now) self.new) }
+    {
+        for entry in entries {
+            self.hear(entry)?;
+        }
+        Ok(())
+    }
+
+    /// A judge that has heard the same.
+    ///
+    /// Fault: memory was refused.
+    pub fn copied(&self, alloc: Global) -> Result<Judge, AllocError>
+        ensures { IfOk result
+            (λ judge. (p : Params) (specs : List model.TapSpec) (entries : List trace.Entry)
+            → HasHeard p specs entries self.now → HasHeard p specs entries judge) }
+    {
+        Ok(Judge {
+            params: self.params,
+            addresses: copied(alloc, &self.addresses)?,
+            count: self.count,
+            air: self.air.copied(alloc)?,
+            last: self.last,
+            illegal: self.illegal,
+        })
     }
 
     /// The index, from 0 and counting noise, of the first illegal initiator record of the entries so far: a token or a

@@ -1,6 +1,8 @@
 //! A bus for runs of any length: within a number of entries, and without those that are over.
 
-ghost use Rattle.std.specs.Prelude.{◌≡◌, Ok, IfOk, IfErr, map};
+ghost use Rattle.std.specs.Prelude.{◌≡◌, Ok, IfOk, IfErr, OnOk, map};
+ghost use Rattle.pb_timers.specs.ParamRules.{IsValid};
+ghost use Rattle.law_model.specs.Laws.{AllFit};
 ghost use Rattle.law_model.specs.World.{new_world, new_world_within};
 ghost use Rattle.pb_taps.specs.Faults.{RefusesNew};
 ghost use Rattle.pb_taps.specs.Taps.{spec_of};
@@ -25,6 +27,8 @@ pub fn new_bus_within(
     ensures ok { IfOk result
         (λ bus. new_world_within limit params (map spec_of specs.now) ≡ Ok (world_of bus)) }
     ensures kept { IfOk result IsKept }
+    ensures valid { IsValid params }
+    ensures fit { OnOk result (AllFit (map spec_of specs.now)) }
     ensures fault { IfErr result (RefusesNew (new_world params (map spec_of specs.now))) }
 {
     let mut bus = new_bus(alloc, params, specs)?;

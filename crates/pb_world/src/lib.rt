@@ -42,7 +42,7 @@ mod worlds;
 pub use auditing::{audit, audit_shared};
 pub use buses::Bus;
 pub use causes::{Cause, Inquiry};
-pub use driven::DrivenBus;
+pub use driven::{Driven, DrivenBus};
 pub use findings::{Audit, AuditFault};
 pub use judge::Judge;
 pub use letting_go::new_bus_within;

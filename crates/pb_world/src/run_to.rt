@@ -7,7 +7,7 @@ ghost use Rattle.law_runs.specs.Runs.{after, next, next_turn, onward, turns, wan
 ghost use Rattle.pb_taps.specs.Events.{event_of};
 ghost use Rattle.pb_world.specs.Buses.{world_of, IsKept};
 ghost use Rattle.pb_world.specs.RunTo.{alone_until, Goes, HasRun, HasStopped, passes_to, Plays, turn_if};
-ghost use Rattle.pb_world.specs.Watched.{IsWatched, world_in};
+ghost use Rattle.pb_world.specs.Watched.{IsFollowed, world_in};
 ghost use Rattle.pb_world.specs.Worlds.{due_at};
 
 use crate::buses::Bus;
@@ -27,7 +27,7 @@ struct Leg {
 
 /// Runs a bus to a moment, in bit times.
 pub(crate) fn run_to(watched: &mut Watched, alloc: Global, until: u64) -> Result<(), WorldFault>
-    requires { IsWatched watched.old }
+    requires { IsFollowed watched.old }
     ensures run { OnOk result (HasRun until watched.old watched.new) }
     ensures fault { IfErr result (λ fault. HasStopped until fault watched.old watched.new) }
 {
@@ -43,7 +43,7 @@ pub(crate) fn run_to(watched: &mut Watched, alloc: Global, until: u64) -> Result
 
 /// Plays an instant, and returns the next one, if there is one.
 fn play_instant(watched: &mut Watched, alloc: Global, leg: Leg) -> Result<Option<u64>, WorldFault>
-    requires { IsWatched watched.old }
+    requires { IsFollowed watched.old }
     ensures { Goes leg.until leg.now watched.old result watched.new }
 {
     play_turns(watched, alloc, leg)?;
@@ -55,7 +55,7 @@ fn play_instant(watched: &mut Watched, alloc: Global, leg: Leg) -> Result<Option
 /// Plays the turns of the taps that are due. A turn does not change when the other taps are due, so each tap is asked
 /// just before its own turn.
 fn play_turns(watched: &mut Watched, alloc: Global, leg: Leg) -> Result<(), WorldFault>
-    requires { IsWatched watched.old }
+    requires { IsFollowed watched.old }
     ensures { Plays leg.now watched.old
         (turns bus (alone_until leg.until) leg.now (world_in watched.old)) result watched.new }
 {
@@ -67,7 +67,7 @@ fn play_turns(watched: &mut Watched, alloc: Global, leg: Leg) -> Result<(), Worl
 
 /// Plays a tap's turn, if the tap is due now.
 fn play_turn(watched: &mut Watched, alloc: Global, leg: Leg, tap: usize) -> Result<(), WorldFault>
-    requires { IsWatched watched.old }
+    requires { IsFollowed watched.old }
     ensures { Plays leg.now watched.old
         (turn_if (wants (alone_until leg.until) leg.now tap (due_at (world_in watched.old) tap)) tap)
         result watched.new }
@@ -91,7 +91,7 @@ fn is_due(due: Option<Moment>, leg: Leg) -> bool
 
 /// Lets time pass to a moment, if it is later than now.
 fn play_pass(watched: &mut Watched, alloc: Global, now: u64, to: u64) -> Result<(), WorldFault>
-    requires { IsWatched watched.old }
+    requires { IsFollowed watched.old }
     ensures { Plays now watched.old (passes_to now to) result watched.new }
 {
     if now < to {
@@ -103,7 +103,7 @@ fn play_pass(watched: &mut Watched, alloc: Global, now: u64, to: u64) -> Result<
 
 /// Plays an event at `now`.
 fn happens(watched: &mut Watched, alloc: Global, now: u64, event: &Event) -> Result<(), WorldFault>
-    requires { IsWatched watched.old }
+    requires { IsFollowed watched.old }
     ensures { Plays now watched.old (event_of event.now ∷ []) result watched.new }
 {
     apply(watched, alloc, event)

@@ -1,10 +1,11 @@
 //! A bus that is watched from its first event on, and judged at any time.
 
-ghost use Rattle.std.specs.Prelude.{◌≡◌, ℕ, [], None, Ok, IfOk, IfErr, map};
+ghost use Rattle.std.specs.Prelude.{◌≡◌, ℕ, [], None, Ok, IfOk, IfErr, OnOk, map};
+ghost use Rattle.pb_timers.specs.ParamRules.{IsValid};
+ghost use Rattle.law_model.specs.Laws.{AllFit};
 ghost use Rattle.std.specs.Option.{option_map};
 ghost use Rattle.law_model.specs.World.{new_world, new_world_within};
 ghost use Rattle.law_streams.specs.Audits.{no_events};
-ghost use Rattle.pb_world.specs.Acted.{HasActed};
 ghost use Rattle.pb_world.specs.Auditing.{broken_at};
 ghost use Rattle.law_runs.specs.Headline.{specs_of};
 ghost use Rattle.law_runs.specs.Judging.{IsOrdered};
@@ -41,7 +42,6 @@ pub struct Watched {
 pub fn new_watched(alloc: Global, params: BusParams, specs: &[TapSpec]) -> Result<Watched, NewFault>
     ensures new { IfOk result (λ w. new_world params (map spec_of specs.now) ≡ Ok (world_in w)) }
     ensures came { IfOk result (λ w. HasCome w (world_in w) []) }
-    ensures acted { IfOk result (λ w. HasActed w (world_in w) []) }
     ensures told { IfOk result (λ w. (k : ℕ) → tray_at w.told k ≡ None) }
     ensures fault { IfErr result (RefusesNew (new_world params (map spec_of specs.now))) }
 {
@@ -66,6 +66,9 @@ pub fn new_watched_within(
         (λ w. new_world_within limit params (map spec_of specs.now) ≡ Ok (world_in w)) }
     ensures followed { IfOk result IsFollowed }
     ensures at_end { IfOk result (λ w. IsAtEnd w [] (no_events (world_in w))) }
+    ensures valid { IsValid params }
+    ensures fit { OnOk result (AllFit (map spec_of specs.now)) }
+    ensures told { IfOk result (λ w. (k : ℕ) → tray_at w.told k ≡ None) }
     ensures fault { IfErr result (RefusesNew (new_world params (map spec_of specs.now))) }
 {
     let bus = new_bus_within(alloc, params, specs, limit)?;
@@ -83,6 +86,8 @@ impl Watched {
     ghost use Rattle.law_runs.specs.Watching.{StandsFor};
     ghost use Rattle.pb_medium.specs.LettingGo.{past_of};
     ghost use Rattle.pb_world.specs.Auditing.{broken_at};
+    ghost use Rattle.law_model.specs.Behind.{behind};
+    ghost use Rattle.law_model.specs.Laws.{IsEvent};
     ghost use Rattle.law_model.specs.Step.{step};
     ghost use Rattle.law_model.specs.World as model;
     ghost use Rattle.pb_taps.specs.Events.{event_of};
@@ -98,6 +103,7 @@ impl Watched {
     pub fn follow(&mut self, alloc: Global, event: &Event) -> Result<(), WorldFault>
         requires { IsFollowed self.old }
         ensures kept { IsKept self.new.bus }
+        ensures event { IsEvent (event_of event.now) }
         ensures followed { OnOk result (IsFollowed self.new) }
         ensures watched { IsWatched self.old → OnOk result (IsWatched self.new) }
         ensures leads { OnOk result (LeadsOnBy self.old (event_of event.now) self.new) }
@@ -118,6 +124,8 @@ impl Watched {
         requires { IsFollowed self.old }
         ensures followed { IsFollowed self.new }
         ensures gone { LetsGoOf (past_of self.old.bus.trace) self.old self.new }
+        ensures world { world_in self.old ≡ behind (past_of self.old.bus.trace) (world_in self.new) }
+        ensures told { self.new.told ≡ self.old.told }
     {
         self.bus.let_go();
     }

@@ -43,7 +43,7 @@ impl World {
     ghost use Rattle.std.specs.Prelude.{◌≡◌, ◌<◌, [], ◌∷◌, Ok, None, IsTrue, ◌↔◌, IfOk, IfErr, OnOk, MatchOption, length, map, slice_get};
     ghost use Rattle.law_model.specs.Laws.{IsEvent};
     ghost use Rattle.law_model.specs.Step.{step};
-    ghost use Rattle.law_model.specs.World.{new_world, Turn};
+    ghost use Rattle.law_model.specs.World.{new_world, trace_limit, Turn};
     ghost use Rattle.pb_medium.specs.Entries.{entry_of};
     ghost use Rattle.pb_taps.specs.Events.{event_of};
     ghost use Rattle.pb_world.specs.Refusals.{fault_of, TellsSpeech};
@@ -69,6 +69,7 @@ impl World {
     pub fn new(alloc: Global, params: BusParams, specs: &[TapSpec]) -> Result<World, NewFault>
         ensures ok { IfOk result (λ w. new_world params (map spec_of specs.now) ≡ Ok w) }
         ensures lead { IfOk result (λ w. LeadTo w [] w) }
+        ensures limit { IfOk result (λ w. w.limit ≡ trace_limit) }
         ensures promises { IfOk result (λ w. KeepsPromises w [] w) }
         ensures fault { IfErr result (RefusesNew (new_world params (map spec_of specs.now))) }
     {

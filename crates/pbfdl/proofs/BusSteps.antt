@@ -35,7 +35,7 @@ pub use Rattle.core.proofs.option.Made.{Some-of, none_of}
 pub use Rattle.core.proofs.alloc.Shapes.{after}
 pub use Rattle.std.specs.Box.Ownership.{box_owns}
 use Rattle.pbfdl.specs.Owned.{handle_owns}
-use Rattle.pb_world.specs.declared.watched.Watched.{Watched as Inner}
+use Rattle.pb_world.specs.declared.driven.Driven.{Driven as Inner}
 use Rattle.pb_world.specs.contracts.driven.DrivenBus.{the_row}
 use Rattle.pb_port.specs.Owned.{chunk}
 use seplogic.Ra.Ura.{Ura}

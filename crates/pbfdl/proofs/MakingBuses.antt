@@ -7,13 +7,14 @@ use Rattle.std.specs.List.{list_any}
 use Rattle.std.specs.Option.{option_map}
 use Rattle.pb_faults.specs.FirstFault.{first_fault}
 use Rattle.pb_timers.specs.Timers.{Params}
-use Rattle.law_model.specs.World.{World, NewFault, NoTaps, TooManyTaps, BadAddress, first_bad_address, new_faults, new_world, stopped_tap, trace_limit, unless_fault}
+use Rattle.law_model.specs.Medium.{TapSpec}
+use Rattle.law_model.specs.World.{World, NewFault, NoTaps, TooManyTaps, BadAddress, first_bad_address, new_faults, new_world, new_world_within, stopped_tap, trace_limit, unless_fault}
 use Rattle.pb_taps.specs.Faults.{new_fault, RefusesNew}
 use Rattle.pb_taps.specs.declared.faults.NewFault as declared
 use Rattle.pb_taps.specs.declared.faults.NewFault.TheVariants as new
-use Rattle.pb_world.specs.Acted.{HasActed}
+use Rattle.pb_world.specs.Acted.{IsDrivenBy}
 use Rattle.pb_world.specs.Watched.{world_in}
-use Rattle.pb_world.specs.declared.watched.Watched.{Watched}
+use Rattle.pb_world.specs.declared.driven.Driven.{Driven}
 use Rattle.pbfdl.specs.BusCodes.{new_fault_code}
 use Rattle.pbfdl.specs.Buses.{is_bad_tap, Makes, tap_fault, tap_spec_of}
 use Rattle.pbfdl.specs.declared.taps.FdlTap.{FdlTap}
@@ -54,18 +55,25 @@ tap-fault-few p taps bad some few isbad =
     tap-fault-by p taps false false bad (ne_eqb (length (map tap_spec_of taps)) 0 (λ none. omega (arith, none, count, some))) (le-ltb 127 (length (map tap_spec_of taps)) (omega (arith, count, few))) isbad
 
 -- memory is refused for a bus that nothing else refuses
-pub makes-none : (p : Params) (taps : List FdlTap) → tap_fault p taps ≡ None → Makes (new_world p (map tap_spec_of taps)) 63 None
-makes-none p taps = by (first_fault (new_faults p (map tap_spec_of taps)))
+pub makes-none : (limit : ℕ) (p : Params) (taps : List FdlTap) → tap_fault p taps ≡ None → Makes (new_world_within limit p (map tap_spec_of taps)) 63 None
+makes-none limit p taps = by (first_fault (new_faults p (map tap_spec_of taps)))
   where
     by : (o : Option NewFault) → option_map (λ (fault : NewFault). new_fault_code (new_fault fault)) o ≡ None
-        → Makes (unless_fault o (record { params = p; now = 0; trace = []; taps = map (stopped_tap p) (map tap_spec_of taps); limit = trace_limit })) 63 None
+        → Makes (unless_fault o (record { params = p; now = 0; trace = []; taps = map (stopped_tap p) (map tap_spec_of taps); limit = limit })) 63 None
     by None none = inl refl
     by (Some fault) none = absurd cc
 
--- what refuses a new bus
-pub makes-fault : (r : Result World NewFault) (fault : declared.NewFault) → RefusesNew r fault → Makes r (new_fault_code fault) None
-makes-fault (Ok w) fault is = inl (ap new_fault_code is)
-makes-fault (Err f) fault is = ap new_fault_code is
+-- what refuses a new bus, whatever number of entries its trace may have
+pub makes-fault : (limit : ℕ) (p : Params) (specs : List TapSpec) (fault : declared.NewFault) → RefusesNew (new_world p specs) fault
+    → Makes (new_world_within limit p specs) (new_fault_code fault) None
+makes-fault limit p specs fault is = by (first_fault (new_faults p specs)) is
+  where
+    made : ℕ → World
+    made n = record { params = p; now = 0; trace = []; taps = map (stopped_tap p) specs; limit = n }
+
+    by : (o : Option NewFault) → RefusesNew (unless_fault o (made trace_limit)) fault → Makes (unless_fault o (made limit)) (new_fault_code fault) None
+    by None is = inl (ap new_fault_code is)
+    by (Some f) is = ap new_fault_code is
 
 pub new-code-some : (fault : declared.NewFault) → new_fault_code fault ≢ 0
 new-code-some new.NoTaps = λ zero. cc
@@ -73,5 +81,5 @@ new-code-some new.TooManyTaps = λ zero. cc
 new-code-some (new.BadAddress tap) = λ zero. cc
 new-code-some new.NoMemory = λ zero. cc
 
-pub makes-bus : (r : Result World NewFault) (b : Watched) → r ≡ Ok (world_in b) → HasActed b (world_in b) [] → Makes r 0 (Some b)
+pub makes-bus : (r : Result World NewFault) (b : Driven) → r ≡ Ok (world_in b.watched) → IsDrivenBy b [] (world_in b.watched) [] → Makes r 0 (Some b)
 makes-bus r b made came = subst (λ (x : Result World NewFault). Makes x 0 (Some b)) (sym made) (inr (refl, (b, refl, refl, came)))

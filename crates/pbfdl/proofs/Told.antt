@@ -9,6 +9,7 @@ use Rattle.law_model.specs.World.{clock_limit}
 use Rattle.pb_taps.specs.declared.faults.WorldFault.{WorldFault}
 use Rattle.pb_world.specs.RunTo.{HasRun, HasStopped}
 use Rattle.pb_world.specs.Watched.{world_in}
+use Rattle.pb_world.specs.declared.driven.Driven.{Driven}
 use Rattle.pb_world.specs.declared.watched.Watched.{Watched}
 use Rattle.pbfdl.specs.BusReadings.{heard_at}
 use Rattle.pbfdl.specs.Buses.{run_codes, Runs}
@@ -27,8 +28,8 @@ heard-more told heard tap v there is before k small = by (nat_lt k tap) refl
         ap (λ (n : ℕ). get_or (slice_set told tap v) n 0) here ∙ get_or-set_same told tap v 0 there ∙ is ∙ ap (λ (n : ℕ). heard_at (slice_get heard n)) (sym here)
 
 -- a bus runs to a moment that is not before its clock, and not too late
-pub runs-free : (b : Watched) (until : ℕ) (P : Type 0) (Q : ℕ → Type 0) → (world_in b).now ≤ until → until ≤ 1000000000000 → P → MatchOption (first_fault (run_codes b until)) P Q
-runs-free b until P Q later few p = by (nat_lt until (world_in b).now) (nat_lt clock_limit until) (le-ltb until (world_in b).now later) (le-ltb 1000000000000 until few)
+pub runs-free : (b : Driven) (until : ℕ) (P : Type 0) (Q : ℕ → Type 0) → (world_in b.watched).now ≤ until → until ≤ 1000000000000 → P → MatchOption (first_fault (run_codes b until)) P Q
+runs-free b until P Q later few p = by (nat_lt until (world_in b.watched).now) (nat_lt clock_limit until) (le-ltb until (world_in b.watched).now later) (le-ltb 1000000000000 until few)
   where
     by : (back far : Bool) → back ≡ false → far ≡ false → MatchOption (first_fault ((back, 42) ∷ (far, 87) ∷ [])) P Q
     by false false one two = p
@@ -45,14 +46,14 @@ pub ran-by : (b next : Watched) (until : ℕ) (r : Result (Unit {0}) WorldFault)
 ran-by b next until r ran stopped = answered r (HasRun until b next) (λ fault. HasStopped until fault b next) ran stopped
 
 -- the bus of a handle has run, or is unchanged
-pub run-kept : (b next : Watched) (until code : ℕ) (new : Option Watched) → new ≡ Some next
+pub run-kept : (b next : Driven) (until code : ℕ) (new : Option Driven) → new ≡ Some next
     → MatchOption (first_fault (run_codes b until)) (Runs b until code (Some next)) (λ x. (code ≡ x) × (next ≡ b))
     → MatchOption (first_fault (run_codes b until)) (Runs b until code new) (λ x. (code ≡ x) × (new ≡ Some b))
 run-kept b next until code new is = by (first_fault (run_codes b until))
   where
     by : (o : Option ℕ) → MatchOption o (Runs b until code (Some next)) (λ x. (code ≡ x) × (next ≡ b)) → MatchOption o (Runs b until code new) (λ x. (code ≡ x) × (new ≡ Some b))
-    by None runs = subst (λ (o : Option Watched). Runs b until code o) (sym is) runs
-    by (Some x) same = (same.0, is ∙ ap (λ (w : Watched). Some w) same.1)
+    by None runs = subst (λ (o : Option Driven). Runs b until code o) (sym is) runs
+    by (Some x) same = (same.0, is ∙ ap (λ (w : Driven). Some w) same.1)
 
 -- an item of a list, whatever stands for one that is missing
 pub item-of : {X : Type 0} (xs : List X) (i : ℕ) (d e : X) → i < length xs → get_or xs i d ≡ get_or xs i e

@@ -3,16 +3,16 @@ use Rattle.std.specs.Prelude.{◌≡◌, ℕ, List, length, slice_get, Option, S
 use Rattle.pb_station.specs.Indications.{IndicationFields}
 use Rattle.pb_taps.specs.declared.faults.WorldFault.{WorldFault}
 use Rattle.pb_world.specs.Driven.{Forgets, KeepsFrom, RefusesToKeep, StaysBut}
-use Rattle.pb_world.specs.declared.watched.Watched.{Watched}
+use Rattle.pb_world.specs.declared.driven.Driven.{Driven}
 use Rattle.pbfdl.specs.BusCodes.{result_code}
 use Rattle.pbfdl.specs.Indications.{TellsAt}
 use Rattle.pbfdl.specs.declared.indications.FdlIndication.{FdlIndication}
 
 -- from now on they are kept; or the code is that of a fault, and what was kept stays
-abbrev pub KeepsAt : Watched → (tap room code : ℕ) → Option Watched → Type 0
-KeepsAt b tap room code new = (next : Watched) × (new ≡ Some next) × StaysBut b next
+abbrev pub KeepsAt : Driven → (tap room code : ℕ) → Option Driven → Type 0
+KeepsAt b tap room code new = (next : Driven) × (new ≡ Some next) × (next.judge ≡ b.judge) × StaysBut b.watched next.watched
     × (answer : Result (Unit {0}) WorldFault) × (code ≡ result_code answer)
-    × MatchResult answer (λ _. KeepsFrom b tap room next) (RefusesToKeep b tap next)
+    × MatchResult answer (λ _. KeepsFrom b.watched tap room next.watched) (RefusesToKeep b.watched tap next.watched)
 
 -- the code, and how many are kept, if they are asked for
 abbrev pub CountsKept : (code count : ℕ) → Option (List IndicationFields) → Type 0
@@ -25,5 +25,5 @@ TellsKept code told None index = code ≡ 69
 TellsKept code told (Some requests) index = TellsAt code told (slice_get requests index)
 
 -- what is kept of a tap is forgotten
-abbrev pub ForgetsAt : Watched → ℕ → Option Watched → Type 0
-ForgetsAt b tap new = (next : Watched) × (new ≡ Some next) × StaysBut b next × Forgets b tap next
+abbrev pub ForgetsAt : Driven → ℕ → Option Driven → Type 0
+ForgetsAt b tap new = (next : Driven) × (new ≡ Some next) × (next.judge ≡ b.judge) × StaysBut b.watched next.watched × Forgets b.watched tap next.watched

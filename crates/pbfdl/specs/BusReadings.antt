@@ -1,8 +1,10 @@
 -- What C is told of a bus.
-use Rattle.std.specs.Prelude.{◌≡◌, ◌<◌, ℕ, true, false, min, take, get_or, slice_get, Option, Some, None, MatchOption}
+use Rattle.std.specs.Prelude.{◌≡◌, ◌⊎◌, ◌<◌, ℕ, true, false, min, take, get_or, slice_get, Option, Some, None, MatchOption}
 use Rattle.law_model.specs.Medium.{Tap}
 use Rattle.law_model.specs.Trace as model
 use Rattle.law_model.specs.World.{World}
+use Rattle.pb_world.specs.Acted.{FindsBy}
+use Rattle.pb_world.specs.declared.driven.Driven.{Driven}
 use Rattle.pb_world.specs.declared.findings.Audit.{Audit}
 use Rattle.pbfdl.specs.declared.bus_entries.FdlAudit.{FdlAudit}
 use Rattle.pbfdl.specs.declared.bus_entries.FdlEntry.{FdlEntry}
@@ -40,3 +42,7 @@ abbrev pub TellsAudit : FdlAudit → Audit → Type 0
 TellsAudit told found =
     MatchOption found.premise (told.premise ≡ 0) (λ p. (told.premise ≡ p.0) × (told.moment ≡ p.1))
     × MatchOption found.illegal (told.illegal ≡ false) (λ place. (told.illegal ≡ true) × (told.entry ≡ place))
+
+-- what an audit finds of all events; or memory is refused, and nothing is told
+abbrev pub AuditsAt : Driven → ℕ → (before told : FdlAudit) → Type 0
+AuditsAt b code before told = ((code ≡ 0) × (found : Audit) × FindsBy b found × TellsAudit told found) ⊎ ((code ≡ 63) × (told ≡ before))

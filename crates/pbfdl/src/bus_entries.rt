@@ -1,18 +1,18 @@
 //! The trace of a bus, and what an audit says of its run.
 
-ghost use Rattle.std.specs.Prelude.{◌≡◌, ◌≢◌, ◌<◌, None, IfSome, get_or, length, map, min, slice_get};
+ghost use Rattle.std.specs.Prelude.{◌≡◌, ◌≢◌, ◌<◌, Some, None, IfSome, get_or, length, map, min, slice_get};
 ghost use Rattle.std.specs.Option.{option_map};
 ghost use Rattle.law_model.specs.Trace as model;
 ghost use Rattle.pb_medium.specs.Entries.{entry_of, heard_of, record_of};
-ghost use Rattle.pb_world.specs.Acted.{FindsBy};
+ghost use Rattle.pb_medium.specs.LettingGo.{past_of};
 ghost use Rattle.pb_world.specs.Watched.{world_in};
-ghost use Rattle.pb_world.specs.declared.findings.Audit.{Audit};
-ghost use Rattle.pbfdl.specs.BusReadings.{heard_at, TellsAudit, TellsEntry, TellsEntryAt};
-ghost use Rattle.pbfdl.specs.Buses.{FindsNoBus};
+ghost use Rattle.pbfdl.specs.BusReadings.{AuditsAt, heard_at, TellsAudit, TellsEntry, TellsEntryAt};
+ghost use Rattle.pbfdl.specs.Buses.{FindsNoBus, LetsGoAt};
 
 use crate::bus_codes::{NO_BUS, NO_ENTRY};
 use crate::bus_handles::BusHandle;
-use pb_world::{Audit, Entry, Heard, Reception, Record};
+use crate::codes::NO_MEMORY;
+use pb_world::{Audit, DrivenBus, Entry, Heard, Reception, Record};
 use std::alloc::Global;
 
 /// The most taps of a bus.
@@ -47,7 +47,8 @@ pub struct FdlAudit {
 #[unsafe(no_mangle)]
 pub extern "C" fn fdl_bus_entries(alloc: Global, bus: &mut BusHandle, count: &mut usize) -> u32
     ensures none { bus.old.value ≡ None → FindsNoBus result bus.new.value × (count.new ≡ count.old) }
-    ensures count { IfSome bus.old.value (λ b. (result ≡ 0) × (count.new ≡ length (world_in b).trace)) }
+    ensures count { IfSome bus.old.value
+        (λ b. (result ≡ 0) × (count.new ≡ length (world_in b.watched).trace)) }
     ensures kept { bus.new.value ≡ bus.old.value }
 {
     let Some(there) = bus.take(alloc) else {
@@ -68,7 +69,7 @@ pub extern "C" fn fdl_bus_entry(
 ) -> u32
     ensures none { bus.old.value ≡ None → FindsNoBus result bus.new.value }
     ensures entry { IfSome bus.old.value
-        (λ b. TellsEntryAt result told.new (slice_get (world_in b).trace index)) }
+        (λ b. TellsEntryAt result told.new (slice_get (world_in b.watched).trace index)) }
     ensures same { result ≢ 0 → told.new ≡ told.old }
     ensures kept { bus.new.value ≡ bus.old.value }
 {
@@ -80,20 +81,79 @@ pub extern "C" fn fdl_bus_entry(
     code
 }
 
-/// What an audit says of the events so far. Code: 73.
+/// How many of the first entries are over: what their fields say, `heard` included, no longer changes, and
+/// [`fdl_bus_let_go`] removes them. Code: 73.
 #[unsafe(no_mangle)]
-pub extern "C" fn fdl_bus_audit(alloc: Global, bus: &mut BusHandle, told: &mut FdlAudit) -> u32
-    ensures none { bus.old.value ≡ None → FindsNoBus result bus.new.value × (told.new ≡ told.old) }
-    ensures audit { IfSome bus.old.value (λ b. (result ≡ 0)
-        × ((found : Audit) × FindsBy b found × TellsAudit told.new found)) }
+pub extern "C" fn fdl_bus_over(alloc: Global, bus: &mut BusHandle, count: &mut usize) -> u32
+    ensures none { bus.old.value ≡ None → FindsNoBus result bus.new.value × (count.new ≡ count.old) }
+    ensures count { IfSome bus.old.value
+        (λ b. (result ≡ 0) × (count.new ≡ length (past_of b.watched.bus.trace))) }
     ensures kept { bus.new.value ≡ bus.old.value }
 {
     let Some(there) = bus.take(alloc) else {
         return NO_BUS;
     };
-    *told = told_audit(there.judge());
+    *count = there.past().len();
     bus.put(there);
     0
+}
+
+/// Removes the entries that are over from the trace, and says how many. The run goes on as if they stood there, and an
+/// audit still knows them; the entries that are left are numbered from 0. Codes: 73; 63 where memory was refused, and
+/// then nothing is removed.
+#[unsafe(no_mangle)]
+pub extern "C" fn fdl_bus_let_go(alloc: Global, bus: &mut BusHandle, count: &mut usize) -> u32
+    ensures none { bus.old.value ≡ None → FindsNoBus result bus.new.value × (count.new ≡ count.old) }
+    ensures gone { IfSome bus.old.value (λ b. LetsGoAt b result count.old count.new bus.new.value) }
+{
+    let Some(mut there) = bus.take(alloc) else {
+        return NO_BUS;
+    };
+    let code = let_go(alloc, &mut there, count);
+    bus.put(there);
+    code
+}
+
+/// What an audit says of the events so far. An illegal telegram is told by its index in the whole trace, with the entries
+/// counted that were let go. Codes: 73; 63 where memory was refused.
+#[unsafe(no_mangle)]
+pub extern "C" fn fdl_bus_audit(alloc: Global, bus: &mut BusHandle, told: &mut FdlAudit) -> u32
+    ensures none { bus.old.value ≡ None → FindsNoBus result bus.new.value × (told.new ≡ told.old) }
+    ensures audit { IfSome bus.old.value (λ b. AuditsAt b result told.old told.new) }
+    ensures kept { bus.new.value ≡ bus.old.value }
+{
+    let Some(there) = bus.take(alloc) else {
+        return NO_BUS;
+    };
+    let code = tell_audit(alloc, &there, told);
+    bus.put(there);
+    code
+}
+
+/// Lets go of what is over on a bus.
+fn let_go(alloc: Global, bus: &mut DrivenBus, count: &mut usize) -> u32
+    ensures { LetsGoAt bus.old result count.old count.new (Some bus.new) }
+{
+    match bus.let_go(alloc) {
+        Ok(gone) => {
+            *count = gone;
+            0
+        }
+        Err(_) => NO_MEMORY,
+    }
+}
+
+/// Tells C what an audit of a bus finds.
+fn tell_audit(alloc: Global, bus: &DrivenBus, told: &mut FdlAudit) -> u32
+    ensures { AuditsAt bus.entry.now result told.old told.new }
+{
+    match bus.judge(alloc) {
+        Ok(found) => {
+            *told = told_audit(found);
+            0
+        }
+        Err(_) => NO_MEMORY,
+    }
 }
 
 /// Tells C the entry with an index.

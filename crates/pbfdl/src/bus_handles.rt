@@ -1,7 +1,7 @@
 //! A bus behind a pointer, as C keeps it.
 
 ghost use Rattle.std.specs.Prelude.{◌≡◌, Option, Some, None, MatchOption};
-ghost use Rattle.pb_world.specs.declared.watched.Watched.{Watched};
+ghost use Rattle.pb_world.specs.declared.driven.Driven.{Driven};
 
 use pb_world::DrivenBus;
 use std::alloc::Global;
@@ -13,7 +13,7 @@ use std::ptr::null_mut;
 #[repr(C)]
 pub struct BusHandle {
     at: *mut u8,
-    pub ghost value: { Option Watched },
+    pub ghost value: { Option Driven },
 }
 
 impl Model for BusHandle {

@@ -41,7 +41,7 @@ pub extern "C" fn fdl_bus_indications(
     count: &mut usize,
 ) -> u32
     ensures none { bus.old.value ≡ None → FindsNoBus result bus.new.value }
-    ensures count { IfSome bus.old.value (λ b. CountsKept result count.new (requests_at b.told tap)) }
+    ensures count { IfSome bus.old.value (λ b. CountsKept result count.new (requests_at b.watched.told tap)) }
     ensures same { result ≢ 0 → count.new ≡ count.old }
     ensures kept { bus.new.value ≡ bus.old.value }
 {
@@ -64,7 +64,7 @@ pub extern "C" fn fdl_bus_indication(
     told: &mut FdlIndication,
 ) -> u32
     ensures none { bus.old.value ≡ None → FindsNoBus result bus.new.value }
-    ensures told { IfSome bus.old.value (λ b. TellsKept result told.new (requests_at b.told tap) index) }
+    ensures told { IfSome bus.old.value (λ b. TellsKept result told.new (requests_at b.watched.told tap) index) }
     ensures same { result ≢ 0 → told.new ≡ told.old }
     ensures kept { bus.new.value ≡ bus.old.value }
 {
@@ -92,7 +92,7 @@ pub extern "C" fn fdl_bus_forget_indications(alloc: Global, bus: &mut BusHandle,
 
 /// Tells C how many are kept.
 fn count_kept(bus: &DrivenBus, tap: usize, count: &mut usize) -> u32
-    ensures count { CountsKept result count.new (requests_at bus.now.told tap) }
+    ensures count { CountsKept result count.new (requests_at bus.now.watched.told tap) }
     ensures same { result ≢ 0 → count.new ≡ count.old }
 {
     match bus.indications(tap) {
@@ -106,7 +106,7 @@ fn count_kept(bus: &DrivenBus, tap: usize, count: &mut usize) -> u32
 
 /// Tells C one of them.
 fn tell_kept(bus: &DrivenBus, tap: usize, index: usize, told: &mut FdlIndication) -> u32
-    ensures told { TellsKept result told.new (requests_at bus.now.told tap) index }
+    ensures told { TellsKept result told.new (requests_at bus.now.watched.told tap) index }
     ensures same { result ≢ 0 → told.new ≡ told.old }
 {
     match bus.indications(tap) {

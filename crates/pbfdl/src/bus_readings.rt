@@ -28,7 +28,7 @@ const NEVER: u64 = u64::MAX;
 #[unsafe(no_mangle)]
 pub extern "C" fn fdl_bus_now(alloc: Global, bus: &mut BusHandle, now: &mut u64) -> u32
     ensures none { bus.old.value ≡ None → FindsNoBus result bus.new.value × (now.new ≡ now.old) }
-    ensures now { IfSome bus.old.value (λ b. (result ≡ 0) × (now.new ≡ (world_in b).now)) }
+    ensures now { IfSome bus.old.value (λ b. (result ≡ 0) × (now.new ≡ (world_in b.watched).now)) }
     ensures kept { bus.new.value ≡ bus.old.value }
 {
     let Some(there) = bus.take(alloc) else {
@@ -43,8 +43,8 @@ pub extern "C" fn fdl_bus_now(alloc: Global, bus: &mut BusHandle, now: &mut u64)
 #[unsafe(no_mangle)]
 pub extern "C" fn fdl_bus_due(alloc: Global, bus: &mut BusHandle, tap: usize, at: &mut u64) -> u32
     ensures none { bus.old.value ≡ None → FindsNoBus result bus.new.value }
-    ensures due { IfSome bus.old.value (λ b. AtTap (world_in b) tap result
-        (λ _. at.new ≡ unwrap_or (due_at (world_in b) tap) 18446744073709551615)) }
+    ensures due { IfSome bus.old.value (λ b. AtTap (world_in b.watched) tap result
+        (λ _. at.new ≡ unwrap_or (due_at (world_in b.watched) tap) 18446744073709551615)) }
     ensures same { result ≢ 0 → at.new ≡ at.old }
     ensures kept { bus.new.value ≡ bus.old.value }
 {
@@ -64,7 +64,7 @@ pub extern "C" fn fdl_bus_is_settled(alloc: Global, bus: &mut BusHandle, settled
     ensures none { bus.old.value ≡ None
         → FindsNoBus result bus.new.value × (settled.new ≡ settled.old) }
     ensures settled { IfSome bus.old.value
-        (λ b. (result ≡ 0) × (settled.new ≡ is_settled (world_in b))) }
+        (λ b. (result ≡ 0) × (settled.new ≡ is_settled (world_in b.watched))) }
     ensures kept { bus.new.value ≡ bus.old.value }
 {
     let Some(there) = bus.take(alloc) else {
@@ -80,7 +80,7 @@ pub extern "C" fn fdl_bus_is_settled(alloc: Global, bus: &mut BusHandle, settled
 pub extern "C" fn fdl_bus_next_change(alloc: Global, bus: &mut BusHandle, at: &mut u64) -> u32
     ensures none { bus.old.value ≡ None → FindsNoBus result bus.new.value × (at.new ≡ at.old) }
     ensures change { IfSome bus.old.value
-        (λ b. (result ≡ 0) × (at.new ≡ unwrap_or (next_change (world_in b)) 18446744073709551615)) }
+        (λ b. (result ≡ 0) × (at.new ≡ unwrap_or (next_change (world_in b.watched)) 18446744073709551615)) }
     ensures kept { bus.new.value ≡ bus.old.value }
 {
     let Some(there) = bus.take(alloc) else {
@@ -100,7 +100,7 @@ pub extern "C" fn fdl_bus_phase(
     phase: &mut u32,
 ) -> u32
     ensures none { bus.old.value ≡ None → FindsNoBus result bus.new.value }
-    ensures phase { IfSome bus.old.value (λ b. AtTap (world_in b) tap result
+    ensures phase { IfSome bus.old.value (λ b. AtTap (world_in b.watched) tap result
         (λ t. phase.new ≡ phase_number t.station.phase)) }
     ensures same { result ≢ 0 → phase.new ≡ phase.old }
     ensures kept { bus.new.value ≡ bus.old.value }
@@ -125,7 +125,7 @@ pub extern "C" fn fdl_bus_is_active(
 ) -> u32
     ensures station { 126 < address → result ≡ 64 }
     ensures none { address ≤ 126 → bus.old.value ≡ None → FindsNoBus result bus.new.value }
-    ensures active { address ≤ 126 → IfSome bus.old.value (λ b. AtTap (world_in b) tap result
+    ensures active { address ≤ 126 → IfSome bus.old.value (λ b. AtTap (world_in b.watched) tap result
         (λ t. active.new ≡ is_member (members_of t.station.las.stage) address)) }
     ensures same { result ≢ 0 → active.new ≡ active.old }
     ensures kept { bus.new.value ≡ bus.old.value }
@@ -150,7 +150,7 @@ pub extern "C" fn fdl_bus_executed(
     count: &mut u64,
 ) -> u32
     ensures none { bus.old.value ≡ None → FindsNoBus result bus.new.value }
-    ensures count { IfSome bus.old.value (λ b. AtTap (world_in b) tap result
+    ensures count { IfSome bus.old.value (λ b. AtTap (world_in b.watched) tap result
         (λ t. count.new ≡ t.station.cycles.responder.executed)) }
     ensures same { result ≢ 0 → count.new ≡ count.old }
     ensures kept { bus.new.value ≡ bus.old.value }
@@ -172,7 +172,7 @@ pub extern "C" fn fdl_bus_outcome(
     outcome: &mut FdlOutcome,
 ) -> u32
     ensures none { bus.old.value ≡ None → FindsNoBus result bus.new.value }
-    ensures outcome { IfSome bus.old.value (λ b. AtTap (world_in b) tap result
+    ensures outcome { IfSome bus.old.value (λ b. AtTap (world_in b.watched) tap result
         (λ t. Tells outcome.new t.station.cycles.last_outcome)) }
     ensures same { result ≢ 0 → outcome.new ≡ outcome.old }
     ensures kept { bus.new.value ≡ bus.old.value }

@@ -13,6 +13,7 @@ use crate::codes::{BACKWARDS, LONG_DATA, NO_MEMORY};
 use crate::params::{FdlParams, bus_params};
 use crate::ports::request_of;
 use crate::taps::{FdlTap, check_taps, has_long_reply, specs_of};
+use pb_medium::TRACE_LIMIT;
 use pb_taps::Event;
 use pb_telegram::copy_octets;
 use pb_timers::BusParams;
@@ -28,9 +29,9 @@ const MOST_DATA: usize = 246;
 /// The longest noise, in bit times.
 const LONGEST_NOISE: u64 = 4_294_967_295;
 
-/// Makes a bus at clock 0 on which no tap runs, at an empty handle. Codes, in order: 74 where the handle isn't empty;
-/// 21 to 30, a fault of the parameters; 66 where a tap replies with more than 246 octets; 71, 72, 64; 63 where memory
-/// was refused.
+/// Makes a bus at clock 0 on which no tap runs, whose trace may have 100,000 entries, at an empty handle. Codes, in order:
+/// 74 where the handle isn't empty; 21 to 30, a fault of the parameters; 66 where a tap replies with more than 246 octets;
+/// 71, 72, 64; 63 where memory was refused.
 #[unsafe(no_mangle)]
 pub extern "C" fn fdl_bus_new(
     alloc: Global,
@@ -44,17 +45,26 @@ pub extern "C" fn fdl_bus_new(
         → Makes (model.new_world (params_of params.now) (map tap_spec_of taps.now)) result bus.new.value }
     ensures kept { result ≢ 0 → bus.new.value ≡ bus.old.value }
 {
-    if let Some(there) = bus.take(alloc) {
-        bus.put(there);
-        return BUS_IN_USE;
-    }
-    match new_bus(alloc, params, taps) {
-        Ok(made) => {
-            bus.put(made);
-            0
-        }
-        Err(code) => code,
-    }
+    make(alloc, bus, params, taps, TRACE_LIMIT)
+}
+
+/// The same, of a bus whose trace may have `entries` entries, those that are let go included.
+#[unsafe(no_mangle)]
+pub extern "C" fn fdl_bus_new_within(
+    alloc: Global,
+    bus: &mut BusHandle,
+    params: &FdlParams,
+    taps: &[FdlTap],
+    entries: usize,
+) -> u32
+    ensures refused { IfSome (first_fault (bus_codes bus.old.value (params_of params.now) taps.now))
+        (λ code. result ≡ code) }
+    ensures made { first_fault (bus_codes bus.old.value (params_of params.now) taps.now) ≡ None
+        → Makes (model.new_world_within entries (params_of params.now) (map tap_spec_of taps.now)) result
+        bus.new.value }
+    ensures kept { result ≢ 0 → bus.new.value ≡ bus.old.value }
+{
+    make(alloc, bus, params, taps, entries)
 }
 
 /// Frees the bus of a handle, which is empty then.
@@ -237,6 +247,34 @@ fn run_to(alloc: Global, bus: &mut DrivenBus, until: u64) -> u32
     event_code(bus.run(alloc, until))
 }
 
+/// Makes a bus at an empty handle.
+fn make(
+    alloc: Global,
+    bus: &mut BusHandle,
+    params: &FdlParams,
+    taps: &[FdlTap],
+    entries: usize,
+) -> u32
+    ensures refused { IfSome (first_fault (bus_codes bus.old.value (params_of params.now) taps.now))
+        (λ code. result ≡ code) }
+    ensures made { first_fault (bus_codes bus.old.value (params_of params.now) taps.now) ≡ None
+        → Makes (model.new_world_within entries (params_of params.now) (map tap_spec_of taps.now)) result
+        bus.new.value }
+    ensures kept { result ≢ 0 → bus.new.value ≡ bus.old.value }
+{
+    if let Some(there) = bus.take(alloc) {
+        bus.put(there);
+        return BUS_IN_USE;
+    }
+    match new_bus(alloc, params, taps, entries) {
+        Ok(made) => {
+            bus.put(made);
+            0
+        }
+        Err(code) => code,
+    }
+}
+
 /// Applies an event to the bus of a handle.
 fn happens(alloc: Global, bus: &mut BusHandle, event: &Event) -> u32
     ensures none { bus.old.value ≡ None → FindsNoBus result bus.new.value }
@@ -258,12 +296,18 @@ fn place_of(place: u32) -> Option<u8>
 }
 
 /// A new bus in a box, or the code of the first fault.
-fn new_bus(alloc: Global, params: &FdlParams, taps: &[FdlTap]) -> Result<Box<DrivenBus>, u32>
+fn new_bus(
+    alloc: Global,
+    params: &FdlParams,
+    taps: &[FdlTap],
+    entries: usize,
+) -> Result<Box<DrivenBus>, u32>
     ensures made { IfOk result (λ b. (first_fault (bus_codes None (params_of params.now) taps.now) ≡ None)
-        × Makes (model.new_world (params_of params.now) (map tap_spec_of taps.now)) 0 (Some b.value)) }
+        × Makes (model.new_world_within entries (params_of params.now) (map tap_spec_of taps.now)) 0
+        (Some b.value)) }
     ensures fault { IfErr result (λ code. (code ≢ 0)
         × MatchOption (first_fault (bus_codes None (params_of params.now) taps.now))
-        (Makes (model.new_world (params_of params.now) (map tap_spec_of taps.now)) code None)
+        (Makes (model.new_world_within entries (params_of params.now) (map tap_spec_of taps.now)) code None)
         (λ first. code ≡ first)) }
 {
     let params = bus_params(params)?;
@@ -271,22 +315,27 @@ fn new_bus(alloc: Global, params: &FdlParams, taps: &[FdlTap]) -> Result<Box<Dri
         return Err(LONG_DATA);
     }
     check_taps(&params, taps)?;
-    let bus = made_bus(alloc, params, taps)?;
+    let bus = made_bus(alloc, params, taps, entries)?;
     Box::new(alloc, bus).map_err(|_| NO_MEMORY)
 }
 
 /// A new bus, or the code of refused memory. The caller ensures that nothing else refuses it.
-fn made_bus(alloc: Global, params: BusParams, taps: &[FdlTap]) -> Result<DrivenBus, u32>
+fn made_bus(
+    alloc: Global,
+    params: BusParams,
+    taps: &[FdlTap],
+    entries: usize,
+) -> Result<DrivenBus, u32>
     requires { tap_fault params taps.now ≡ None }
     ensures made { IfOk result
-        (λ b. Makes (model.new_world params (map tap_spec_of taps.now)) 0 (Some b)) }
+        (λ b. Makes (model.new_world_within entries params (map tap_spec_of taps.now)) 0 (Some b)) }
     ensures fault { IfErr result (λ code. (code ≢ 0)
-        × Makes (model.new_world params (map tap_spec_of taps.now)) code None) }
+        × Makes (model.new_world_within entries params (map tap_spec_of taps.now)) code None) }
 {
     let Ok(specs) = specs_of(alloc, taps) else {
         return Err(NO_MEMORY);
     };
-    match DrivenBus::new(alloc, params, &specs) {
+    match DrivenBus::new_within(alloc, params, &specs, entries) {
         Ok(bus) => Ok(bus),
         Err(fault) => Err(new_code(fault)),
     }

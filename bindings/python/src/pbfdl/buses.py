@@ -4,7 +4,7 @@ from __future__ import annotations
 
 from ctypes import byref, c_bool, c_size_t, c_uint32, c_uint64
 from dataclasses import dataclass
-from typing import Any, Dict, Iterable, List, Mapping, Optional, Tuple
+from typing import Any, Dict, Iterable, Iterator, List, Mapping, Optional, Tuple
 
 from ._library import (
     MOST_DATA,
@@ -91,8 +91,10 @@ class Bus(Handle):
 
     _free = "fdl_bus_free"
 
-    def __init__(self, params: Params, taps: Iterable[Tap]) -> None:
-        """A bus with 1 to 127 taps.
+    def __init__(self, params: Params, taps: Iterable[Tap], *, entries: int = 100_000) -> None:
+        """A bus with 1 to 127 taps, whose trace may have this many entries; then events that add one raise `TraceFull`.
+
+        Entries that are let go (`take_settled`, `stream`) count, too: `entries=10**12` is enough for any run.
 
         Raises `LongData`, `NoTaps`, `TooManyTaps`, `BadStation` (a master's address over `params.hsa`, or another's over 126),
         `NoMemory`.
@@ -103,7 +105,8 @@ class Bus(Handle):
             if not isinstance(tap, Tap):
                 raise TypeError(f"taps[{index}] is {tap!r}; wanted: a Tap, as Tap(1)")
         given = (TapStruct * max(len(self._taps), 1))(*(tap._struct() for tap in self._taps))
-        self._call("fdl_bus_new", byref(params._struct()), given, len(self._taps), texts=self._new_texts)
+        words = byref(params._struct()), given, len(self._taps), number("entries", entries, 2**64 - 1)
+        self._call("fdl_bus_new_within", *words, texts=self._new_texts)
 
     def _new_texts(self) -> Mapping[Any, str]:
         texts: Dict[Any, str] = {TooManyTaps: f"there are {len(self._taps)} taps; allowed: 1 to {MOST_TAPS}"}
@@ -253,6 +256,38 @@ class Bus(Handle):
         }
         self._call("fdl_bus_run", moment("until", until), texts=texts)
 
+    def stream(self, until: int, *, step: int = 10_000) -> Iterator[Entry]:
+        """The bus runs to the moment `until`, `step` bit times at a time, and each entry is given once it is over and let go.
+
+        So memory stays the same, however long the run is. Between two entries the caller may do what it does between runs. What
+        is not over at the end stays in `trace`, and a later `stream` goes on with it. Raises what `run` raises.
+
+        >>> params = Params(tsl=100, tid1=37, tid2=60, tsdr=11, lag=0, ttr=10_000, gap=10, hsa=5, retries=1)
+        >>> with Bus(params, [Tap(1), Tap(2)], entries=10**12) as bus:
+        ...     bus.start(0)
+        ...     bus.start(1)
+        ...     sum(1 for entry in bus.stream(1_000_000) if entry.kind == "token")
+        14177
+        """
+        step = moment("step", step)
+        if step == 0:
+            raise ValueError("step is 0; allowed: 1 and more")
+        while True:
+            self.run(min(self.now + step, until) if self.now < until else until)
+            yield from self.take_settled()
+            if self.now >= until:
+                return
+
+    def take_settled(self) -> List[Entry]:
+        """The first entries of the trace, which are over and no longer change, and lets them go.
+
+        They leave `trace`, whose other entries then count from 0. The run goes on as if they still stood there, and `audit` still
+        knows them. Raises `NoMemory`, and nothing is let go then.
+        """
+        settled = self.trace[: self._number("fdl_bus_over", c_size_t)]
+        self._number("fdl_bus_let_go", c_size_t)
+        return settled
+
     # ---- what can be read
 
     @property
@@ -303,13 +338,14 @@ class Bus(Handle):
 
     @property
     def trace(self) -> Trace:
-        """What has been on the bus so far."""
+        """What has been on the bus so far, and was not let go."""
         return Trace(self)
 
     def audit(self) -> Audit:
         """Judges all events so far: whether the premises were kept, and whether each token and request is legal.
 
-        It takes time in proportion to the trace.
+        The index of an illegal entry is that in the whole trace, with those counted that were let go. It takes time in proportion
+        to those that were not. Raises `NoMemory`.
         """
         return Audit._of(self._ask("fdl_bus_audit", AuditStruct))
 

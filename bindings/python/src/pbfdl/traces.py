@@ -114,7 +114,7 @@ class Entry:
 
 
 class Trace(Sequence[Entry]):
-    """What has been on a bus so far, by begin, noise first, then by tap: a sequence of `Entry`, at most 100,000.
+    """What has been on a bus so far and was not let go, by begin, noise first, then by tap: a sequence of `Entry`.
 
     It reads the bus each time, so it grows with it, and an entry's `heard` changes while the telegram is on the bus;
     `list(bus.trace)` keeps it. With pandas: `pandas.DataFrame(bus.trace.rows())`.

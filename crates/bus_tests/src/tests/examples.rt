@@ -83,7 +83,7 @@ fn example_of_driven_bus(rt: HostRuntime) {
     // after 800 bit times of silence the master claims the token; it is then alone on the bus
     bus.run(alloc, 1_400).expect(&rt, "a run");
     assert_eq!(rt; bus.bus().now.get(), 1_400);
-    assert!(rt; bus.judge().premise.is_none());
+    assert!(rt; bus.judge(alloc).expect(&rt, "memory").premise.is_none());
 }
 
 #[test]

@@ -12,7 +12,7 @@ use Rattle.law_model.specs.Trace as trace
 use Rattle.law_model.specs.Trace.{Hit, Entry, Sent, cut_at, is_noise_at, noisy_until, begins_from, unheard_at}
 use Rattle.law_model.specs.Medium.{TapSpec, Tap, marks_between, entry_at}
 use Rattle.law_model.specs.World as world
-use Rattle.law_model.specs.World.{World, Event, Turn, Pass, Damage, Start, Stop, Queue, Noise, Unheard, Reply, Fault, NoSuchTap, Running, NotRunning, NothingInAir, ZeroTime, QueueFull, TraceFull, trace_limit, queue_limit, is_in_air_by, stopped_tap, new_faults, new_world}
+use Rattle.law_model.specs.World.{World, Event, Turn, Pass, Damage, Start, Stop, Queue, Noise, Unheard, Reply, Fault, NoSuchTap, Running, NotRunning, NothingInAir, ZeroTime, QueueFull, TraceFull, queue_limit, is_in_air_by, stopped_tap, new_faults, IsNewWorld}
 use Rattle.law_model.specs.Step.{sending, with_said, step_turn, told, pass_faults, with_hit, change_first, has_place, started_tap, step_start, halted, step_stop, step_queue, with_noise, is_noisy, world_after, step, RunsTo}
 use Rattle.law_model.specs.Laws.{IsSound, AllFit, IsEvent, AreEvents}
 use Rattle.law_model.proofs.Worlds.{unless-Ok, sound-step, sound-new_world}
@@ -185,10 +185,10 @@ runs_taped (e ∷ es) w next tap tape highest are runs h =
     subst (λ r. Taped next tap (taped_all tap (world_after w r) (taped tap w tape e) es)) (sym runs.2)
     (runs_taped es runs.0 next tap (taped tap w tape e) (subst (λ (z : Params). z.hsa < 127) (sym one.params) highest) are.1 runs.3 (step_taped w runs.0 tap tape e runs.1 highest are.0 runs.2 h))
 
-pub new_taped : (p : Params) (specs : List TapSpec) (w : World) (tap : ℕ) → p.hsa < 127 → AllFit specs → new_world p specs ≡ Ok w → Taped w tap blank
+pub new_taped : (p : Params) (specs : List TapSpec) (w : World) (tap : ℕ) → p.hsa < 127 → AllFit specs → IsNewWorld p specs w → Taped w tap blank
 new_taped p specs w tap highest fit ok =
-    let new : World = record { params = p; now = 0; trace = []; taps = map (stopped_tap p) specs; limit = trace_limit } in
-    let is : new ≡ w = (unless-Ok (new_faults p specs) new w ok).1 in
+    let new : World = record { params = p; now = 0; trace = []; taps = map (stopped_tap p) specs; limit = ok.0 } in
+    let is : new ≡ w = (unless-Ok (new_faults p specs) new w ok.1).1 in
     record {
       settled = settled_new p specs w highest fit ok;
       sound = sound-new_world p specs w fit ok;

@@ -12,7 +12,7 @@ use Rattle.law_turn.specs.Turns.{turn_of}
 use Rattle.law_model.specs.Trace.{Hit, Record, Entry, Sent, Noise, cut_at, cut_end, unheard_at}
 use Rattle.law_model.specs.Medium.{TapSpec, Tap, ends_between, heard_by, entry_at, reaches}
 use Rattle.law_model.specs.World as world
-use Rattle.law_model.specs.World.{World, Event, Turn, Pass, Damage, Start, Stop, Queue, Unheard, Reply, trace_limit, stopped_tap, new_faults, new_world}
+use Rattle.law_model.specs.World.{World, Event, Turn, Pass, Damage, Start, Stop, Queue, Unheard, Reply, stopped_tap, new_faults, IsNewWorld}
 use Rattle.law_model.specs.Step.{sending, with_hit, step, RunsTo}
 use Rattle.law_model.specs.Laws.{AllFit, IsEvent, AreEvents}
 use Rattle.law_model.proofs.Cases.{by_test}
@@ -127,10 +127,10 @@ new_names p [] k t at = absurd (none-some t at)
 new_names p (spec ∷ specs) zero t at = subst NamesTap (same_Some (stopped_tap p spec) t at) (refl, tt)
 new_names p (spec ∷ specs) (suc k) t at = new_names p specs k t at
 
-new_sourced : (p : Params) (specs : List TapSpec) (w : World) → p.hsa < 127 → AllFit specs → new_world p specs ≡ Ok w → Sourced w
+new_sourced : (p : Params) (specs : List TapSpec) (w : World) → p.hsa < 127 → AllFit specs → IsNewWorld p specs w → Sourced w
 new_sourced p specs w highest fit made =
-    let new : World = record { params = p; now = 0; trace = []; taps = map (stopped_tap p) specs; limit = trace_limit } in
-    let is : new ≡ w = (unless-Ok (new_faults p specs) new w made).1 in
+    let new : World = record { params = p; now = 0; trace = []; taps = map (stopped_tap p) specs; limit = made.0 } in
+    let is : new ≡ w = (unless-Ok (new_faults p specs) new w made.1).1 in
     record {
       settled = settled_new p specs w highest fit made;
       names = subst (λ (z : World). EachTap NamesTap z.taps) is (new_names p specs);
@@ -144,8 +144,8 @@ specs_stopped p (spec ∷ specs) = ap (λ l. spec ∷ l) (specs_stopped p specs)
 -- a run leaves the taps of its bus
 pub specs_after : (p : Params) (specs : List TapSpec) (events : List Event) (new w : World) → HasRun p specs events new w → specs_of w ≡ specs
 specs_after p specs events new w run =
-    let made : World = record { params = p; now = 0; trace = []; taps = map (stopped_tap p) specs; limit = trace_limit } in
-    (runs_same events new w run.runs).specs ∙ sym (ap specs_of (unless-Ok (new_faults p specs) made new run.made).1) ∙ specs_stopped p specs
+    let made : World = record { params = p; now = 0; trace = []; taps = map (stopped_tap p) specs; limit = run.made.0 } in
+    (runs_same events new w run.runs).specs ∙ sym (ap specs_of (unless-Ok (new_faults p specs) made new run.made.1).1) ∙ specs_stopped p specs
 
 all_each : (P : Entry → Type 0) (es : List Entry) → Each P es → captures.All P es
 all_each P [] all = tt

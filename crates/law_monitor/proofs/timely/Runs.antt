@@ -10,7 +10,7 @@ use Rattle.law_model.specs.Trace as trace
 use Rattle.law_model.specs.Trace.{Hit, Record, Entry, Sent, goes_before, with_entry, cut_at, begins_from, unheard_at}
 use Rattle.law_model.specs.Medium.{TapSpec, Tap, entry_at}
 use Rattle.law_model.specs.World as world
-use Rattle.law_model.specs.World.{World, Event, Turn, Pass, Damage, Start, Stop, Queue, Noise, Unheard, Reply, Fault, NoSuchTap, Running, NotRunning, NothingInAir, ZeroTime, QueueFull, TraceFull, queue_limit, is_in_air_by, trace_limit, stopped_tap, new_faults, new_world}
+use Rattle.law_model.specs.World.{World, Event, Turn, Pass, Damage, Start, Stop, Queue, Noise, Unheard, Reply, Fault, NoSuchTap, Running, NotRunning, NothingInAir, ZeroTime, QueueFull, TraceFull, queue_limit, is_in_air_by, stopped_tap, new_faults, IsNewWorld}
 use Rattle.law_model.specs.Step.{sending, with_said, step_turn, told, pass_faults, with_hit, change_first, has_place, started_tap, step_start, halted, step_stop, step_queue, with_noise, is_noisy, step, RunsTo}
 use Rattle.law_model.specs.Laws.{AreEvents}
 use Rattle.law_model.proofs.Worlds.{unless-Ok}
@@ -252,10 +252,10 @@ runs_keep P Also keeps (e ∷ es) w next waited are runs none i more have =
     (subst (λ o. (course_of (record { world = between; waited = all; broken = broken_or None between.now o }) es).broken ≡ None) breaks go) j (keeps.also w between waited all e runs.1 runs.2 i j more)
     (subst (λ s. AllHave P between.params s between.trace) (sym same.specs) (subst (λ q. AllHave P q (specs_of w) between.trace) (sym same.params) step))
 
-new_have : (P : Property) (p : Params) (specs : List TapSpec) (w : World) → new_world p specs ≡ Ok w → AllHave P w.params (specs_of w) w.trace
+new_have : (P : Property) (p : Params) (specs : List TapSpec) (w : World) → IsNewWorld p specs w → AllHave P w.params (specs_of w) w.trace
 new_have P p specs w ok =
-    let new : World = record { params = p; now = 0; trace = []; taps = map (stopped_tap p) specs; limit = trace_limit } in
-    subst (λ (z : World). AllHave P z.params (specs_of z) z.trace) (unless-Ok (new_faults p specs) new w ok).1 tt
+    let new : World = record { params = p; now = 0; trace = []; taps = map (stopped_tap p) specs; limit = ok.0 } in
+    subst (λ (z : World). AllHave P z.params (specs_of z) z.trace) (unless-Ok (new_faults p specs) new w ok.1).1 tt
 
 -- so each initiator telegram of a run that keeps the premises has it
 pub runs_have : (P : Property) (Also : World → Type 0) → IsKept P Also → (p : Params) (specs : List TapSpec) (events : List Event) (new w : World) → LeavesTime p → HasRun p specs events new w → first_broken new events ≡ None → Also new → AllHave P p specs w.trace

@@ -69,7 +69,7 @@ bound_is_reached = record {
   run = record {
     fit = (omega arith, (omega arith, tt));
     are = (tt, (tt, (tt, (tt, (tt, (tt, (tt, (tt, (tt, (tt, tt))))))))));
-    made = refl;
+    made = (trace_limit, refl);
     runs = runs_to first_world long_silence refl;
   };
   none = none_late first_world long_silence refl;

@@ -16,7 +16,7 @@ use Rattle.law_turn.proofs.Retrying.{left-started}
 use Rattle.law_model.specs.Trace.{Hit, Entry, Sent, with_entry, cut_at, is_noise_at, noisy_until}
 use Rattle.law_model.specs.Trace as trace
 use Rattle.law_model.specs.Medium.{TapSpec, Tap, new_marks, entry_at}
-use Rattle.law_model.specs.World.{World, Event, Turn, Pass, Damage, Start, Stop, Queue, Noise, Unheard, Reply, NoSuchTap, Running, NotRunning, NothingInAir, ZeroTime, QueueFull, TraceFull, trace_limit, queue_limit, is_in_air_by, stopped_tap, new_world, new_faults}
+use Rattle.law_model.specs.World.{World, Event, Turn, Pass, Damage, Start, Stop, Queue, Noise, Unheard, Reply, NoSuchTap, Running, NotRunning, NothingInAir, ZeroTime, QueueFull, TraceFull, queue_limit, is_in_air_by, stopped_tap, IsNewWorld, new_faults}
 use Rattle.law_model.specs.Step.{sending, with_said, step_turn, told, pass_faults, with_hit, change_first, has_place, started_tap, step_start, halted, step_stop, step_queue, with_noise, is_noisy, step}
 use Rattle.law_model.specs.Laws.{AllBegun, AllSayable, AllFit, IsEvent}
 use Rattle.law_model.proofs.Worlds.{unless-Ok, begun-with_said, begun-entry_at, begun-change_first, begun-cut_at, begun-with_noise, lengthens-with_hit, sayable-set, sayable-at, sayable-told, sayable-stopped_taps}
@@ -282,10 +282,10 @@ new_taps p [] k t at = absurd (none-some t at)
 new_taps p (spec ∷ specs) zero t at = subst (λ (z : Tap). (z.running ≡ false) × (z.station.address ≡ z.spec.address)) (same_Some (stopped_tap p spec) t at) (refl, refl)
 new_taps p (spec ∷ specs) (suc k) t at = new_taps p specs k t at
 
-pub new_watches : (p : Params) (specs : List TapSpec) (w : World) → LeavesTime p → AllFit specs → new_world p specs ≡ Ok w → Watch p w
+pub new_watches : (p : Params) (specs : List TapSpec) (w : World) → LeavesTime p → AllFit specs → IsNewWorld p specs w → Watch p w
 new_watches p specs w fits fit new =
-    let made : World = record { params = p; now = 0; trace = []; taps = map (stopped_tap p) specs; limit = trace_limit } in
-    let same = unless-Ok (new_faults p specs) made w new in
+    let made : World = record { params = p; now = 0; trace = []; taps = map (stopped_tap p) specs; limit = new.0 } in
+    let same = unless-Ok (new_faults p specs) made w new.1 in
     subst (λ z. Watch p z) same.1 (record {
       params = refl;
       fits = fits;

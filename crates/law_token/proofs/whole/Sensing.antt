@@ -20,7 +20,7 @@ use Rattle.law_turn.proofs.Initiating.{fits-turn_of}
 use Rattle.law_model.specs.Trace.{Hit, Entry, Sent, with_entry, cut_at, is_noise_at, noisy_until, begins_from, unheard_at}
 use Rattle.law_model.specs.Trace as trace
 use Rattle.law_model.specs.Medium.{TapSpec, Tap, sensed, begins_in, ends_in, marks_between, new_marks, entry_at}
-use Rattle.law_model.specs.World.{World, Event, Turn, Pass, Damage, Start, Stop, Queue, Noise, Unheard, Reply, Fault, unless, NoSuchTap, Running, NotRunning, NothingInAir, ZeroTime, QueueFull, TraceFull, trace_limit, queue_limit, is_in_air_by, stopped_tap, new_world, new_faults}
+use Rattle.law_model.specs.World.{World, Event, Turn, Pass, Damage, Start, Stop, Queue, Noise, Unheard, Reply, Fault, unless, NoSuchTap, Running, NotRunning, NothingInAir, ZeroTime, QueueFull, TraceFull, queue_limit, is_in_air_by, stopped_tap, IsNewWorld, new_faults}
 use Rattle.law_model.specs.Step.{sending, with_said, step_turn, told, pass_faults, with_hit, change_first, has_place, started_tap, step_start, halted, step_stop, step_queue, with_noise, is_noisy, step, RunsTo}
 use Rattle.law_model.specs.Laws.{AllBegun, AreEvents}
 use Rattle.law_model.proofs.Worlds.{unless-Ok, begun-with_said, begun-entry_at, begun-change_first, begun-cut_at, begun-with_noise, lengthens-with_hit, lengthens-unheard_at}
@@ -304,10 +304,10 @@ step_sensed w next (Unheard tap speaker) reply ok set k =
 
 -- ---- runs
 
-new_sensed : (p : Params) (specs : List TapSpec) (w : World) → new_world p specs ≡ Ok w → Sensed w
+new_sensed : (p : Params) (specs : List TapSpec) (w : World) → IsNewWorld p specs w → Sensed w
 new_sensed p specs w new =
-    let made : World = record { params = p; now = 0; trace = []; taps = map (stopped_tap p) specs; limit = trace_limit } in
-    subst Sensed (unless-Ok (new_faults p specs) made w new).1 (record { begun = tt; taps = λ k t at run. absurd (none_runs p specs k t at run) })
+    let made : World = record { params = p; now = 0; trace = []; taps = map (stopped_tap p) specs; limit = new.0 } in
+    subst Sensed (unless-Ok (new_faults p specs) made w new.1).1 (record { begun = tt; taps = λ k t at run. absurd (none_runs p specs k t at run) })
   where
     none_runs : (p : Params) (specs : List TapSpec) (k : ℕ) (t : Tap) → slice_get (map (stopped_tap p) specs) k ≡ Some t → t.running ≡ true → ⊥
     none_runs p [] k t at run = none-some t at

@@ -20,7 +20,7 @@ use Rattle.law_turn.proofs.Standing.{stands-started, stands-pushed}
 use Rattle.law_model.specs.Trace.{Hit, Entry, cut_at, begins_from, unheard_at}
 use Rattle.law_model.specs.Medium.{Tap, TapSpec, new_marks, entry_at}
 use Rattle.law_model.specs.World as world
-use Rattle.law_model.specs.World.{World, Event, Turn, Pass, Damage, Start, Stop, Queue, Noise, Unheard, Reply, Fault, NoSuchTap, Running, NotRunning, NothingInAir, ZeroTime, QueueFull, TraceFull, trace_limit, queue_limit, is_in_air_by, stopped_tap, has_bad_address, first_bad_address, new_faults, new_world}
+use Rattle.law_model.specs.World.{World, Event, Turn, Pass, Damage, Start, Stop, Queue, Noise, Unheard, Reply, Fault, NoSuchTap, Running, NotRunning, NothingInAir, ZeroTime, QueueFull, TraceFull, queue_limit, is_in_air_by, stopped_tap, has_bad_address, first_bad_address, new_faults, IsNewWorld}
 use Rattle.law_model.specs.Step.{with_said, step_turn, told, pass_faults, with_hit, change_first, has_place, started_tap, step_start, halted, step_stop, step_queue, with_noise, is_noisy, world_after, step}
 use Rattle.law_model.specs.Laws.{AllFit, IsEvent}
 use Rattle.law_model.proofs.Worlds.{unless-Ok}
@@ -260,10 +260,10 @@ new_taps p n (spec ∷ specs) highest good fit (suc k) t at = new_taps p (n + 1)
 
 -- ---- both, of a world
 
-pub settled_new : (p : Params) (specs : List TapSpec) (w : World) → p.hsa < 127 → AllFit specs → new_world p specs ≡ Ok w → Settled w
+pub settled_new : (p : Params) (specs : List TapSpec) (w : World) → p.hsa < 127 → AllFit specs → IsNewWorld p specs w → Settled w
 settled_new p specs w highest fit made =
-    let new : World = record { params = p; now = 0; trace = []; taps = map (stopped_tap p) specs; limit = trace_limit } in
-    let done = unless-Ok (new_faults p specs) new w made in
+    let new : World = record { params = p; now = 0; trace = []; taps = map (stopped_tap p) specs; limit = made.0 } in
+    let done = unless-Ok (new_faults p specs) new w made.1 in
     let stays = subst (λ (z : World). EachTap (TapStays z.params) z.taps) done.1 (new_taps p 0 specs highest done.0.1.1.0 fit) in
     record { stands = stands-new p specs w made; stays = stays }
 
@@ -279,6 +279,6 @@ pub same_bus : (w next : World) (e : Event) (reply : Reply) → step w e ≡ Ok 
 same_bus w next e reply ok =
     (step_after (λ r. Unit {0}) (λ t. Unit {0}) w next (record { marks = λ t ms h. h; turn = λ t now run h. h; start = λ v k t same h. h; stop = λ t h. h; queue = λ t r is h. h }) e reply (asks_any e) ok (λ k t at. tt)).0
 
-pub new_params : (p : Params) (specs : List TapSpec) (w : World) → new_world p specs ≡ Ok w → w.params ≡ p
+pub new_params : (p : Params) (specs : List TapSpec) (w : World) → IsNewWorld p specs w → w.params ≡ p
 new_params p specs w made =
-    let new : World = record { params = p; now = 0; trace = []; taps = map (stopped_tap p) specs; limit = trace_limit } in sym (ap (λ (z : World). z.params) (unless-Ok (new_faults p specs) new w made).1)
+    let new : World = record { params = p; now = 0; trace = []; taps = map (stopped_tap p) specs; limit = made.0 } in sym (ap (λ (z : World). z.params) (unless-Ok (new_faults p specs) new w made.1).1)

@@ -1,7 +1,7 @@
 use Rattle.std.proofs.Common.{◌≡◌, ◌∙◌, List, Some, Ok, ap, sym, subst, map}
 use Rattle.law_model.specs.Step.{RunsTo}
 use Rattle.law_model.specs.Trace.{Entry}
-use Rattle.law_model.specs.World.{new_world}
+use Rattle.law_model.specs.World.{trace_limit, new_world}
 use Rattle.law_runs.specs.Judging.{StandsFrom}
 use Rattle.law_runs.proofs.Ordered.{leads-in-order}
 use Rattle.pb_taps.specs.Events.{event_of}
@@ -25,4 +25,4 @@ returns-in-Ok-trace_after-clause-order c =
     let after = c.in-Ok-trace_after.ensures in
     let params = subst (λ p. new_world p (map spec_of c.taps.result.now) ≡ Ok c.in-Ok.world) c.params.ensures c.in-Ok.ensures.ok in
     let new = subst (λ specs. new_world s.params specs ≡ Ok c.in-Ok.world) c.taps.ensures.specs params in
-    subst (StandsFrom 0) (sym after.2) (leads-in-order s.params s.taps (map event_of c.deref.result.now) c.in-Ok.world after.0 new after.1)
+    subst (StandsFrom 0) (sym after.2) (leads-in-order s.params s.taps (map event_of c.deref.result.now) c.in-Ok.world after.0 (trace_limit, new) after.1)

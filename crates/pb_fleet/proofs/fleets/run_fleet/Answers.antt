@@ -4,7 +4,7 @@ use Rattle.pb_fleet.proofs.Telling.{begins_so}
 use Rattle.pb_fleet.proofs.fleets.run_fleet.Goals as goal
 
 pub fleet-requires-clause-new : goal.fleet-requires-clause-new
-fleet-requires-clause-new g c κs within = c.in-Ok.ensures.lead
+fleet-requires-clause-new g c κs within = (c.in-Ok.ensures.lead, c.in-Ok.ensures.limit)
 
 pub fleet-requires-clause-origin : goal.fleet-requires-clause-origin
 fleet-requires-clause-origin g c κs within =

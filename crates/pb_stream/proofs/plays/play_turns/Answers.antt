@@ -6,7 +6,8 @@ use Rattle.pb_world.specs.Buses.{world_of}
 use Rattle.pb_world.specs.Worlds.{due_at}
 use Rattle.pb_scenario.specs.Walks.{plan_in}
 use Rattle.pb_scenario.proofs.Moving.{in-err}
-use Rattle.pb_stream.proofs.Playing.{all-left, so-far-all, so-far-more, so-far-none, turn-agrees, turn-more, turns-played, turns-refused}
+use Rattle.pb_scenario.proofs.Soonest.{so-far-all, so-far-more, so-far-none}
+use Rattle.pb_stream.proofs.Playing.{all-left, turn-agrees, turn-more, turns-played, turns-refused}
 use Rattle.pb_stream.proofs.plays.play_turns.Goals as goal
 
 pub loop-tap-init : goal.loop-tap-init

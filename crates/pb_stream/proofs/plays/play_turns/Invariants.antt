@@ -5,7 +5,8 @@ use Rattle.law_runs.specs.Premises.{Course}
 use Rattle.pb_scenario.specs.Walks.{plan_in}
 use Rattle.pb_stream.specs.Stages.{GoesFrom, taps_of}
 use Rattle.pb_world.specs.Buses.{world_of}
-use Rattle.pb_stream.proofs.Playing.{AreLeft, ComesSoFar}
+use Rattle.pb_scenario.proofs.Soonest.{ComesSoFar}
+use Rattle.pb_stream.proofs.Playing.{AreLeft}
 use Rattle.pb_stream.proofs.plays.play_turns.Given as goal
 
 abbrev pub invariant-loop-tap : goal.invariant-loop-tap

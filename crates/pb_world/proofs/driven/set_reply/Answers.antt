@@ -7,4 +7,4 @@ returns c =
     let e = c.set_reply.ensures in
     let old = c.args.watched.now in
     let both = sets-so old (record { bus = c.set_reply.new.self; watch = old.watch; told = old.told }) c.args.tap c.args.reply.items c.set_reply.result c.requires e.kept refl refl e.fits e.sets in
-    record { sets = both.0; watched = both.1 }
+    record { sets = both.0; followed = both.1 }

@@ -1,4 +1,5 @@
 use Rattle.std.proofs.Common.{map}
+use Rattle.law_model.specs.World.{trace_limit}
 use Rattle.pb_world.specs.Buses.{world_of}
 use Rattle.law_live.proofs.Promising.{new_begins}
 use Rattle.pb_taps.specs.Events.{event_of}
@@ -10,7 +11,7 @@ pub follow_all-requires : goal.follow_all-requires
 follow_all-requires c =
     let bus = c.in-Ok.bus in
     let made = c.in-Ok.ensures in
-    let lead = new_begins c.args.params (map spec_of c.args.specs.now) (world_of bus) made.valid made.fit made.ok in
+    let lead = new_begins c.args.params (map spec_of c.args.specs.now) (world_of bus) made.valid made.fit (trace_limit, made.ok) in
     begins-none c.none-stretches.result bus made.kept lead.0 made.blank.start c.none-stretches.ensures.calm c.none-stretches.ensures.none
 
 pub returns-in-Ok-follow_all-clause-bounds : goal.returns-in-Ok-follow_all-clause-bounds

@@ -26,7 +26,7 @@ returns-clause-kept c =
     ∙ ap (λ ts. Ok (made c.beginning.result (entries_of c.new.result) ts trace_limit)) (sym there)
     ∙ ap (λ l. Ok (made c.beginning.result (entries_of c.new.result) (map tap_of taps) l)) (sym c.new.ensures.limit) in
     record {
-      sound = sound-new_world p specs _ c.in_ok-taps.ensures.fit new;
+      sound = sound-new_world p specs _ c.in_ok-taps.ensures.fit (trace_limit, new);
       clock = omega (arith, c.beginning.ensures);
       room = omega (
         arith,

@@ -4,7 +4,7 @@ use Rattle.std.proofs.lemmas.List.{length-map}
 use Rattle.law_model.specs.World.{Turn}
 use Rattle.pb_taps.specs.Taps.{tap_of}
 use Rattle.pb_world.specs.Watched.{world_in}
-use Rattle.pb_world.proofs.Alone.{none-turned, turned-more, turned-stops}
+use Rattle.pb_world.proofs.Alone.{none-turned, turned-all, turned-more, turned-stops}
 use Rattle.pb_world.proofs.Counting.{count-all}
 use Rattle.pb_world.proofs.Instants.{in-err}
 use Rattle.pb_world.proofs.run_to.play_turns.Goals as goal
@@ -32,3 +32,9 @@ loop-tap-preserved c =
     let there : c.loop-tap.tap < length (world_in mid).taps =
     omega (arith, c.loop-tap-test.true, c.len-tap-end.ensures, length-map old.bus.taps.items tap_of, same) in
     turned-more c.args.leg.until c.args.leg.now c.loop-tap.tap old mid c.play_turn.new.watched turned there c.in_ok-play_turn.ensures
+
+pub returns : goal.returns
+returns c =
+    let old = c.args.watched.now in
+    turned-all c.args.leg.until c.args.leg.now c.loop-tap.tap old c.loop-tap.watched c.loop-tap.invariant
+    (omega (arith, c.loop-tap-test.false, c.len-tap-end.ensures, length-map old.bus.taps.items tap_of))

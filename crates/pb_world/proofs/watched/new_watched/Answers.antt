@@ -1,11 +1,10 @@
 use Rattle.std.proofs.Common.{◌∙◌, arith, sym, map}
 use Rattle.std.proofs.lemmas.List.{length-map}
+use Rattle.law_model.specs.World.{trace_limit}
 use Rattle.pb_taps.specs.Taps.{spec_of, tap_of}
 use Rattle.pb_world.specs.Buses.{world_of}
-use Rattle.law_live.proofs.Acting.{new_acts}
 use Rattle.law_live.proofs.Promising.{new_begins}
 use Rattle.pb_world.proofs.Premising.{quiet-blank}
-use Rattle.pb_world.proofs.Acting.{acts-new}
 use Rattle.pb_world.proofs.Coming.{comes-new}
 use Rattle.pb_world.proofs.Lasting.{namesakes-new}
 use Rattle.pb_world.proofs.watched.new_watched.Goals as goal
@@ -21,10 +20,4 @@ returns-clause-came c =
         oldest = λ tap there. omega (arith, c.new.ensures.oldest);
         namesakes = c.new.ensures.namesakes ∙ sym (namesakes-new c.args.params (map spec_of c.args.specs.now) (world_of bus) c.in_ok-bus.ensures.ok);
       };
-    }) (new_begins c.args.params (map spec_of c.args.specs.now) (world_of bus) c.in_ok-bus.ensures.valid c.in_ok-bus.ensures.fit c.in_ok-bus.ensures.ok).0 c.new.ensures.watched
-
-pub returns-clause-acted : goal.returns-clause-acted
-returns-clause-acted c =
-    let came = returns-clause-came c in
-    acts-new (record { bus = c.in_ok-bus.bus; watch = c.new.result; told = c.nothing.result }) came.watched
-    (new_acts c.args.params (map spec_of c.args.specs.now) (world_of c.in_ok-bus.bus) c.in_ok-bus.ensures.valid c.in_ok-bus.ensures.fit c.in_ok-bus.ensures.ok).0 c.new.ensures.watched
+    }) (new_begins c.args.params (map spec_of c.args.specs.now) (world_of bus) c.in_ok-bus.ensures.valid c.in_ok-bus.ensures.fit (trace_limit, c.in_ok-bus.ensures.ok)).0 c.new.ensures.watched

@@ -1,7 +1,7 @@
-use Rattle.std.proofs.Common.{Option, subst, sym}
+use Rattle.std.proofs.Common.{◌≡◌, Option, subst, sym}
 use Rattle.std.specs.Prelude.{IfSome}
 use Rattle.pb_world.specs.Driven.{SetsReply}
-use Rattle.pb_world.specs.declared.watched.Watched.{Watched}
+use Rattle.pb_world.specs.declared.driven.Driven.{Driven}
 use Rattle.pbfdl.specs.Buses.{SetsAt}
 use Rattle.pbfdl.proofs.buses.fdl_bus_set_reply.Goals as goal
 
@@ -12,7 +12,9 @@ returns-clause-sets c = λ fits.
     let r = c.set_reply.result in
     let next = c.set_reply.new.self in
     let b = c.in-Some.there.value in
-    let on : SetsReply b tap unit r next =
-    subst (λ u. SetsReply b tap u r next) c.copy_octets.ensures (subst (λ (x : Watched). SetsReply x tap c.copy_octets.result.items r next) c.deref_mut.ensures.value c.set_reply.ensures) in
-    subst (λ (o : Option Watched). IfSome o (λ x. SetsAt x tap unit c.event_code-code.result c.put.new.self.value)) (sym c.in-Some.ensures.taken)
-    (next, c.put.ensures, r, c.event_code-code.ensures, on)
+    let on : SetsReply b.watched tap unit r next.watched =
+    subst (λ u. SetsReply b.watched tap u r next.watched) c.copy_octets.ensures
+    (subst (λ (x : Driven). SetsReply x.watched tap c.copy_octets.result.items r next.watched) c.deref_mut.ensures.value c.set_reply.ensures.sets) in
+    let judge : next.judge ≡ b.judge = subst (λ (x : Driven). next.judge ≡ x.judge) c.deref_mut.ensures.value c.set_reply.ensures.judge in
+    subst (λ (o : Option Driven). IfSome o (λ x. SetsAt x tap unit c.event_code-code.result c.put.new.self.value)) (sym c.in-Some.ensures.taken)
+    (next, c.put.ensures, judge, r, c.event_code-code.ensures, on)

@@ -8,4 +8,4 @@ returns c =
     let b = c.args.bus.now in
     let next = c.run.new.self in
     runs-free b c.args.until _ _ (omega (arith, c.if-until-get.false, c.get.ensures.value, ap (λ (x : Bus). x.now) c.bus.ensures.bus)) (omega (arith, c.if-until-gt-LAST_CLOCK.false))
-    (next, refl, c.run.result, c.event_code.ensures, ran-by b next c.args.until c.run.result c.run.ensures.run c.run.ensures.fault)
+    (next, refl, c.run.ensures.judge, c.run.result, c.event_code.ensures, ran-by b.watched next.watched c.args.until c.run.result c.run.ensures.run c.run.ensures.fault)

@@ -7,4 +7,4 @@ returns-clause-taps c = watched-counts c.args.self.now c.follow.new.self (event_
 
 pub returns-clause-plays : goal.returns-clause-plays
 returns-clause-plays c =
-    watched-plays c.args.self.now c.follow.new.self (event_of c.args.event.now) c.follow.result c.follow.ensures.kept c.follow.ensures.leads c.follow.ensures.steps c.follow.ensures.err c.follow.ensures.found
+    watched-plays c.args.self.now c.follow.new.self (event_of c.args.event.now) c.follow.result c.follow.ensures.kept c.follow.ensures.event c.follow.ensures.leads c.follow.ensures.steps c.follow.ensures.err c.follow.ensures.found

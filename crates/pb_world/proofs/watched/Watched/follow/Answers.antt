@@ -1,24 +1,15 @@
 use Rattle.std.specs.Prelude.{Ok}
-use Rattle.law_streams.proofs.PastStays.{past-stays}
 use Rattle.pb_taps.specs.Events.{event_of}
-use Rattle.pb_world.specs.Buses.{world_of, world_with}
-use Rattle.pb_world.proofs.Behind.{plain-knows, plain-stands, steps-behind}
-use Rattle.pb_world.proofs.Coming.{comes-by}
-use Rattle.pb_world.proofs.Premising.{world-followed}
+use Rattle.pb_world.proofs.Behind.{plain-knows, plain-stands}
+use Rattle.pb_world.proofs.Coming.{comes-by, leads-on, still-followed}
 use Rattle.pb_world.proofs.watched.Watched.follow.Goals as goal
 
 pub returns-clause-followed : goal.returns-clause-followed
 returns-clause-followed c =
-    let (old, past, knows) = c.requires.knows in
+    let before = c.args.self.now in
     let steps = c.in_ok-follow.ensures.steps in
-    record {
-      kept = c.in_ok-follow.ensures.kept;
-      knows = (
-        old,
-        past-stays old (world_of c.args.self.now.bus) (world_of c.follow.new.bus) (event_of c.args.event.now) steps.0 past steps.1,
-        c.in_ok-follow.ensures.knows old past knows,
-      );
-    }
+    still-followed before (record { bus = c.follow.new.bus; watch = c.follow.new.watch; told = before.told }) (event_of c.args.event.now) steps.0 c.requires c.in_ok-follow.ensures.kept steps.1
+    c.in_ok-follow.ensures.knows
 
 pub returns-clause-watched : goal.returns-clause-watched
 returns-clause-watched c = λ watched. record {
@@ -27,19 +18,11 @@ returns-clause-watched c = λ watched. record {
 }
 
 pub returns-clause-leads : goal.returns-clause-leads
-returns-clause-leads c = λ old course at.
-    let before = c.args.self.now.bus in
-    let after = c.follow.new.bus in
-    let w = world_of before in
-    let next = world_of after in
-    let e = event_of c.args.event.now in
+returns-clause-leads c =
+    let before = c.args.self.now in
     let steps = c.in_ok-follow.ensures.steps in
-    record {
-      past = past-stays old w next e steps.0 at.past steps.1;
-      here = world-followed course (world_with old before) (world_with old after) e steps.0 at.here (steps-behind old w next e steps.0 at.past steps.1);
-      knows = c.in_ok-follow.ensures.knows old at.past at.knows;
-      stands = c.in_ok-follow.ensures.stands old at.past at.knows course at.here at.stands;
-    }
+    leads-on before (record { bus = c.follow.new.bus; watch = c.follow.new.watch; told = before.told }) (event_of c.args.event.now) steps.0 steps.1
+    c.in_ok-follow.ensures.knows c.in_ok-follow.ensures.stands
 
 pub returns-clause-came : goal.returns-clause-came
 returns-clause-came c = λ start events came.

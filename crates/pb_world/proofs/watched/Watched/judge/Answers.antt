@@ -1,4 +1,5 @@
 use Rattle.std.proofs.Common.{◌∙◌}
+use Rattle.law_model.specs.World.{trace_limit}
 use Rattle.law_runs.proofs.Ordered.{is-ordered, leads-in-order}
 use Rattle.law_live.proofs.Promising.{kept_promises}
 use Rattle.pb_world.specs.Auditing.{Finds}
@@ -10,7 +11,7 @@ pub findings-requires : goal.findings-requires
 findings-requires c =
     let w = world_in c.args.self.now in
     let (p, specs, start, events, made, came) = c.requires in
-    is-ordered w came.watched.kept.sound (leads-in-order p specs events start w made came.lead.run.runs)
+    is-ordered w came.watched.kept.sound (leads-in-order p specs events start w (trace_limit, made) came.lead.run.runs)
 
 pub returns : goal.returns
 returns c = λ p specs start events made came.
