@@ -135,6 +135,7 @@ _FUNCTIONS = {
     "fdl_port_is_active": [_HANDLE, c_uint8, POINTER(c_bool)],
     "fdl_port_executed": [_HANDLE, POINTER(c_uint64)],
     "fdl_port_outcome": [_HANDLE, POINTER(OutcomeStruct)],
+    "fdl_bus_new": [_HANDLE, _PARAMS, POINTER(TapStruct), c_size_t],
     "fdl_bus_new_within": [_HANDLE, _PARAMS, POINTER(TapStruct), c_size_t, c_size_t],
     "fdl_bus_start": [_HANDLE, c_size_t],
     "fdl_bus_stop": [_HANDLE, c_size_t],
