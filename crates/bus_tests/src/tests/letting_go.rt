@@ -32,8 +32,8 @@ fn a_run_goes_on_without_what_is_over(rt: HostRuntime) {
         let over = bus.past().len();
         equal(&rt, &bus.let_go(rt.alloc()), &Ok(over));
         equal(&rt, &bus.past().len(), &0);
-        gone += over;
-        equal(&rt, &(gone + entries(&bus)), &entries(&whole));
+        gone = over.saturating_add(gone);
+        equal(&rt, &entries(&bus).saturating_add(gone), &entries(&whole));
     }
     assert!(rt; gone > 50);
     equal(&rt, &bus.judge(rt.alloc()), &whole.judge(rt.alloc()));
@@ -73,7 +73,7 @@ fn a_bus_ends_after_its_number_of_entries(rt: HostRuntime) {
         &bus.run(rt.alloc(), 100_000),
         &Err(WorldFault::TraceFull),
     );
-    equal(&rt, &(gone + entries(&bus)), &10);
+    equal(&rt, &entries(&bus).saturating_add(gone), &10);
 }
 
 /// A ring of two says more than 5,000 telegrams in 400,000 bit times; few of them are kept at any time.
@@ -84,7 +84,8 @@ fn a_long_run_keeps_few_entries(rt: HostRuntime) {
     for step in 1..41 {
         bus.run(rt.alloc(), step * 10_000).expect(&rt, "a run");
         assert!(rt; entries(&bus) < 200);
-        gone += bus.let_go(rt.alloc()).expect(&rt, "memory");
+        let over = bus.let_go(rt.alloc()).expect(&rt, "memory");
+        gone = over.saturating_add(gone);
     }
     assert!(rt; gone > 5_000);
     let none = Audit {
@@ -114,7 +115,7 @@ fn refused_memory_for_letting_go(rt: HostRuntime) {
         let _ = println!(rt; "refused");
         equal(&rt, &bus.let_go(rt.alloc()), &Ok(over));
     }
-    equal(&rt, &entries(&bus), &(all - over));
+    equal(&rt, &entries(&bus), &all.saturating_sub(over));
     if bus.judge(rt.alloc()).is_err() {
         let _ = println!(rt; "refused");
         assert!(rt; bus.judge(rt.alloc()).is_ok());
