@@ -19,10 +19,10 @@ ghost use Rattle.std.specs.Prelude.{◌≡◌, true};
 use arrayvec::ArrayVec;
 use pb_cycles::{Outcome, Request, Service};
 use pb_station::{SendBuffer, Station, decide, decide_in};
-use pb_timers::BusParams;
+use pb_timers::{BusParams, Moment};
 use pb_world::{
-    AuditFault, Entry, Event, Heard, Kind, NewFault, Reply, TapSpec, World, WorldFault, audit,
-    audit_shared, run, run_shared,
+    AuditFault, DrivenBus, Entry, Event, Heard, Kind, NewFault, Reply, TapSpec, World, WorldFault,
+    audit, audit_shared, run, run_shared,
 };
 use std::fmt::Debug;
 use std::process::Abort;
@@ -93,6 +93,19 @@ fn due(world: &World, tap: usize) -> Option<u64> {
 
 fn next_change(world: &World) -> Option<u64> {
     Some(world.next_change()?.get())
+}
+
+/// Its time-out ends after 800 bit times of silence.
+#[test]
+fn a_master_is_due_by_the_end_of_its_time_out(rt: HostRuntime) {
+    let (soon, then) = (Moment::new(799), Moment::new(800));
+    let (soon, then) = (soon.expect(&rt, "a moment"), then.expect(&rt, "a moment"));
+    let mut bus = DrivenBus::new(rt.alloc(), usual(&rt), &[master(1)]).expect(&rt, "a bus");
+    assert!(rt; !bus.bus().is_due(0, then));
+    bus.apply(rt.alloc(), &Event::Start(0))
+        .expect(&rt, "a start");
+    assert!(rt; !bus.bus().is_due(0, soon) && bus.bus().is_due(0, then));
+    assert!(rt; !bus.bus().is_due(1, then));
 }
 
 #[test]

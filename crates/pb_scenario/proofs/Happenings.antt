@@ -286,11 +286,6 @@ none-at m steps from other =
 
 -- ---- what a walk knows of the plan
 
-pub wants-now : (steps : List Planned) (until at : ℕ) (today : List Deed) (later : List Planned) (held : List ℕ) (tap : ℕ) (due : Option ℕ) → IsComing steps at today later held → tap < length held
-    → wants (plan_of steps until) at tap due ≡ wants_in (slice_index held tap) at due
-wants-now steps until at today later held tap None coming there = refl
-wants-now steps until at today later held tap (Some due) coming there = ap (λ n. nat_le due at && nat_le n at) (held-now steps at today later held tap coming there)
-
 pub comes-now : (steps : List Planned) (until at : ℕ) (today : List Deed) (later : List Planned) (held : List ℕ) (tap : ℕ) (due : Option ℕ) → IsComing steps at today later held → tap < length held
     → comes (plan_of steps until) at tap due ≡ comes_in at (slice_index held tap) due
 comes-now steps until at today later held tap due coming there = ap (λ n. comes_in at n due) (held-now steps at today later held tap coming there)

@@ -112,6 +112,7 @@ fn play_turns<S: Stage>(
     now: Moment,
     walk: &Walk<'_>,
 ) -> Result<Option<u64>, RunFault>
+    requires now { now ≡ walk.now.clock }
     requires taps { length (S.view stage.old).world.taps ≡ walk.now.taps }
     requires ready { IsReady (S.view stage.old) }
     ensures plays { Plays now (S.view stage.old)
@@ -134,6 +135,7 @@ fn play_turn<S: Stage>(
     walk: &Walk<'_>,
     tap: usize,
 ) -> Result<Option<Moment>, RunFault>
+    requires now { now ≡ walk.now.clock }
     requires tap { tap < walk.now.taps }
     requires ready { IsReady (S.view stage.old) }
     ensures plays { Plays now (S.view stage.old)
@@ -141,12 +143,23 @@ fn play_turn<S: Stage>(
         result (S.view stage.new) }
     ensures due { IfOk result (λ due. due ≡ due_at (S.view stage.new).world tap) }
 {
-    let due = stage.bus().due(tap);
-    if walk.wants(tap, due.as_ref().copied()) {
+    if takes_turn(stage, now, walk, tap) {
         happens(alloc, stage, now, &Event::Turn(tap))?;
         return Ok(stage.bus().due(tap));
     }
-    Ok(due)
+    Ok(stage.bus().due(tap))
+}
+
+/// Whether a tap takes its turn now: it is due and not withheld.
+#[inline(always)]
+fn takes_turn<S: Stage>(stage: &S, now: Moment, walk: &Walk<'_>, tap: usize) -> bool
+    requires now { now ≡ walk.now.clock }
+    requires tap { tap < walk.now.taps }
+    requires ready { IsReady (S.view stage.now) }
+    ensures { result
+        ≡ wants (plan_in walk.now) walk.now.clock tap (due_at (S.view stage.now).world tap) }
+{
+    stage.bus().is_due(tap, now) && walk.lets(tap)
 }
 
 /// Plays the events that steps trigger after the turns, and returns the first moment after now at which some tap may take a

@@ -2,7 +2,7 @@
 
 use crate::advancing::hold_deeds;
 use crate::agendas::Agenda;
-use crate::coming::{comes, earlier, next_moment, takes_turn, time_to};
+use crate::coming::{comes, earlier, next_moment, time_to};
 use crate::deeds::{Deed, Step};
 use crate::repeats::Repeat;
 use pb_timers::Moment;
@@ -38,10 +38,10 @@ impl<'a> Model for StreamWalk<'a> {
 }
 
 impl<'a> StreamWalk<'a> {
-    ghost use Rattle.std.specs.Prelude.{◌≡◌, ◌≤◌, ◌<◌, IfOk, IfSome, map};
+    ghost use Rattle.std.specs.Prelude.{◌≡◌, ◌≤◌, ◌<◌, IfOk, IfSome, map, nat_le};
     ghost use Rattle.pb_timers.specs.Timers.{last_moment};
     ghost use Rattle.law_turn.specs.Stations.{earlier};
-    ghost use Rattle.law_runs.specs.Runs.{comes, wants, onward, passing};
+    ghost use Rattle.law_runs.specs.Runs.{comes, onward, passing};
     ghost use Rattle.law_runs.specs.Bus.{bus};
     ghost use Rattle.pb_scenario.specs.declared.deeds.When.TheVariants.{AfterTurns, BeforeTurns};
     ghost use Rattle.pb_scenario.specs.Said.{said_of};
@@ -88,6 +88,13 @@ impl<'a> StreamWalk<'a> {
         self.clock
     }
 
+    /// The same as a moment.
+    pub fn moment(&self) -> Moment
+        ensures { result ≡ self.now.clock }
+    {
+        Moment::at(self.clock)
+    }
+
     /// The number of taps.
     pub fn taps(&self) -> usize
         ensures { result ≡ self.now.taps }
@@ -106,13 +113,14 @@ impl<'a> StreamWalk<'a> {
         &self.today
     }
 
-    /// Whether a tap, due at `due`, takes its turn now: it is due and not withheld. The caller ensures that the tap is
-    /// one of the walk's.
-    pub fn wants(&self, tap: usize, due: Option<Moment>) -> bool
+    /// Whether a tap may take its turn now, if it is due: it is not withheld. The caller ensures that the tap is one of the
+    /// walk's.
+    #[inline(always)]
+    pub fn lets(&self, tap: usize) -> bool
         requires { tap < self.now.taps }
-        ensures { result ≡ wants (plan_in self.now) self.now.clock tap due }
+        ensures { result ≡ nat_le ((plan_in self.now).held_until self.now.clock tap) self.now.clock }
     {
-        takes_turn(self.held[tap], self.clock, due)
+        self.held[tap] <= self.clock
     }
 
     /// The earlier of `first` and the moment, in bit times, at which a tap due at `due` may take a turn next: when its

@@ -34,7 +34,7 @@ impl<'a> Model for Walk<'a> {
 }
 
 impl<'a> Walk<'a> {
-    ghost use Rattle.std.specs.Prelude.{◌≡◌, ◌≤◌, ◌<◌, IfOk, OnOk, IfSome, length};
+    ghost use Rattle.std.specs.Prelude.{◌≡◌, ◌≤◌, ◌<◌, IfOk, OnOk, IfSome, length, nat_le};
     ghost use Rattle.pb_timers.specs.Timers.{last_moment};
     ghost use Rattle.law_turn.specs.Stations.{earlier};
     ghost use Rattle.law_runs.specs.Runs.{comes, wants, next, onward, passing};
@@ -107,6 +107,16 @@ impl<'a> Walk<'a> {
         ensures { result ≡ wants (plan_in self.now) self.now.clock tap due }
     {
         takes_turn(self.held[tap], self.clock, due)
+    }
+
+    /// Whether a tap may take its turn now, if it is due: it is not withheld. The caller ensures that the tap is one of the
+    /// walk's.
+    #[inline(always)]
+    pub fn lets(&self, tap: usize) -> bool
+        requires { tap < self.now.taps }
+        ensures { result ≡ nat_le ((plan_in self.now).held_until self.now.clock tap) self.now.clock }
+    {
+        self.held[tap] <= self.clock
     }
 
     /// Lists the taps that take their turns now, in ascending order, given when each is due. The memory of `taps` is

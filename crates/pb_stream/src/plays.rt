@@ -118,12 +118,22 @@ fn play_turn<S: Stage>(
     ensures ready { OnOk result (S.view stage.new).ready }
     ensures taps { OnOk result (taps_of (S.view stage.new) ≡ taps_of (S.view stage.old)) }
 {
-    let due = stage.bus().due(tap);
-    if walk.wants(tap, due.as_ref().copied()) {
+    if takes_turn(stage, walk, tap) {
         stage.apply(alloc, &Event::Turn(tap))?;
         return Ok(stage.bus().due(tap));
     }
-    Ok(due)
+    Ok(stage.bus().due(tap))
+}
+
+/// Whether a tap takes its turn now: it is due and not withheld.
+#[inline(always)]
+fn takes_turn<S: Stage>(stage: &S, walk: &StreamWalk<'_>, tap: usize) -> bool
+    requires tap { tap < walk.now.taps }
+    requires ready { (S.view stage.now).ready }
+    ensures { result ≡ wants (plan_in walk.now) walk.now.clock tap
+        (due_at (world_of (S.view stage.now).bus) tap) }
+{
+    stage.bus().is_due(tap, walk.moment()) && walk.lets(tap)
 }
 
 /// Plays the events that steps trigger after the turns, and returns the first moment after now at which some tap may take a

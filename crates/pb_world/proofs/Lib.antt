@@ -1,3 +1,4 @@
+pub mod Dues
 pub mod Airing
 pub mod Elapsing
 pub mod Passing

@@ -35,6 +35,7 @@ impl Bus {
     ghost use Rattle.law_model.specs.Laws.{IsEvent};
     ghost use Rattle.law_model.specs.World as events;
     ghost use Rattle.law_turn.specs.Laws.{Fits as FitsTelegram, IsRequest};
+    ghost use Rattle.pb_station.specs.Halves.{has_come};
     ghost use Rattle.pb_transitions.specs.Clocks.{is_past};
     ghost use Rattle.pb_world.specs.Buses.{world_of, Does, IsKept};
     ghost use Rattle.pb_world.specs.Data.{SetsData};
@@ -233,6 +234,22 @@ impl Bus {
             return None;
         }
         tap.station.due(&tap.marks)
+    }
+
+    /// Whether the station at a tap has to take its turn by the moment `at`: it is [`due`](Bus::due) no later. This takes
+    /// less time than `due` where the station has unread marks.
+    #[inline(always)]
+    pub fn is_due(&self, tap: usize, at: Moment) -> bool
+        requires { IsKept self.now }
+        ensures { result ≡ has_come (due_at (world_of self.entry.now) tap) at }
+    {
+        let Some(tap) = self.taps.get(tap) else {
+            return false;
+        };
+        if !tap.running {
+            return false;
+        }
+        tap.station.is_overdue(&tap.marks, 0, at, 1)
     }
 
     /// Whether the turn of the station at a tap, if one is due, will have been due for longer than the lag in `bits`

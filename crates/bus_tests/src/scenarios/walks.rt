@@ -1,7 +1,7 @@
 //! Tests of walks through the steps of a scenario.
 
 use super::equal;
-use pb_scenario::{Deed, Step, Walk};
+use pb_scenario::{Deed, Step, StreamWalk, Walk};
 use pb_taps::Event;
 use pb_timers::Moment;
 use std::alloc::AllocError;
@@ -36,6 +36,7 @@ fn walks_from_step_to_step(rt: HostRuntime) {
     walk.go_to(5);
     equal(&rt, &walk.today().len(), &2);
     assert!(rt; walk.wants(0, at(5)) && !walk.wants(1, at(5)) && !walk.wants(0, at(6)));
+    assert!(rt; walk.lets(0) && !walk.lets(1));
     let mut turns = Vec::new(rt.alloc());
     walk.note_turns(&[at(5), at(5)], &mut turns)
         .expect(&rt, "memory");
@@ -62,6 +63,18 @@ fn walks_from_step_to_step(rt: HostRuntime) {
     );
     equal(&rt, &walk.next(&[None, at(31)], None), &None);
     equal(&rt, &walk.pass_to(None), &Some(10));
+}
+
+/// A walk through steps that may repeat: from 0 on a tap is withheld for 10 bit times.
+#[test]
+fn a_tap_is_withheld_in_a_stream(rt: HostRuntime) {
+    let steps = [Step {
+        at: 0,
+        deed: Deed::Withhold { tap: 1, bits: 10 },
+    }];
+    let walk = StreamWalk::new(rt.alloc(), &steps, &[], 2, 30).expect(&rt, "memory");
+    equal(&rt, &Some(walk.moment()), &at(0));
+    assert!(rt; walk.lets(0) && !walk.lets(1));
 }
 
 /// With one allocation refused, a walk is made and says whose turn it is, or memory was refused.

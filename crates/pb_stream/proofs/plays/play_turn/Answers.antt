@@ -1,18 +1,10 @@
 -- A tap that is due takes its turn.
-use Rattle.std.proofs.Common.{◌≡◌, ◌∙◌, Ok, ap, rules, subst, sym}
-use Rattle.law_runs.specs.Runs.{wants}
-use Rattle.pb_world.specs.Buses.{world_of}
-use Rattle.pb_world.specs.Worlds.{due_at}
+use Rattle.std.proofs.Common.{◌∙◌, Ok, subst, sym}
 use Rattle.pb_scenario.specs.Plays.{turn_if}
-use Rattle.pb_scenario.specs.Walks.{plan_in}
 use Rattle.pb_stream.specs.Plays.{Plays}
 use Rattle.pb_stream.proofs.plays.play_turn.Goals as goal
 
-pub returns-then-wants-clause-plays : goal.returns-then-wants-clause-plays
-returns-then-wants-clause-plays g c =
-    let walk = c.args.walk.now in
-    let tap = c.args.tap in
+pub returns-then-takes_turn-clause-plays : goal.returns-then-takes_turn-clause-plays
+returns-then-takes_turn-clause-plays g c =
     let v = g.S.Stage.view c.args.stage.now in
-    let due : c.copied.result ≡ due_at (world_of v.bus) tap = search rules in
-    let turns = sym c.if-wants.true ∙ c.wants.ensures ∙ ap (wants (plan_in walk) walk.clock tap) due in
-    subst (λ b. Plays {A = Unit {0}} v (turn_if b tap) (Ok (tt {0})) (g.S.Stage.view c.apply.new.self)) turns c.in_ok-apply.ensures.plays
+    subst (λ b. Plays {A = Unit {0}} v (turn_if b c.args.tap) (Ok (tt {0})) (g.S.Stage.view c.apply.new.self)) (sym c.if-takes_turn.true ∙ c.takes_turn.ensures) c.in_ok-apply.ensures.plays
