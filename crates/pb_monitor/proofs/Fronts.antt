@@ -82,3 +82,11 @@ none_begins window need h room none t rest more e =
 -- Where they spell one, that telegram begins.
 pub whole_front : (window : List ℕ) (need : ℕ) (t : Telegram) → take need window ≡ spelling t → window ≡ spelling t ++ drop need window
 whole_front window need t e = sym (take-append-drop need window) ∙ ap (λ (l : List ℕ). l ++ drop need window) e
+
+-- A telegram has at most 255 octets.
+pub spelling_fits : (t : Telegram) → length (spelling t) ≤ 255
+spelling_fits (Short t) = omega arith
+spelling_fits (Var t) = let f = t.unit_fits in let framed = framed_length t.unit.items (fcs_of t.da t.sa t.fc t.unit.items) in omega (arith, f, framed)
+spelling_fits (Fixed8 t) = let e = t.eight_octets in let framed = framed_length t.unit (fcs_of t.da t.sa t.fc t.unit) in omega (arith, e, framed)
+spelling_fits (Token t) = omega arith
+spelling_fits Ack = omega arith

@@ -26,6 +26,12 @@ IsCutAs cut.Whole (Ok t) before behind = IsCutOff (Whole t) before behind
 IsCutAs cut.Whole (Err fault) before behind = ⊥
 IsCutAs (cut.Skipped octet) r before behind = IsCutOff (Skipped octet) before behind
 
+-- octets are those of the telegram that is cut off, if one is
+abbrev pub IsSpelledBy : List ℕ → Cut → Result Telegram TelegramFault → Type 0
+IsSpelledBy octets cut.Whole (Ok t) = octets ≡ spelling t
+IsSpelledBy octets cut.Whole (Err fault) = ⊥
+IsSpelledBy octets (cut.Skipped octet) r = Unit {0}
+
 -- how many octets a telegram has, by its first octet, if its length is fixed; 1 if there is none
 abbrev pub need_by : ℕ → ℕ
 need_by first = if first == sd1 then 6 else if first == sd3 then 14 else if first == sd4 then 3 else 1

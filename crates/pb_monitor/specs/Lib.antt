@@ -9,3 +9,6 @@ pub mod Orders
 pub mod Examples
 pub mod Promises
 pub mod Known
+pub mod Lines
+pub mod TelegramWords
+pub mod BurstTexts

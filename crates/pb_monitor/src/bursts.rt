@@ -12,3 +12,14 @@ pub struct Burst {
     /// The telegram that its characters spell, or their first fault.
     pub telegram: Result<Telegram, TelegramFault>,
 }
+
+impl Burst {
+    /// Room for a burst.
+    pub(crate) fn none() -> Burst {
+        Burst {
+            begin: 0,
+            end: 0,
+            telegram: Err(TelegramFault::Empty),
+        }
+    }
+}

@@ -1,15 +1,12 @@
 //! Cuts octets without boundaries into telegrams.
 
-ghost use Rattle.std.specs.Prelude.{◌≡◌, ◌↔◌, ◌==◌, ◌<◌, ◌≤◌, ◌++◌, ◌∷◌, ℕ, List, [], IsTrue, IsFalse, drop, length, map, None, IfSome, OnSome, IfOk, OnErr};
-ghost use Rattle.pb_telegram.specs.Grammar.{spelling};
-ghost use Rattle.pb_telegram.specs.Receiving.{StandsFor};
-ghost use Rattle.pb_telegram.specs.declared.chars.RxChar.TheVariants.{Good};
-ghost use Rattle.pb_telegram.specs.declared.telegrams.Telegram.{Telegram};
-ghost use Rattle.pb_monitor.specs.Cutting.{IsCutAs, is_decided, need_by, need_of_data, needs};
+ghost use Rattle.std.specs.Prelude.{◌≡◌, ◌↔◌, ◌==◌, ◌+◌, ◌<◌, ◌≤◌, ◌++◌, ◌∷◌, [], IsTrue, IsFalse, drop, take, length, None, IfSome, OnSome};
+ghost use Rattle.pb_monitor.specs.Cutting.{IsCutAs, IsSpelledBy, is_decided, need_by, need_of_data, needs};
 
+use crate::spelled::read_octets;
 use arrayvec::ArrayVec;
 use pb_telegram::{
-    FIXED_START, Receiver, RxChar, SHORT_START, TOKEN_START, Telegram, TelegramFault, VAR_START,
+    FIXED_START, Receiver, SHORT_START, TOKEN_START, Telegram, TelegramFault, VAR_START,
     copy_octets,
 };
 use std::marker::Model;
@@ -24,6 +21,13 @@ pub enum Cut {
     Whole,
     /// An octet at which no telegram begins.
     Skipped(u8),
+}
+
+/// What comes first of some octets, and how many of them it has.
+#[derive(Clone, Copy, Debug, PartialEq, Eq)]
+pub(crate) struct Front {
+    pub(crate) cut: Cut,
+    pub(crate) count: usize,
 }
 
 /// Cuts a stream of octets into telegrams. In contracts it is the octets that have come and are not cut yet, at most 255.
@@ -85,6 +89,14 @@ impl Cutter {
         self.window.push(octet);
     }
 
+    /// Takes the next octets of the stream. The caller ensures that no more than 255 are then not cut yet.
+    pub(crate) fn append(&mut self, octets: &[u8])
+        requires { length self.old + length octets.now ≤ 255 }
+        ensures { self.new ≡ self.old ++ octets.now }
+    {
+        self.window.try_extend_from_slice(octets).unwrap();
+    }
+
     /// Whether it is known already what comes first.
     pub fn is_decided(&self) -> bool
         ensures decided { result ≡ is_decided self.now }
@@ -98,26 +110,15 @@ impl Cutter {
 
     /// Cuts off what comes first, if that is known already: a telegram, which is then in `telegram`, or an octet at which
     /// none begins, whatever follows. Otherwise fewer than 255 octets have come, and no octet is cut off.
-    #[tactic(auto, using(crate::proofs::Fronts::none_begins, crate::proofs::Fronts::whole_front))]
     pub fn cut(&mut self, telegram: &mut Result<Telegram, TelegramFault>) -> Option<Cut>
         ensures piece { IfSome result (λ cut. IsCutAs cut telegram.new self.old self.new) }
         ensures shorter { OnSome result (length self.new < length self.old) }
         ensures waits { result ≡ None → self.new ≡ self.old }
         ensures room { result ≡ None → length self.old < 255 }
     {
-        let need = needed(&self.window)?;
-        if self.window.len() < need {
-            return None;
-        }
-        *telegram = spelled(&mut self.receiver, &self.window[..need]);
-        if telegram.is_ok() {
-            self.drop_front(need);
-            return Some(Cut::Whole);
-        }
-        match self.skip() {
-            Some(octet) => Some(Cut::Skipped(octet)),
-            None => None,
-        }
+        let front = cut_front(&self.window, &mut self.receiver, telegram)?;
+        self.drop_front(front.count);
+        Some(front.cut)
     }
 
     /// Cuts off the first octet, at the end of the stream: the telegram that may begin at it is not whole.
@@ -143,6 +144,38 @@ impl Cutter {
         let rest = copy_octets(&self.window[count..]);
         self.window = rest;
     }
+}
+
+/// What comes first of some octets, if that is known: a telegram, which is then in `telegram`, or an octet at which none
+/// begins, whatever follows. Otherwise there are fewer than 255.
+#[inline(always)]
+#[tactic(auto, using(crate::proofs::Fronts::none_begins, crate::proofs::Fronts::whole_front))]
+pub(crate) fn cut_front(
+    octets: &[u8],
+    receiver: &mut Receiver,
+    telegram: &mut Result<Telegram, TelegramFault>,
+) -> Option<Front>
+    ensures piece { IfSome result (λ f. IsCutAs f.cut telegram.new octets.now (drop f.count octets.now)) }
+    ensures spelled { IfSome result (λ f. IsSpelledBy (take f.count octets.now) f.cut telegram.new) }
+    ensures some { IfSome result (λ f. 0 < f.count) }
+    ensures within { IfSome result (λ f. f.count ≤ length octets.now) }
+    ensures room { result ≡ None → length octets.now < 255 }
+{
+    let count = needed(octets)?;
+    if octets.len() < count {
+        return None;
+    }
+    read_octets(&octets[..count], receiver, telegram);
+    if telegram.is_ok() {
+        return Some(Front {
+            cut: Cut::Whole,
+            count,
+        });
+    }
+    Some(Front {
+        cut: Cut::Skipped(octets[0]),
+        count: 1,
+    })
 }
 
 /// How many octets the telegram has that begins with these; 1 if none begins with the first. Of a telegram with data of
@@ -185,28 +218,4 @@ fn needed_by(first: u8) -> usize
         TOKEN_START => 3,
         _ => 1,
     }
-}
-
-/// The telegram that octets spell, or their first fault.
-#[inline(always)]
-fn spelled(receiver: &mut Receiver, octets: &[u8]) -> Result<Telegram, TelegramFault>
-    ensures whole { IfOk result (λ t. octets.now ≡ spelling t) }
-    ensures none { OnErr result ((t : Telegram) → octets.now ≡ spelling t → ⊥) }
-{
-    receiver.restart();
-    for octet in octets {
-        receiver.feed(RxChar::Good(*octet));
-    }
-    told(receiver)
-}
-
-/// The telegram of the octets that a receiver was fed, or their first fault.
-#[inline(always)]
-fn told(receiver: &Receiver) -> Result<Telegram, TelegramFault>
-    ensures whole { (octets : List ℕ) → StandsFor receiver.now (map Good octets)
-        → IfOk result (λ t. octets ≡ spelling t) }
-    ensures none { (octets : List ℕ) → StandsFor receiver.now (map Good octets)
-        → OnErr result ((t : Telegram) → octets ≡ spelling t → ⊥) }
-{
-    receiver.answer()
 }

@@ -1,15 +1,19 @@
 //! Captures of octets without boundaries, and files of packets.
 
-ghost use Rattle.std.specs.Prelude.{◌≡◌};
+ghost use Rattle.std.specs.Prelude.{◌≡◌, ◌<◌, ◌≤◌, [], length, IfOk};
+ghost use Rattle.pb_telegram.specs.Grammar.{spelling};
 
 use crate::bursts::Burst;
-use crate::cutting::Cut;
+use crate::cutting::{Cut, cut_front};
 use crate::heard_bursts::Known;
+use crate::lines::When;
 use crate::monitors::Monitor;
-use crate::pcap::{Item, Part, PcapFault, Stamp};
-use crate::reports::{push_content, push_refused};
-use crate::texts::push_number;
-use pb_telegram::{RxChar, Telegram, TelegramFault, write};
+use crate::pcap::{Item, PACKET_HEAD, Part, PcapFault, Stamp};
+use crate::reports::{push_refused, put_content};
+use crate::spelled::octets_of;
+use crate::texts::{push_number, put, put_number};
+use arrayvec::ArrayVec;
+use pb_telegram::RxChar;
 use std::alloc::AllocError;
 
 impl Monitor {
@@ -19,15 +23,48 @@ impl Monitor {
         bytes: &[u8],
         text: &mut Vec<u8>,
     ) -> Result<(), AllocError> {
-        for byte in bytes {
+        let taken = self.feed_cutter(bytes, text)?;
+        self.cut_octets(&bytes[taken..], text)?;
+        self.tell_skipped(text)
+    }
+
+    /// Octets come behind some that are not cut yet: takes as many as it needs to cut all, and returns how many.
+    #[inline(never)]
+    fn feed_cutter(&mut self, bytes: &[u8], text: &mut Vec<u8>) -> Result<usize, AllocError>
+        ensures within { IfOk result (λ taken. taken ≤ length bytes.now) }
+        ensures cut { IfOk result (λ taken. taken < length bytes.now → self.new.cutter ≡ []) }
+    {
+        for place in 0..bytes.len() {
+            if self.cutter.is_empty() {
+                return Ok(place);
+            }
             if !self.cutter.is_full() {
-                self.cutter.push(*byte);
+                self.cutter.push(bytes[place]);
             }
             if self.cutter.is_decided() {
                 self.cut_all(text)?;
             }
         }
-        self.tell_skipped(text)
+        Ok(bytes.len())
+    }
+
+    /// Cuts octets where they are, and keeps those that don't tell yet what comes first.
+    fn cut_octets(&mut self, bytes: &[u8], text: &mut Vec<u8>) -> Result<(), AllocError>
+        requires { 0 < length bytes.now → self.old.cutter ≡ [] }
+    {
+        let mut burst = Burst::none();
+        let mut left = bytes;
+        while let Some(front) = cut_front(left, &mut self.receiver, &mut burst.telegram) {
+            match front.cut {
+                Cut::Whole => self.hear_cut(&burst, &left[..front.count], text)?,
+                Cut::Skipped(_) => self.pass_octet(),
+            }
+            left = &left[front.count..];
+        }
+        if !left.is_empty() {
+            self.cutter.append(left);
+        }
+        Ok(())
     }
 
     /// The octets end.
@@ -44,18 +81,10 @@ impl Monitor {
     /// Cuts off all that is known of the octets that have come.
     #[inline(never)]
     fn cut_all(&mut self, text: &mut Vec<u8>) -> Result<(), AllocError> {
-        let mut burst = Burst {
-            begin: 0,
-            end: 0,
-            telegram: Err(TelegramFault::Empty),
-        };
+        let mut burst = Burst::none();
         while self.cutter.is_decided() {
-            let before = self.cutter.len();
             match self.cutter.cut(&mut burst.telegram) {
-                Some(Cut::Whole) => {
-                    let count = before.saturating_sub(self.cutter.len());
-                    self.hear_cut(&burst, count, text)?;
-                }
+                Some(Cut::Whole) => self.hear_cut(&burst, &octets_of(&burst.telegram), text)?,
                 Some(Cut::Skipped(_)) => self.pass_octet(),
                 None => break,
             }
@@ -86,39 +115,37 @@ impl Monitor {
         Ok(())
     }
 
-    /// A telegram of so many octets is cut off.
+    /// A telegram of these octets is cut off.
     fn hear_cut(
         &mut self,
         burst: &Burst,
-        count: usize,
+        octets: &[u8],
         text: &mut Vec<u8>,
     ) -> Result<(), AllocError>
+        requires { IfOk burst.now.telegram (λ t. octets.now ≡ spelling t) }
         ensures { self.new.cutter ≡ self.old.cutter }
     {
         if self.skipped > 0 {
             self.tell_skipped(text)?;
         }
         let offset = self.place;
-        self.place = self.place.saturating_add(count as u64);
-        self.statistics.hear_untimed(burst);
+        self.place = self.place.saturating_add(octets.len() as u64);
+        self.statistics.hear_untimed(burst, octets);
         if self.is_told() {
             push_cut(text, offset, burst)?;
         }
-        if self.kept.is_wanted()
-            && let Ok(telegram) = &burst.telegram
-        {
-            self.keep_cut(telegram)?;
+        if self.kept.is_wanted() {
+            self.keep_cut(octets)?;
         }
         Ok(())
     }
 
     /// Keeps a telegram that is cut off, to hand it on.
     #[inline(never)]
-    fn keep_cut(&mut self, telegram: &Telegram) -> Result<(), AllocError>
+    fn keep_cut(&mut self, octets: &[u8]) -> Result<(), AllocError>
         ensures { self.new.cutter ≡ self.old.cutter }
     {
-        let octets = write(telegram);
-        self.kept.note_octets(&octets);
+        self.kept.note_octets(octets);
         self.kept.end(Known {
             span: None,
             count: octets.len() as u64,
@@ -134,57 +161,108 @@ impl Monitor {
         bytes: &[u8],
         text: &mut Vec<u8>,
     ) -> Result<(), AllocError> {
-        for byte in bytes {
-            if self.kept.is_wanted() {
-                self.note_octet(*byte);
-            }
-            if let Some(item) = self.packets.read(*byte, &mut self.receiver) {
-                self.hear_item(item, text)?;
+        let mut burst = Burst::none();
+        let mut left = bytes;
+        while !left.is_empty() {
+            if let Some(whole) = self.packets.next_whole(left) {
+                let packet = &left[PACKET_HEAD..];
+                let octets = &packet[..whole.count];
+                if self.kept.is_wanted() {
+                    self.kept.note_octets(octets);
+                }
+                self.hear_packet(Some(whole.stamp), octets, &mut burst, text)?;
+                left = &packet[whole.count..];
+            } else {
+                let taken = self.feed_part(left, &mut burst, text)?;
+                left = &left[taken..];
             }
         }
         Ok(())
     }
 
-    /// The next octet comes, which may be one of a packet.
-    fn note_octet(&mut self, octet: u8) {
-        if self.packets.part != Part::Packet {
-            self.kept.begin();
-            return;
+    /// Reads the next part of a file of packets from some octets, and returns how many it took.
+    #[inline(never)]
+    fn feed_part(
+        &mut self,
+        octets: &[u8],
+        burst: &mut Burst,
+        text: &mut Vec<u8>,
+    ) -> Result<usize, AllocError>
+        requires { 0 < length octets.now }
+        ensures some { IfOk result (λ taken. 0 < taken) }
+        ensures within { IfOk result (λ taken. taken ≤ length octets.now) }
+    {
+        if self.kept.is_wanted() {
+            self.note_piece(octets);
         }
-        if self.receiver.fed() == 0 {
-            self.kept.begin();
+        let step = self.packets.read(octets, &mut self.receiver);
+        let taken = step.taken;
+        match step.item {
+            Some(Item::Packet(stamp)) if step.is_whole => {
+                self.hear_packet(stamp, &octets[..taken], burst, text)?
+            }
+            Some(item) => self.hear_item(item, burst, text)?,
+            None => {}
         }
-        self.kept.note(RxChar::Good(octet));
+        Ok(taken)
     }
 
-    /// A packet, or something that is refused.
-    pub(crate) fn hear_item(&mut self, item: Item, text: &mut Vec<u8>) -> Result<(), AllocError> {
+    /// Octets come, of which the first ones may be some of a packet.
+    #[inline(never)]
+    fn note_piece(&mut self, octets: &[u8]) {
+        if self.packets.part != Part::Packet || self.receiver.fed() == 0 {
+            self.kept.begin();
+        }
+        if self.packets.part == Part::Packet {
+            let count = self.packets.left.min(octets.len() as u64) as usize;
+            for octet in &octets[..count] {
+                self.kept.note(RxChar::Good(*octet));
+            }
+        }
+    }
+
+    /// A packet whose octets the receiver was fed, or something that is refused.
+    #[inline(never)]
+    pub(crate) fn hear_item(
+        &mut self,
+        item: Item,
+        burst: &mut Burst,
+        text: &mut Vec<u8>,
+    ) -> Result<(), AllocError> {
         match item {
             Item::Packet(stamp) => {
                 self.place = self.place.saturating_add(1);
-                self.hear_packet(stamp, text)
+                let when = self.when(stamp);
+                self.hear_fed(when, burst, text)
             }
             Item::Refused(offset, fault) => self.refuse_packet(offset, fault, text),
         }
     }
 
-    /// The receiver has the octets of a packet.
-    fn hear_packet(&mut self, stamp: Option<Stamp>, text: &mut Vec<u8>) -> Result<(), AllocError> {
-        if let Some(stamp) = stamp
-            && let Some(baud) = self.options.baud
-        {
-            let begin = self.moment_of(stamp, baud);
-            let end = begin.saturating_add(self.receiver_bits());
-            return self.hear_timed(begin, end, text);
+    /// A packet of these octets.
+    fn hear_packet(
+        &mut self,
+        stamp: Option<Stamp>,
+        octets: &[u8],
+        burst: &mut Burst,
+        text: &mut Vec<u8>,
+    ) -> Result<(), AllocError> {
+        self.place = self.place.saturating_add(1);
+        let when = self.when(stamp);
+        self.hear_octets(when, octets, burst, text)
+    }
+
+    /// When a packet was on the bus, as far as the file says.
+    fn when(&mut self, stamp: Option<Stamp>) -> When {
+        match (stamp, self.options.baud) {
+            (Some(stamp), Some(baud)) => When::From(self.moment_of(stamp, baud)),
+            _ => When::Unknown,
         }
-        self.hear_untimed(text)
     }
 
     /// The moment of a time, in bit times since the first packet: the nearest one, since a file's times are rounded down.
     fn moment_of(&mut self, stamp: Stamp, baud: u32) -> u64 {
-        let ticks = u128::from(stamp.ticks).saturating_mul(u128::from(baud));
-        let per_second = u128::from(stamp.per_second.max(1));
-        let bits = ticks.saturating_add(per_second / 2) / per_second;
+        let bits = bits_of(stamp, baud);
         let origin = self.origin.unwrap_or(bits);
         self.origin = Some(origin);
         bits.saturating_sub(origin).min(u128::from(u64::MAX)) as u64
@@ -209,11 +287,26 @@ impl Monitor {
     }
 }
 
+/// How many bit times a time is behind the file's epoch: the nearest number.
+fn bits_of(stamp: Stamp, baud: u32) -> u128 {
+    let per_second = stamp.per_second.max(1);
+    if let Some(ticks) = stamp.ticks.checked_mul(u64::from(baud))
+        && let Some(ticks) = ticks.checked_add(per_second / 2)
+    {
+        return u128::from(ticks / per_second);
+    }
+    let ticks = u128::from(stamp.ticks) * u128::from(baud);
+    let per_second = u128::from(per_second);
+    (ticks + per_second / 2) / per_second
+}
+
 /// Appends the line of a telegram at an offset.
 #[inline(never)]
 fn push_cut(text: &mut Vec<u8>, offset: u64, burst: &Burst) -> Result<(), AllocError> {
-    push_number(text, offset)?;
-    text.extend_from_slice(b" ")?;
-    push_content(text, &burst.telegram)?;
-    text.extend_from_slice(b"\n")
+    let mut line = ArrayVec::new();
+    put_number(&mut line, offset);
+    put(&mut line, b" ");
+    put_content(&mut line, &burst.telegram, text)?;
+    put(&mut line, b"\n");
+    text.extend_from_slice(&line)
 }

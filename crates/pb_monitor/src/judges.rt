@@ -13,7 +13,7 @@ use crate::alarms::{Alarm, Classes};
 use crate::bursts::Burst;
 use crate::holders::{Holder, named_holder};
 use crate::judging::alarm;
-use crate::meanings::meaning_in;
+use crate::meanings::{Meaning, meaning_in};
 use crate::states::{State, behind};
 use pb_timers::BusParams;
 use std::marker::Model;
@@ -86,7 +86,17 @@ impl Judge {
             (bursts ++ record { begin = burst.now.begin; end = burst.now.end; chars = chars } ∷ []) }
     {
         let meaning = meaning_in(&burst.telegram);
-        let raised = alarm(
+        let raised = self.alarm(burst, meaning);
+        self.keep(burst, meaning);
+        raised
+    }
+
+    /// What is wrong with the telegram of the next burst, by its meaning.
+    pub(crate) fn alarm(&self, burst: &Burst, meaning: Meaning) -> Option<Alarm>
+        ensures { result ≡ judge.alarm_by self.now.params self.now.slack self.now.classes self.now.since
+            self.now.state burst.now.begin meaning }
+    {
+        alarm(
             &self.params,
             self.slack,
             self.classes,
@@ -94,7 +104,15 @@ impl Judge {
             self.state,
             burst.begin,
             meaning,
-        );
+        )
+    }
+
+    /// Keeps what the next burst tells, by its meaning.
+    pub(crate) fn keep(&mut self, burst: &Burst, meaning: Meaning)
+        ensures { self.new ≡ record (self.old) {
+          state = judge.behind_by self.old.params self.old.slack self.old.state burst.now.begin burst.now.end meaning;
+        } }
+    {
         self.state = behind(
             &self.params,
             self.slack,
@@ -103,7 +121,6 @@ impl Judge {
             burst.end,
             meaning,
         );
-        raised
     }
 
     /// Who may send tokens and requests, as far as a listener can tell, at a moment between two bursts: of the bus as it

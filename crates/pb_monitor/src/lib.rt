@@ -24,6 +24,7 @@ mod pcap;
 mod pcapng;
 mod repeats;
 mod reports;
+mod spelled;
 mod spreads;
 mod states;
 mod stations;

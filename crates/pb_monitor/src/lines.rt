@@ -1,20 +1,22 @@
 //! Reads lines of a capture: `BEGIN END HEX`, `BEGIN HEX` or `HEX`.
 
-ghost use Rattle.std.specs.Prelude.{◌≡◌, ◌≤◌, ◌<◌, length, []};
-ghost use Rattle.pb_telegram.specs.Receiving.{StandsFor};
+ghost use Rattle.std.specs.Prelude.{◌≤◌, length, IfSome};
+ghost use Rattle.pb_monitor.specs.Lines.{IsInRoom};
 
 use crate::reports::push_refused;
 use crate::texts::{push_number, push_quoted};
-use arrayvec::ArrayVec;
-use pb_decode::feed_characters;
-use pb_telegram::Receiver;
+use pb_decode::{character, feed_characters};
+use pb_telegram::{Receiver, RxChar};
 use std::alloc::AllocError;
 
 /// The most characters of a line, without its end.
 pub(crate) const LONGEST_LINE: usize = 4096;
 
-/// How many fields a line may have.
-const MOST_FIELDS: usize = 3;
+/// Below this a number of 64 bits has room for one more decimal digit.
+const MOST_BEFORE_A_DIGIT: u64 = u64::MAX / 10;
+
+/// The most octets of a telegram.
+pub(crate) const LONGEST_TELEGRAM: usize = 255;
 
 /// When the burst of a line was on the bus, as far as the line says.
 #[derive(Clone, Copy, Debug, PartialEq, Eq)]
@@ -34,7 +36,7 @@ pub(crate) enum Line<'a> {
     Blank,
     /// Something was missed here.
     Gap,
-    /// A burst, whose characters the receiver was fed, and their hex.
+    /// A burst, and the hex of its characters, which is not read yet.
     Burst(When, &'a [u8]),
     /// It is refused.
     Refused(LineFault<'a>),
@@ -86,6 +88,15 @@ impl LineFault<'_> {
     }
 }
 
+/// Where the characters of a burst are.
+#[derive(Clone, Copy, Debug, PartialEq, Eq)]
+pub(crate) enum Characters {
+    /// They are undamaged, and so many octets of the room.
+    Octets(usize),
+    /// The receiver was fed them.
+    Fed,
+}
+
 /// What a monitor does for a line.
 #[derive(Clone, Copy, Debug, PartialEq, Eq)]
 pub(crate) enum Told {
@@ -95,64 +106,67 @@ pub(crate) enum Told {
     Gap,
     /// It begins anew, and the line counts as refused.
     Refused,
-    /// It hears the burst whose characters the receiver was fed.
-    Burst(When),
+    /// It hears a burst.
+    Burst(When, Characters),
 }
 
-/// Appends why a line is refused, if it is. The line's number is counted from 1.
-pub(crate) fn tell(line: Line<'_>, number: u64, text: &mut Vec<u8>) -> Result<Told, AllocError> {
-    match line {
-        Line::Blank => Ok(Told::Nothing),
-        Line::Gap => Ok(Told::Gap),
-        Line::Burst(when, _) => Ok(Told::Burst(when)),
-        Line::Refused(fault) => {
-            push_refused(text, b"line", number)?;
-            fault.push(text)?;
-            text.extend_from_slice(b"\n")?;
-            Ok(Told::Refused)
-        }
-    }
+/// Appends why a line is refused. The line's number is counted from 1.
+#[inline(never)]
+pub(crate) fn push_line_fault(
+    fault: LineFault<'_>,
+    number: u64,
+    text: &mut Vec<u8>,
+) -> Result<(), AllocError> {
+    push_refused(text, b"line", number)?;
+    fault.push(text)?;
+    text.extend_from_slice(b"\n")
 }
 
-/// Reads a line without its end. If it is a burst, the receiver has been fed its characters and none before.
-pub(crate) fn read_line<'a>(line: &'a [u8], receiver: &mut Receiver) -> Line<'a> {
+/// Reads a line without its end.
+pub(crate) fn read_line(line: &[u8]) -> Line<'_> {
     if line.len() > LONGEST_LINE {
         return Line::Refused(LineFault::TooLong);
     }
-    let mut fields = ArrayVec::<&[u8], MOST_FIELDS>::new();
-    for field in line.split(|byte| is_blank(*byte)) {
-        if is_comment(field) {
-            break;
-        }
-        if !field.is_empty() && fields.try_push(field).is_err() {
-            return Line::Refused(LineFault::TooManyFields);
-        }
+    let mut place = 0;
+    let first = next_field(line, &mut place);
+    let second = next_field(line, &mut place);
+    let third = next_field(line, &mut place);
+    if !next_field(line, &mut place).is_empty() {
+        return Line::Refused(LineFault::TooManyFields);
     }
-    read_fields(fields.as_slice(), receiver)
-}
-
-/// Reads the fields of a line.
-fn read_fields<'a>(fields: &[&'a [u8]], receiver: &mut Receiver) -> Line<'a> {
-    match fields {
-        [] => Line::Blank,
-        [word] if is_gap(word) => Line::Gap,
-        [hex] => read_hex(hex, When::Unknown, receiver),
-        [begin, hex] => match moment_in(begin) {
-            Some(begin) => read_hex(hex, When::From(begin), receiver),
+    match (first, second, third) {
+        ([], _, _) => Line::Blank,
+        (b"gap", [], _) => Line::Gap,
+        (hex, [], _) => Line::Burst(When::Unknown, hex),
+        (begin, hex, []) => match moment_in(begin) {
+            Some(moment) => Line::Burst(When::From(moment), hex),
             None => Line::Refused(LineFault::NoMoment(begin)),
         },
-        [begin, end, hex] => read_timed(begin, end, hex, receiver),
-        _ => Line::Refused(LineFault::TooManyFields),
+        (begin, end, hex) => read_timed(begin, end, hex),
     }
+}
+
+/// The next field of a line, from `place` on, and moves `place` behind it. If there is none, or a comment, it is empty.
+#[inline(always)]
+fn next_field<'a>(line: &'a [u8], place: &mut usize) -> &'a [u8]
+    requires { place.old ≤ length line.now }
+    ensures { place.new ≤ length line.now }
+{
+    while *place < line.len() && is_blank(line[*place]) {
+        *place += 1;
+    }
+    if *place < line.len() && line[*place] == b'#' {
+        *place = line.len();
+    }
+    let first = *place;
+    while *place < line.len() && !is_blank(line[*place]) {
+        *place += 1;
+    }
+    &line[first..*place]
 }
 
 /// Reads the fields of a line with two moments.
-fn read_timed<'a>(
-    begin: &'a [u8],
-    end: &'a [u8],
-    hex: &'a [u8],
-    receiver: &mut Receiver,
-) -> Line<'a> {
+fn read_timed<'a>(begin: &'a [u8], end: &'a [u8], hex: &'a [u8]) -> Line<'a> {
     let Some(from) = moment_in(begin) else {
         return Line::Refused(LineFault::NoMoment(begin));
     };
@@ -166,54 +180,63 @@ fn read_timed<'a>(
         begin: from,
         end: until,
     };
-    read_hex(hex, when, receiver)
+    Line::Burst(when, hex)
 }
 
-/// Reads the characters of a line.
-fn read_hex<'a>(hex: &'a [u8], when: When, receiver: &mut Receiver) -> Line<'a> {
+/// Reads the characters of a line, if they are hex: undamaged ones, at most 255, into the room, others by the receiver.
+pub(crate) fn read_hex(
+    hex: &[u8],
+    room: &mut [u8; LONGEST_TELEGRAM],
+    receiver: &mut Receiver,
+) -> Option<Characters>
+    ensures { IfSome result (λ c. IsInRoom c) }
+{
+    if let Some(count) = octets_in(hex, room) {
+        return Some(Characters::Octets(count));
+    }
     receiver.restart();
     if feed_characters(receiver, hex) {
-        Line::Burst(when, hex)
-    } else {
-        Line::Refused(LineFault::NotHex(hex))
+        return Some(Characters::Fed);
     }
+    None
+}
+
+/// How many undamaged characters hex spells, at most 255, which are then in the room. `None` if it spells others, or is
+/// no hex.
+fn octets_in(hex: &[u8], room: &mut [u8; LONGEST_TELEGRAM]) -> Option<usize>
+    ensures { IfSome result (λ count. count ≤ 255) }
+{
+    let count = hex.len() / 2;
+    if hex.len() % 2 != 0 || count > LONGEST_TELEGRAM {
+        return None;
+    }
+    for place in 0..count {
+        match character(hex[2 * place], hex[2 * place + 1]) {
+            Some(RxChar::Good(octet)) => room[place] = octet,
+            _ => return None,
+        }
+    }
+    Some(count)
 }
 
 /// The number that a field spells in decimal digits.
 fn moment_in(field: &[u8]) -> Option<u64> {
     let mut bits: u64 = 0;
     for byte in field {
-        let digit = digit_of(*byte)?;
-        bits = bits.checked_mul(10)?.checked_add(digit)?;
+        let digit = byte.wrapping_sub(b'0');
+        if digit > 9 {
+            return None;
+        }
+        bits = if bits < MOST_BEFORE_A_DIGIT {
+            bits * 10 + u64::from(digit)
+        } else {
+            bits.checked_mul(10)?.checked_add(u64::from(digit))?
+        };
     }
     Some(bits)
-}
-
-/// The value of a decimal digit.
-fn digit_of(byte: u8) -> Option<u64> {
-    match byte {
-        b'0'..=b'9' => Some(u64::from(byte - b'0')),
-        _ => None,
-    }
 }
 
 /// Whether a byte separates fields: a space, a tab, or the carriage return at the end of a line.
 fn is_blank(byte: u8) -> bool {
     byte == b' ' || byte == b'\t' || byte == b'\r'
-}
-
-/// Whether a field begins a comment.
-fn is_comment(field: &[u8]) -> bool {
-    match field {
-        [b'#', ..] => true,
-        _ => false,
-    }
-}
-
-/// Whether a field says that something was missed.
-fn is_gap(field: &[u8]) -> bool {
-    match field {
-        b"gap" => true,
-        _ => false,
-    }
 }

@@ -1,23 +1,31 @@
 //! A monitor: from the bytes of a capture to lines of text, as they come.
 
-ghost use Rattle.std.specs.Prelude.{◌≡◌};
+ghost use Rattle.std.specs.Prelude.{◌≡◌, IfOk};
+ghost use Rattle.pb_telegram.specs.Grammar.{spelling};
+ghost use Rattle.pb_monitor.specs.Lines.{IsTold};
 
+use crate::alarms::Alarm;
 use crate::buffers::LineBuffer;
 use crate::bursts::Burst;
 use crate::cutting::Cutter;
 use crate::formats::{Form, Options};
 use crate::heard_bursts::{HeardBurst, Kept, Known, Named, bits, named_before};
 use crate::judges::Judge;
-use crate::lines::{Line, LineFault, Told, When, read_line, tell};
+use crate::lines::{
+    Characters, LONGEST_TELEGRAM, Line, LineFault, Told, When, push_line_fault, read_hex, read_line,
+};
 use crate::meanings::{Meaning, meaning_in};
 use crate::orders::{Order, Wrong};
 use crate::pcap::Packets;
 use crate::reports::{
-    Raised, push_alarm, push_content, push_holder, push_refused, push_untimed_alarm,
+    Raised, push_alarm, push_refused, push_untimed_alarm, put_content, put_holder,
 };
+use crate::spelled::{octets_of, read_octets};
+use crate::states::State;
 use crate::statistics::Statistics;
 use crate::summaries::push_summary;
-use crate::texts::push_number;
+use crate::texts::{push_number, put, put_number};
+use arrayvec::ArrayVec;
 use bstr::ByteSlice;
 use pb_telegram::Receiver;
 use pb_timers::BusParams;
@@ -53,7 +61,7 @@ pub struct Monitor {
 }
 
 impl Monitor {
-    ghost use Rattle.std.specs.Prelude.{◌≡◌, ◌≤◌, [], true, IfSome, MatchOption, None};
+    ghost use Rattle.std.specs.Prelude.{◌≡◌, ◌≤◌, ◌||◌, nat_lt, [], true, IfSome, MatchOption, None};
 
     /// A monitor of a bus with these parameters. Without parameters it decodes and counts, and judges nothing.
     ///
@@ -105,7 +113,7 @@ impl Monitor {
             },
             Form::Raw => self.end_octets(text)?,
             Form::Pcap => if let Some(item) = self.packets.end() {
-                self.hear_item(item, text)?;
+                self.hear_item(item, &mut Burst::none(), text)?;
             },
         }
         self.statistics.close();
@@ -165,12 +173,17 @@ impl Monitor {
     }
 
     /// What is known of the bus.
-    pub fn statistics(&self) -> &Statistics {
+    pub fn statistics(&self) -> &Statistics
+        ensures { result.now ≡ self.now.statistics }
+    {
         &self.statistics
     }
 
     /// Whether input was refused or an alarm raised.
-    pub fn is_refused(&self) -> bool {
+    pub fn is_refused(&self) -> bool
+        ensures { result ≡ (nat_lt 0 self.now.statistics.traffic.refused
+            || nat_lt 0 self.now.statistics.traffic.alarms) }
+    {
         let traffic = self.statistics.traffic();
         traffic.refused > 0 || traffic.alarms > 0
     }
@@ -178,9 +191,13 @@ impl Monitor {
     // ---- lines
 
     fn feed_lines(&mut self, bytes: &[u8], text: &mut Vec<u8>) -> Result<(), AllocError> {
+        let mut room = [0; LONGEST_TELEGRAM];
+        let mut burst = Burst::none();
         for piece in bytes.lines_with_terminator() {
             match piece.strip_suffix(b"\n") {
-                Some(line) if self.lines.is_empty() => self.hear_line(line, text)?,
+                Some(line) if self.lines.is_empty() => {
+                    self.hear_line(line, &mut room, &mut burst, text)?
+                }
                 Some(line) => {
                     self.lines.keep(line)?;
                     self.end_line(text)?;
@@ -192,27 +209,56 @@ impl Monitor {
     }
 
     /// The line that came in pieces ends.
+    #[inline(never)]
     fn end_line(&mut self, text: &mut Vec<u8>) -> Result<(), AllocError> {
         self.place = self.place.saturating_add(1);
-        let read = match self.lines.line() {
-            Some(line) => read_line(line, &mut self.receiver),
+        let mut room = [0; LONGEST_TELEGRAM];
+        let mut burst = Burst::none();
+        let line = match self.lines.line() {
+            Some(line) => read_line(line),
             None => Line::Refused(LineFault::TooLong),
         };
-        note_line(&mut self.kept, &read);
-        let told = tell(read, self.place, text)?;
+        let told = tell(
+            line,
+            self.place,
+            &mut room,
+            &mut self.receiver,
+            &mut self.kept,
+            text,
+        )?;
         self.lines.restart();
-        self.hear_told(told, text)
+        self.hear_told(told, &room, &mut burst, text)
     }
 
-    fn hear_line(&mut self, line: &[u8], text: &mut Vec<u8>) -> Result<(), AllocError> {
+    /// A whole line comes. `room` and `burst` are overwritten.
+    fn hear_line(
+        &mut self,
+        line: &[u8],
+        room: &mut [u8; LONGEST_TELEGRAM],
+        burst: &mut Burst,
+        text: &mut Vec<u8>,
+    ) -> Result<(), AllocError> {
         self.place = self.place.saturating_add(1);
-        let read = read_line(line, &mut self.receiver);
-        note_line(&mut self.kept, &read);
-        let told = tell(read, self.place, text)?;
-        self.hear_told(told, text)
+        let told = tell(
+            read_line(line),
+            self.place,
+            room,
+            &mut self.receiver,
+            &mut self.kept,
+            text,
+        )?;
+        self.hear_told(told, room, burst, text)
     }
 
-    fn hear_told(&mut self, told: Told, text: &mut Vec<u8>) -> Result<(), AllocError> {
+    fn hear_told(
+        &mut self,
+        told: Told,
+        room: &[u8; LONGEST_TELEGRAM],
+        burst: &mut Burst,
+        text: &mut Vec<u8>,
+    ) -> Result<(), AllocError>
+        requires { IsTold told }
+    {
         match told {
             Told::Nothing => Ok(()),
             Told::Gap => {
@@ -223,25 +269,66 @@ impl Monitor {
                 self.refuse();
                 Ok(())
             }
-            Told::Burst(when) => self.hear_when(when, text),
-        }
-    }
-
-    /// The receiver has the characters of a burst.
-    fn hear_when(&mut self, when: When, text: &mut Vec<u8>) -> Result<(), AllocError> {
-        match when {
-            When::Within { begin, end } => self.hear_timed(begin, end, text),
-            When::From(begin) => {
-                let end = begin.saturating_add(self.receiver_bits());
-                self.hear_timed(begin, end, text)
+            Told::Burst(when, Characters::Octets(count)) => {
+                self.hear_octets(when, &room[..count], burst, text)
             }
-            When::Unknown => self.hear_untimed(text),
+            Told::Burst(when, Characters::Fed) => self.hear_fed(when, burst, text),
         }
     }
 
-    /// How long the characters of the receiver take, in bit times.
-    pub(crate) fn receiver_bits(&self) -> u64 {
-        bits(self.receiver.fed())
+    /// A burst of these octets has come. `burst` is overwritten.
+    pub(crate) fn hear_octets(
+        &mut self,
+        when: When,
+        octets: &[u8],
+        burst: &mut Burst,
+        text: &mut Vec<u8>,
+    ) -> Result<(), AllocError> {
+        read_octets(octets, &mut self.receiver, &mut burst.telegram);
+        self.hear_when(when, burst, octets, octets.len() as u64, text)
+    }
+
+    /// A burst of the characters that the receiver was fed has come. `burst` is overwritten.
+    #[inline(never)]
+    pub(crate) fn hear_fed(
+        &mut self,
+        when: When,
+        burst: &mut Burst,
+        text: &mut Vec<u8>,
+    ) -> Result<(), AllocError> {
+        burst.telegram = self.receiver.answer();
+        let octets = octets_of(&burst.telegram);
+        let count = self.receiver.fed();
+        self.hear_when(when, burst, &octets, count, text)
+    }
+
+    /// A burst of so many characters has come. These are the octets of its telegram, if it has one.
+    fn hear_when(
+        &mut self,
+        when: When,
+        burst: &mut Burst,
+        octets: &[u8],
+        count: u64,
+        text: &mut Vec<u8>,
+    ) -> Result<(), AllocError>
+        requires { IfOk burst.old.telegram (λ t. octets.now ≡ spelling t) }
+    {
+        match when {
+            When::Within { begin, end } => {
+                burst.begin = begin;
+                burst.end = end;
+            }
+            When::From(begin) => {
+                burst.begin = begin;
+                burst.end = begin.saturating_add(bits(count));
+            }
+            When::Unknown => {
+                burst.begin = 0;
+                burst.end = 0;
+                return self.hear_untimed(burst, octets, count, text);
+            }
+        }
+        self.hear_timed(burst, octets, count, text)
     }
 
     // ---- bursts
@@ -264,51 +351,74 @@ impl Monitor {
         self.statistics.refuse();
     }
 
-    /// A burst with moments. One that begins before the end of the last one is told, and heard as the first of all.
-    pub(crate) fn hear_timed(
+    /// A burst with moments, of so many characters. These are the octets of its telegram, if it has one. One that begins
+    /// before the end of the last one is told, and heard as the first of all.
+    fn hear_timed(
         &mut self,
-        begin: u64,
-        end: u64,
+        burst: &Burst,
+        octets: &[u8],
+        count: u64,
         text: &mut Vec<u8>,
-    ) -> Result<(), AllocError> {
+    ) -> Result<(), AllocError>
+        requires { IfOk burst.now.telegram (λ t. octets.now ≡ spelling t) }
+    {
         if let Some(quiet) = self.quiet
-            && begin.saturating_add(u64::from(self.options.slack)) < quiet
+            && burst.begin.saturating_add(u64::from(self.options.slack)) < quiet
         {
-            self.push_place(text)?;
-            text.extend_from_slice(b"the burst begins at ")?;
-            push_number(text, begin)?;
-            text.extend_from_slice(b", before the last one ends at ")?;
-            push_number(text, quiet)?;
-            text.extend_from_slice(b"; wanted: bursts in order")?;
-            if self.options.form == Form::Pcap {
-                text.extend_from_slice(b" (is --baud that of the bus?)")?;
-            }
-            text.extend_from_slice(b"\n")?;
-            self.refuse();
+            self.refuse_order(burst.begin, quiet, text)?;
         }
-        self.quiet = Some(end);
-        let burst = Burst {
-            begin,
-            end,
-            telegram: self.receiver.answer(),
-        };
-        self.statistics.hear(&burst);
-        let before = if self.kept.is_wanted() {
-            self.named_before(begin)
-        } else {
-            None
-        };
-        let raised = self.judge(&burst);
-        if self.is_told() {
-            self.push_burst(&burst, text)?;
-        }
+        self.quiet = Some(burst.end);
+        self.statistics.hear_spelled(burst, octets);
         if self.kept.is_wanted() {
-            self.keep(&burst, before, raised.as_ref())?;
+            return self.keep_timed(burst, count, text);
+        }
+        let raised = self.judge(burst);
+        if self.is_told() {
+            self.push_burst(burst, text)?;
         }
         if let Some(raised) = raised {
-            self.tell_alarm(&raised, begin, text)?;
+            self.tell_alarm(&raised, burst.begin, text)?;
         }
-        self.summarize(end, text)
+        self.summarize(burst.end, text)
+    }
+
+    /// A burst that begins before the end of the last one.
+    #[inline(never)]
+    fn refuse_order(
+        &mut self,
+        begin: u64,
+        quiet: u64,
+        text: &mut Vec<u8>,
+    ) -> Result<(), AllocError> {
+        self.push_place(text)?;
+        text.extend_from_slice(b"the burst begins at ")?;
+        push_number(text, begin)?;
+        text.extend_from_slice(b", before the last one ends at ")?;
+        push_number(text, quiet)?;
+        text.extend_from_slice(b"; wanted: bursts in order")?;
+        if self.options.form == Form::Pcap {
+            text.extend_from_slice(b" (is --baud that of the bus?)")?;
+        }
+        text.extend_from_slice(b"\n")?;
+        self.refuse();
+        Ok(())
+    }
+
+    /// Judges a burst with moments that is handed on.
+    #[inline(never)]
+    fn keep_timed(
+        &mut self,
+        burst: &Burst,
+        count: u64,
+        text: &mut Vec<u8>,
+    ) -> Result<(), AllocError> {
+        let before = self.named_before(burst.begin);
+        let raised = self.judge(burst);
+        self.keep(burst, count, before, raised.as_ref())?;
+        if let Some(raised) = raised {
+            self.tell_alarm(&raised, burst.begin, text)?;
+        }
+        self.summarize(burst.end, text)
     }
 
     /// The alarm that a burst raises. The judge listens since the first burst that it hears.
@@ -320,16 +430,13 @@ impl Monitor {
             self.judge = Some(Judge::new(params, slack, classes, burst.begin));
         }
         let judge = self.judge.as_mut()?;
-        let before = judge.state();
-        let alarm = judge.hear(burst)?;
-        match meaning_in(&burst.telegram) {
-            Meaning::Initiator(telegram) => Some(Raised {
-                alarm,
-                telegram,
-                before,
-            }),
-            Meaning::Reply | Meaning::NoTelegram => None,
-        }
+        let meaning = meaning_in(&burst.telegram);
+        let raised = match judge.alarm(burst, meaning) {
+            Some(alarm) => raised(alarm, meaning, judge.state()),
+            None => None,
+        };
+        judge.keep(burst, meaning);
+        raised
     }
 
     /// Whether bursts have lines: neither a summary alone is wanted, nor that bursts are handed on.
@@ -347,10 +454,10 @@ impl Monitor {
     }
 
     /// Keeps a burst with moments, to hand it on.
-    #[inline(never)]
     fn keep(
         &mut self,
         burst: &Burst,
+        count: u64,
         before: Option<Named>,
         raised: Option<&Raised>,
     ) -> Result<(), AllocError> {
@@ -360,7 +467,7 @@ impl Monitor {
         };
         self.kept.end(Known {
             span: Some((burst.begin, burst.end)),
-            count: self.receiver.fed(),
+            count,
             before,
             holder,
             alarm: raised.map(|raised| raised.alarm),
@@ -370,15 +477,17 @@ impl Monitor {
     /// Appends the line of a burst.
     #[inline(never)]
     fn push_burst(&self, burst: &Burst, text: &mut Vec<u8>) -> Result<(), AllocError> {
-        push_number(text, burst.begin)?;
-        text.extend_from_slice(b" ")?;
-        push_number(text, burst.end)?;
-        text.extend_from_slice(b" ")?;
-        push_content(text, &burst.telegram)?;
+        let mut line = ArrayVec::new();
+        put_number(&mut line, burst.begin);
+        put(&mut line, b" ");
+        put_number(&mut line, burst.end);
+        put(&mut line, b" ");
+        put_content(&mut line, &burst.telegram, text)?;
         if let Some(judge) = &self.judge {
-            push_holder(text, judge.holder(burst.end))?;
+            put_holder(&mut line, judge.holder(burst.end));
         }
-        text.extend_from_slice(b"\n")
+        put(&mut line, b"\n");
+        text.extend_from_slice(&line)
     }
 
     /// Counts an alarm and appends its line.
@@ -418,26 +527,30 @@ impl Monitor {
         }
     }
 
-    /// A burst without moments: it is judged by the order of telegrams alone.
-    pub(crate) fn hear_untimed(&mut self, text: &mut Vec<u8>) -> Result<(), AllocError> {
+    /// A burst without moments: it is judged by the order of telegrams alone. These are the octets of its telegram, if it
+    /// has one.
+    fn hear_untimed(
+        &mut self,
+        burst: &Burst,
+        octets: &[u8],
+        count: u64,
+        text: &mut Vec<u8>,
+    ) -> Result<(), AllocError>
+        requires { IfOk burst.now.telegram (λ t. octets.now ≡ spelling t) }
+    {
         self.quiet = None;
         self.judge = None;
-        let burst = Burst {
-            begin: 0,
-            end: 0,
-            telegram: self.receiver.answer(),
-        };
         let meaning = meaning_in(&burst.telegram);
-        self.statistics.hear_untimed(&burst);
+        self.statistics.hear_untimed(burst, octets);
         if self.is_told() {
-            push_untimed(&burst, text)?;
+            push_untimed(burst, text)?;
         }
         let last = self.order.last();
         let raised = self.judge_order(meaning);
         if self.kept.is_wanted() {
             let known = Known {
                 span: None,
-                count: self.receiver.fed(),
+                count,
                 before: None,
                 holder: None,
                 alarm: raised.map(|wrong| wrong.alarm),
@@ -472,20 +585,54 @@ impl Monitor {
     }
 }
 
-/// Keeps the characters of a line, if they are to be handed on.
-fn note_line(kept: &mut Kept, line: &Line<'_>) {
-    if !kept.is_wanted() {
-        return;
-    }
-    match line {
-        Line::Burst(_, hex) => kept.note_hex(hex),
-        Line::Blank | Line::Gap | Line::Refused(_) => {}
+/// Reads the characters of a line that is a burst, and keeps them, if they are to be handed on. Of a line that is refused it
+/// appends why.
+fn tell(
+    line: Line<'_>,
+    number: u64,
+    room: &mut [u8; LONGEST_TELEGRAM],
+    receiver: &mut Receiver,
+    kept: &mut Kept,
+    text: &mut Vec<u8>,
+) -> Result<Told, AllocError>
+    ensures { IfOk result IsTold }
+{
+    let fault = match line {
+        Line::Blank => return Ok(Told::Nothing),
+        Line::Gap => return Ok(Told::Gap),
+        Line::Burst(when, hex) => match read_hex(hex, room, receiver) {
+            Some(characters) => {
+                if kept.is_wanted() {
+                    kept.note_hex(hex);
+                }
+                return Ok(Told::Burst(when, characters));
+            }
+            None => LineFault::NotHex(hex),
+        },
+        Line::Refused(fault) => fault,
+    };
+    push_line_fault(fault, number, text)?;
+    Ok(Told::Refused)
+}
+
+/// An alarm of a token or a request, with what was known before it.
+#[inline(never)]
+fn raised(alarm: Alarm, meaning: Meaning, before: State) -> Option<Raised> {
+    match meaning {
+        Meaning::Initiator(telegram) => Some(Raised {
+            alarm,
+            telegram,
+            before,
+        }),
+        Meaning::Reply | Meaning::NoTelegram => None,
     }
 }
 
 /// Appends the line of a burst without moments.
 #[inline(never)]
 fn push_untimed(burst: &Burst, text: &mut Vec<u8>) -> Result<(), AllocError> {
-    push_content(text, &burst.telegram)?;
-    text.extend_from_slice(b"\n")
+    let mut line = ArrayVec::new();
+    put_content(&mut line, &burst.telegram, text)?;
+    put(&mut line, b"\n");
+    text.extend_from_slice(&line)
 }

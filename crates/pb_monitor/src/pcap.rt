@@ -1,7 +1,10 @@
-//! Reads files of packets, pcap and pcapng, as they come: the octets of a packet are fed to a receiver one at a time.
+//! Reads files of packets, pcap and pcapng, as they come: piece by piece, whole heads and packets where they are all there.
+
+ghost use Rattle.std.specs.Prelude.{◌<◌, ◌≤◌, ◌+◌, length, IfSome};
 
 use arrayvec::ArrayVec;
 use pb_telegram::{Receiver, RxChar};
+use std::mem::replace;
 
 /// The link type of PROFIBUS telegrams.
 const PROFIBUS: u32 = 257;
@@ -15,6 +18,9 @@ const MOST_INTERFACES: usize = 16;
 /// The longest head that is looked at whole, in octets.
 const LONGEST_HEAD: usize = 24;
 
+/// How many octets the head of a packet of a pcap file has.
+pub(crate) const PACKET_HEAD: usize = 16;
+
 /// How many parts of a second a timestamp counts: microseconds, unless the file says otherwise.
 pub(crate) const MICROS: u64 = 1_000_000;
 
@@ -27,6 +33,26 @@ pub(crate) enum Item {
     Packet(Option<Stamp>),
     /// Something is refused, from an offset on.
     Refused(u64, PcapFault),
+}
+
+/// A packet that is there whole, behind its head.
+#[derive(Clone, Copy, Debug, PartialEq, Eq)]
+pub(crate) struct Whole {
+    /// Its time.
+    pub(crate) stamp: Stamp,
+    /// How many octets it has.
+    pub(crate) count: usize,
+}
+
+/// What is read of the front of some octets.
+#[derive(Debug, PartialEq, Eq, Drop)]
+pub(crate) struct Step {
+    /// How many octets.
+    pub(crate) taken: usize,
+    /// What they end.
+    pub(crate) item: Option<Item>,
+    /// Whether they are all the octets of a packet.
+    pub(crate) is_whole: bool,
 }
 
 /// The time of a packet.
@@ -156,27 +182,127 @@ impl Packets {
         }
     }
 
-    /// Reads the next octet. If it ends a packet, the receiver has been fed that packet's octets alone.
-    pub(crate) fn read(&mut self, octet: u8, receiver: &mut Receiver) -> Option<Item> {
-        self.offset = self.offset.saturating_add(1);
-        match self.part {
-            Part::Packet => {
-                if receiver.fed() < u64::from(u32::MAX) {
-                    receiver.feed(RxChar::Good(octet));
-                }
-                self.pass_one()
-            }
-            Part::OtherPacket | Part::OptionValue | Part::Rest => self.pass_one(),
-            Part::Nothing => None,
-            _ => {
-                if self.head.try_push(octet).is_err() || self.head.len() < self.wanted() {
-                    return None;
-                }
-                let item = self.end_head(receiver);
-                self.head.clear();
-                item
-            }
+    /// The next packet of a pcap file, if its head and all its octets are the front of some octets.
+    #[inline(always)]
+    pub(crate) fn next_whole(&mut self, octets: &[u8]) -> Option<Whole>
+        ensures { IfSome result (λ whole. 16 + whole.count ≤ length octets.now) }
+    {
+        if self.part != Part::PacketHead || !self.head.is_empty() || octets.len() < PACKET_HEAD {
+            return None;
         }
+        let count = self.long(octets, 8) as usize;
+        if octets.len() - PACKET_HEAD < count {
+            return None;
+        }
+        let stamp = self.stamp_in(octets);
+        self.stamp = Some(stamp);
+        self.offset = self.offset.saturating_add((PACKET_HEAD + count) as u64);
+        self.start = self.offset;
+        Some(Whole { stamp, count })
+    }
+
+    /// The time in the head of a packet of a pcap file.
+    #[inline(always)]
+    fn stamp_in(&self, head: &[u8]) -> Stamp {
+        let (seconds, parts) = (u64::from(self.long(head, 0)), u64::from(self.long(head, 4)));
+        Stamp {
+            ticks: seconds
+                .saturating_mul(self.per_second)
+                .saturating_add(parts),
+            per_second: self.per_second,
+        }
+    }
+
+    /// Reads the front of some octets, at most until a packet or a head ends. There is at least one.
+    ///
+    /// Of a packet that ends, the step says whether all its octets are those that were read. If not, the receiver has been
+    /// fed that packet's octets alone.
+    pub(crate) fn read(&mut self, octets: &[u8], receiver: &mut Receiver) -> Step
+        requires { 0 < length octets.now }
+        ensures some { 0 < result.taken }
+        ensures within { result.taken ≤ length octets.now }
+    {
+        match self.part {
+            Part::Packet => self.read_packet(octets, receiver),
+            Part::OtherPacket | Part::OptionValue | Part::Rest => {
+                let taken = self.come(octets.len());
+                Step {
+                    taken,
+                    item: self.end_of_part(),
+                    is_whole: false,
+                }
+            }
+            Part::Nothing => Step {
+                taken: octets.len(),
+                item: None,
+                is_whole: false,
+            },
+            _ => self.read_head(octets, receiver),
+        }
+    }
+
+    /// Reads octets of a packet.
+    fn read_packet(&mut self, octets: &[u8], receiver: &mut Receiver) -> Step
+        requires { 0 < length octets.now }
+        ensures some { 0 < result.taken }
+        ensures within { result.taken ≤ length octets.now }
+    {
+        let is_first = receiver.fed() == 0;
+        let taken = self.come(octets.len());
+        let is_whole = is_first && self.left == 0;
+        if !is_whole {
+            feed_all(&octets[..taken], receiver);
+        }
+        Step {
+            taken,
+            item: self.end_of_part(),
+            is_whole,
+        }
+    }
+
+    /// Reads a head where it is, or of one that comes in pieces the next octet.
+    fn read_head(&mut self, octets: &[u8], receiver: &mut Receiver) -> Step
+        requires { 0 < length octets.now }
+        ensures some { 0 < result.taken }
+        ensures within { result.taken ≤ length octets.now }
+    {
+        let wanted = self.wanted();
+        if self.head.is_empty() && wanted <= octets.len() {
+            self.offset = self.offset.saturating_add(wanted as u64);
+            return Step {
+                taken: wanted,
+                item: self.end_head(&octets[..wanted], receiver),
+                is_whole: false,
+            };
+        }
+        Step {
+            taken: 1,
+            item: self.read_octet(octets[0], receiver),
+            is_whole: false,
+        }
+    }
+
+    /// Reads the next octet of a head.
+    #[inline(never)]
+    fn read_octet(&mut self, octet: u8, receiver: &mut Receiver) -> Option<Item> {
+        self.offset = self.offset.saturating_add(1);
+        if self.head.try_push(octet).is_err() || self.head.len() < self.wanted() {
+            return None;
+        }
+        let head = replace(&mut self.head, ArrayVec::new());
+        self.end_head(&head, receiver)
+    }
+
+    /// Of so many octets that are there, those of a packet or of what is skipped come: how many they are.
+    fn come(&mut self, count: usize) -> usize
+        requires { 0 < count }
+        ensures some { 0 < result }
+        ensures within { result ≤ count }
+    {
+        let taken = self.left.max(1).min(count as u64);
+        self.left = self.left.saturating_sub(taken);
+        self.offset = self.offset.saturating_add(taken);
+        taken as usize
     }
 
     /// The file ends.
@@ -193,19 +319,20 @@ impl Packets {
     }
 
     /// How many octets the head has that is being read.
-    fn wanted(&self) -> usize {
+    fn wanted(&self) -> usize
+        ensures { 0 < result }
+    {
         match self.part {
             Part::FileHead | Part::EnhancedHead => 20,
-            Part::PacketHead => 16,
+            Part::PacketHead => PACKET_HEAD,
             Part::SectionMark | Part::InterfaceHead => 8,
             Part::Resolution => 1,
             _ => 4,
         }
     }
 
-    /// One octet of a packet, or of what is skipped, has come.
-    fn pass_one(&mut self) -> Option<Item> {
-        self.left = self.left.saturating_sub(1);
+    /// A packet, or what is skipped, ends, if no octet of it is to come.
+    fn end_of_part(&mut self) -> Option<Item> {
         if self.left > 0 {
             return None;
         }
@@ -266,14 +393,13 @@ impl Packets {
         Some(Item::Refused(self.start, fault))
     }
 
-    /// The number of four octets of the head, from an index on.
-    pub(crate) fn long(&self, place: usize) -> u32 {
-        let octets = [
-            octet_at(&self.head, place, 0),
-            octet_at(&self.head, place, 1),
-            octet_at(&self.head, place, 2),
-            octet_at(&self.head, place, 3),
-        ];
+    /// The number of four octets of a head, from an index on.
+    #[inline(always)]
+    pub(crate) fn long(&self, head: &[u8], place: usize) -> u32 {
+        let octets = match head.get(place..) {
+            Some([first, second, third, fourth, ..]) => [*first, *second, *third, *fourth],
+            _ => [0; 4],
+        };
         if self.is_big {
             u32::from_be_bytes(octets)
         } else {
@@ -281,12 +407,12 @@ impl Packets {
         }
     }
 
-    /// The number of two octets of the head, from an index on.
-    pub(crate) fn short(&self, place: usize) -> u16 {
-        let octets = [
-            octet_at(&self.head, place, 0),
-            octet_at(&self.head, place, 1),
-        ];
+    /// The number of two octets of a head, from an index on.
+    pub(crate) fn short(&self, head: &[u8], place: usize) -> u16 {
+        let octets = match head.get(place..) {
+            Some([first, second, ..]) => [*first, *second],
+            _ => [0; 2],
+        };
         if self.is_big {
             u16::from_be_bytes(octets)
         } else {
@@ -295,29 +421,29 @@ impl Packets {
     }
 
     /// A head is whole.
-    fn end_head(&mut self, receiver: &mut Receiver) -> Option<Item> {
+    fn end_head(&mut self, head: &[u8], receiver: &mut Receiver) -> Option<Item> {
         match self.part {
-            Part::Magic => self.end_magic(),
-            Part::FileHead => self.end_file_head(),
-            Part::PacketHead => self.end_packet_head(receiver),
-            Part::BlockType => self.end_block_type(),
-            Part::BlockLength => self.end_block_length(),
-            Part::SectionMark => self.end_section_mark(),
-            Part::InterfaceHead => self.end_interface_head(),
-            Part::OptionHead => self.end_option_head(),
-            Part::Resolution => self.end_resolution(),
-            Part::EnhancedHead => self.end_enhanced_head(receiver),
-            Part::SimpleHead => self.end_simple_head(receiver),
+            Part::Magic => self.end_magic(head),
+            Part::FileHead => self.end_file_head(head),
+            Part::PacketHead => self.end_packet_head(head, receiver),
+            Part::BlockType => self.end_block_type(head),
+            Part::BlockLength => self.end_block_length(head),
+            Part::SectionMark => self.end_section_mark(head),
+            Part::InterfaceHead => self.end_interface_head(head),
+            Part::OptionHead => self.end_option_head(head),
+            Part::Resolution => self.end_resolution(head),
+            Part::EnhancedHead => self.end_enhanced_head(head, receiver),
+            Part::SimpleHead => self.end_simple_head(head, receiver),
             Part::Packet | Part::OtherPacket | Part::OptionValue | Part::Rest | Part::Nothing =>
                 None,
         }
     }
 
     /// The first four octets tell the format, and of pcap the byte order and what a timestamp counts.
-    fn end_magic(&mut self) -> Option<Item> {
+    fn end_magic(&mut self, head: &[u8]) -> Option<Item> {
         self.is_plain = true;
         self.part = Part::FileHead;
-        match self.head.as_slice() {
+        match head {
             [0xd4, 0xc3, 0xb2, 0xa1] => {}
             [0xa1, 0xb2, 0xc3, 0xd4] => self.is_big = true,
             [0x4d, 0x3c, 0xb2, 0xa1] => self.per_second = NANOS,
@@ -336,8 +462,8 @@ impl Packets {
     }
 
     /// The link type of a pcap file. Its upper bits say something else.
-    fn end_file_head(&mut self) -> Option<Item> {
-        let link = self.long(16) & 0xffff;
+    fn end_file_head(&mut self, head: &[u8]) -> Option<Item> {
+        let link = self.long(head, 16) & 0xffff;
         if !is_profibus(link) {
             return self.give_up(PcapFault::LinkType(link));
         }
@@ -346,15 +472,9 @@ impl Packets {
     }
 
     /// A packet of a pcap file comes.
-    fn end_packet_head(&mut self, receiver: &mut Receiver) -> Option<Item> {
-        let (seconds, parts) = (u64::from(self.long(0)), u64::from(self.long(4)));
-        self.stamp = Some(Stamp {
-            ticks: seconds
-                .saturating_mul(self.per_second)
-                .saturating_add(parts),
-            per_second: self.per_second,
-        });
-        let octets = u64::from(self.long(8));
+    fn end_packet_head(&mut self, head: &[u8], receiver: &mut Receiver) -> Option<Item> {
+        self.stamp = Some(self.stamp_in(head));
+        let octets = u64::from(self.long(head, 8));
         self.begin_packet(octets, true, receiver)
     }
 
@@ -375,14 +495,18 @@ impl Packets {
         if octets > 0 {
             return None;
         }
-        self.left = 1;
-        self.pass_one()
+        self.end_of_part()
     }
 }
 
-/// The octet of a head at an index and a distance behind it.
-fn octet_at(head: &[u8], place: usize, at: usize) -> u8 {
-    head.get(place.saturating_add(at)).copied().unwrap_or(0)
+/// Feeds octets to a receiver, as far as it counts them.
+#[inline(never)]
+fn feed_all(octets: &[u8], receiver: &mut Receiver) {
+    for octet in octets {
+        if receiver.fed() < u64::from(u32::MAX) {
+            receiver.feed(RxChar::Good(*octet));
+        }
+    }
 }
 
 /// Whether packets of a link type are telegrams.

@@ -20,8 +20,8 @@ const RESOLUTION: u16 = 9;
 
 impl Packets {
     /// The type of a block: the head of a section has its byte order behind its length.
-    pub(crate) fn end_block_type(&mut self) -> Option<Item> {
-        self.block = self.long(0);
+    pub(crate) fn end_block_type(&mut self, head: &[u8]) -> Option<Item> {
+        self.block = self.long(head, 0);
         self.part = if self.block == SECTION {
             Part::SectionMark
         } else {
@@ -31,14 +31,14 @@ impl Packets {
     }
 
     /// A section has the byte order and the interfaces of its own.
-    pub(crate) fn end_section_mark(&mut self) -> Option<Item> {
-        match self.head.as_slice() {
+    pub(crate) fn end_section_mark(&mut self, head: &[u8]) -> Option<Item> {
+        match head {
             [_, _, _, _, 0x4d, 0x3c, 0x2b, 0x1a] => self.is_big = false,
             [_, _, _, _, 0x1a, 0x2b, 0x3c, 0x4d] => self.is_big = true,
             _ => return self.give_up(PcapFault::NoMagic),
         }
         self.interfaces.clear();
-        match self.long(0).checked_sub(12) {
+        match self.long(head, 0).checked_sub(12) {
             Some(rest) if rest % 4 == 0 => {
                 self.rest = u64::from(rest);
                 self.skip_rest();
@@ -49,8 +49,8 @@ impl Packets {
     }
 
     /// The length of a block counts its type, itself, and its repetition at the end.
-    pub(crate) fn end_block_length(&mut self) -> Option<Item> {
-        match self.long(0).checked_sub(8) {
+    pub(crate) fn end_block_length(&mut self, head: &[u8]) -> Option<Item> {
+        match self.long(head, 0).checked_sub(8) {
             Some(rest) if rest % 4 == 0 && rest > 0 => self.rest = u64::from(rest),
             _ => return self.give_up(PcapFault::BadBlock),
         }
@@ -66,9 +66,9 @@ impl Packets {
     }
 
     /// An interface, by its link type. Its timestamps count microseconds, unless an option says otherwise.
-    pub(crate) fn end_interface_head(&mut self) -> Option<Item> {
+    pub(crate) fn end_interface_head(&mut self, head: &[u8]) -> Option<Item> {
         let interface = Interface {
-            is_profibus: is_profibus(u32::from(self.short(0))),
+            is_profibus: is_profibus(u32::from(self.short(head, 0))),
             per_second: MICROS,
         };
         match self.interfaces.try_push(interface) {
@@ -90,8 +90,8 @@ impl Packets {
     }
 
     /// The head of an option: its value is filled up to a multiple of four octets.
-    pub(crate) fn end_option_head(&mut self) -> Option<Item> {
-        let (code, length) = (self.short(0), u64::from(self.short(2)));
+    pub(crate) fn end_option_head(&mut self, head: &[u8]) -> Option<Item> {
+        let (code, length) = (self.short(head, 0), u64::from(self.short(head, 2)));
         let filled = (length + 3) / 4 * 4;
         if code == 0 {
             self.skip_rest();
@@ -109,8 +109,8 @@ impl Packets {
     }
 
     /// What the timestamps of an interface count: a power of ten, or of two.
-    pub(crate) fn end_resolution(&mut self) -> Option<Item> {
-        let power = self.head.first().copied().unwrap_or(0);
+    pub(crate) fn end_resolution(&mut self, head: &[u8]) -> Option<Item> {
+        let power = head.first().copied().unwrap_or(0);
         if let Some(interface) = self.interfaces.last_mut() {
             interface.per_second = parts(power);
         }
@@ -119,14 +119,18 @@ impl Packets {
     }
 
     /// A packet of an interface comes, with its time.
-    pub(crate) fn end_enhanced_head(&mut self, receiver: &mut Receiver) -> Option<Item> {
-        let octets = u64::from(self.long(12));
+    pub(crate) fn end_enhanced_head(
+        &mut self,
+        head: &[u8],
+        receiver: &mut Receiver,
+    ) -> Option<Item> {
+        let octets = u64::from(self.long(head, 12));
         match self.rest.checked_sub(octets) {
             Some(rest) => self.rest = rest,
             None => return self.give_up(PcapFault::BadBlock),
         }
-        let ticks = u64::from(self.long(4)) << 32 | u64::from(self.long(8));
-        match self.interfaces.get(self.long(0) as usize) {
+        let ticks = u64::from(self.long(head, 4)) << 32 | u64::from(self.long(head, 8));
+        match self.interfaces.get(self.long(head, 0) as usize) {
             Some(interface) if interface.is_profibus => {
                 self.stamp = Some(Stamp {
                     ticks,
@@ -139,8 +143,8 @@ impl Packets {
     }
 
     /// A packet of the first interface comes, without a time.
-    pub(crate) fn end_simple_head(&mut self, receiver: &mut Receiver) -> Option<Item> {
-        let octets = u64::from(self.long(0)).min(self.rest.saturating_sub(4));
+    pub(crate) fn end_simple_head(&mut self, head: &[u8], receiver: &mut Receiver) -> Option<Item> {
+        let octets = u64::from(self.long(head, 0)).min(self.rest.saturating_sub(4));
         self.rest = self.rest.saturating_sub(octets);
         self.stamp = None;
         let is_wanted = match self.interfaces.first() {

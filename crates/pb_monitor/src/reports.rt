@@ -1,11 +1,17 @@
 //! The lines that a monitor prints for bursts and alarms.
 
+ghost use Rattle.std.specs.Prelude.{◌≡◌, ◌≤◌, ◌+◌, ◌++◌, codes, length, OnOk};
+ghost use Rattle.pb_decode.specs.Texts.{address_text, token_text};
+ghost use Rattle.pb_monitor.specs.BurstTexts.{alarm_head, holder_text, latest, refused_text, taken_text, timeout_text};
+ghost use Rattle.pb_monitor.specs.TelegramWords.{token_words};
+
 use crate::alarms::Alarm;
 use crate::holders::Holder;
 use crate::meanings::InitiatorTelegram;
 use crate::states::{LastHeard, State, live};
-use crate::texts::{push_counted, push_number};
+use crate::texts::{LONGEST_PIECE, push_counted, push_number, put, put_number};
 use crate::words::Words;
+use arrayvec::ArrayVec;
 use pb_decode::{push_fault, push_telegram};
 use pb_telegram::{Telegram, TelegramFault};
 use pb_timers::BusParams;
@@ -22,8 +28,63 @@ pub(crate) struct Raised {
     pub(crate) before: State,
 }
 
+/// Appends a telegram and what it says, or the fault of a burst without one: a token to the piece of a line, anything else to
+/// the text, behind the piece, which is then empty.
+#[inline(always)]
+pub(crate) fn put_content(
+    piece: &mut ArrayVec<u8, LONGEST_PIECE>,
+    telegram: &Result<Telegram, TelegramFault>,
+    text: &mut Vec<u8>,
+) -> Result<(), AllocError>
+    requires { length piece.old.items ≤ 42 }
+    ensures room { OnOk result (length piece.new.items ≤ 82) }
+{
+    if let Ok(Telegram::Token(token)) = telegram {
+        put_token(piece, token.da, token.sa);
+        return Ok(());
+    }
+    text.extend_from_slice(piece)?;
+    piece.clear();
+    push_content(text, telegram)
+}
+
+/// Appends a token and what it says to the piece of a line.
+#[inline(always)]
+fn put_token(piece: &mut ArrayVec<u8, LONGEST_PIECE>, da: u8, sa: u8)
+    requires { length piece.old.items ≤ 42 }
+    ensures text { piece.new.items ≡ piece.old.items ++ token_text da sa ++ codes " | " ++ token_words da sa }
+    ensures room { length piece.new.items ≤ 82 }
+{
+    put(piece, b"token");
+    put(piece, b" da=");
+    put_address(piece, da);
+    put(piece, b" sa=");
+    put_address(piece, sa);
+    put(piece, b" | ");
+    if da == sa {
+        put(piece, b"token to itself");
+        return;
+    }
+    put(piece, b"token to ");
+    put_number(piece, da);
+}
+
+/// Appends an address, and a plus sign if bit 7 of its octet is set, to the piece of a line.
+#[inline(always)]
+fn put_address(piece: &mut ArrayVec<u8, LONGEST_PIECE>, octet: u8)
+    requires { length piece.old.items ≤ 100 }
+    ensures text { piece.new.items ≡ piece.old.items ++ address_text octet }
+    ensures room { length piece.new.items ≤ length piece.old.items + 4 }
+{
+    put_number(piece, octet % 128);
+    if octet >= 128 {
+        put(piece, b"+");
+    }
+}
+
 /// Appends a telegram and what it says, or the fault of a burst without one.
-pub(crate) fn push_content(
+#[inline(never)]
+fn push_content(
     text: &mut Vec<u8>,
     telegram: &Result<Telegram, TelegramFault>,
 ) -> Result<(), AllocError> {
@@ -37,13 +98,24 @@ pub(crate) fn push_content(
     }
 }
 
-/// Appends who holds the token.
-pub(crate) fn push_holder(text: &mut Vec<u8>, holder: Holder) -> Result<(), AllocError> {
+/// Appends who holds the token to the piece of a line.
+#[inline(always)]
+pub(crate) fn put_holder(piece: &mut ArrayVec<u8, LONGEST_PIECE>, holder: Holder)
+    requires { length piece.old.items ≤ 100 }
+    ensures text { piece.new.items ≡ piece.old.items ++ holder_text holder }
+    ensures room { length piece.new.items ≤ length piece.old.items + 17 }
+{
     match holder {
-        Holder::One(address) => push_counted(text, b" | holder ", u64::from(address)),
-        Holder::OfferedTo(address) => push_counted(text, b" | offered to ", u64::from(address)),
-        Holder::Nobody => text.extend_from_slice(b" | nobody"),
-        Holder::Unknown => text.extend_from_slice(b" | unknown"),
+        Holder::One(address) => {
+            put(piece, b" | holder ");
+            put_number(piece, address);
+        }
+        Holder::OfferedTo(address) => {
+            put(piece, b" | offered to ");
+            put_number(piece, address);
+        }
+        Holder::Nobody => put(piece, b" | nobody"),
+        Holder::Unknown => put(piece, b" | unknown"),
     }
 }
 
@@ -90,7 +162,9 @@ pub(crate) fn push_alarm_head(
     alarm: Alarm,
     begin: Option<u64>,
     source: u8,
-) -> Result<(), AllocError> {
+) -> Result<(), AllocError>
+    ensures { OnOk result (text.new.items ≡ text.old.items ++ alarm_head alarm begin source) }
+{
     text.extend_from_slice(b"alarm")?;
     if let Some(begin) = begin {
         push_counted(text, b" at ", begin)?;
@@ -102,7 +176,9 @@ pub(crate) fn push_alarm_head(
 }
 
 /// Appends the time-out of a station.
-fn push_timeout(text: &mut Vec<u8>, params: &BusParams, source: u8) -> Result<(), AllocError> {
+fn push_timeout(text: &mut Vec<u8>, params: &BusParams, source: u8) -> Result<(), AllocError>
+    ensures { OnOk result (text.new.items ≡ text.old.items ++ timeout_text params.now source) }
+{
     push_counted(text, b", and its time-out is ", params.tto(source))
 }
 
@@ -163,14 +239,18 @@ fn push_after_last(
 }
 
 /// Appends when the token was taken, and when it should have been.
-fn push_taken(text: &mut Vec<u8>, after: u64, words: &[u8], bits: u64) -> Result<(), AllocError> {
+fn push_taken(text: &mut Vec<u8>, after: u64, words: &[u8], bits: u64) -> Result<(), AllocError>
+    ensures { OnOk result (text.new.items ≡ text.old.items ++ taken_text after words.now bits) }
+{
     push_counted(text, b"; it was taken ", after)?;
     text.extend_from_slice(b" after its end, and ")?;
     push_counted(text, words, bits)
 }
 
 /// How long after a token's end a station takes it at the latest, in bit times.
-fn latest(params: &BusParams, slack: u32) -> u64 {
+fn latest(params: &BusParams, slack: u32) -> u64
+    ensures { result ≡ latest params.now slack }
+{
     u64::from(params.tid1())
         + u64::from(params.lag())
         + 2 * u64::from(params.ttd())
@@ -178,7 +258,9 @@ fn latest(params: &BusParams, slack: u32) -> u64 {
 }
 
 /// Appends the begin of a line for input that is refused.
-pub(crate) fn push_refused(text: &mut Vec<u8>, what: &[u8], place: u64) -> Result<(), AllocError> {
+pub(crate) fn push_refused(text: &mut Vec<u8>, what: &[u8], place: u64) -> Result<(), AllocError>
+    ensures { OnOk result (text.new.items ≡ text.old.items ++ refused_text what.now place) }
+{
     text.extend_from_slice(b"refused ")?;
     text.extend_from_slice(what)?;
     text.extend_from_slice(b" ")?;

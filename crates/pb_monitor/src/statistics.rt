@@ -1,12 +1,14 @@
 //! What is known of a bus after a capture: counts for the bus and for each station, and the list of active stations.
 
 ghost use Rattle.std.specs.Prelude.{◌≡◌, option_map};
+ghost use Rattle.pb_telegram.specs.Grammar.{spelling};
 ghost use Rattle.pb_telegram.specs.Heads.{head_of};
 ghost use Rattle.pb_monitor.specs.Known.{answers, damaged_open, is_awaited, is_in_slot, is_over, wants_answer};
 
 use crate::bursts::Burst;
 use crate::meanings::{InitiatorTelegram, Meaning, meaning_in};
 use crate::repeats::Repeats;
+use crate::spelled::octets_of;
 use crate::states::live;
 use crate::stations::{Station, one_more};
 use crate::tallies::{ask, close, forget_receipts, initiate, reply, send_token, take_offer};
@@ -194,25 +196,36 @@ impl Statistics {
     pub fn hear(&mut self, burst: &Burst)
         ensures { self.new ≡ heard burst.now self.old }
     {
+        self.hear_spelled(burst, &octets_of(&burst.telegram));
+    }
+
+    /// Hears the next burst, of whose telegram these are the octets, if it has one.
+    pub(crate) fn hear_spelled(&mut self, burst: &Burst, octets: &[u8])
+        requires { IfOk burst.now.telegram (λ t. octets.now ≡ spelling t) }
+        ensures { self.new ≡ heard burst.now self.old }
+    {
         let before = self.quiet;
         self.is_timed = true;
         self.traffic.note(burst, before);
-        self.hear_telegram(burst, before);
+        self.hear_telegram(burst, octets, before);
         self.quiet = Some(burst.end);
     }
 
-    /// Hears the next burst, of which no moments are known: those that it has mean nothing.
-    pub(crate) fn hear_untimed(&mut self, burst: &Burst)
+    /// Hears the next burst, of which no moments are known: those that it has mean nothing. These are the octets of its
+    /// telegram, if it has one.
+    pub(crate) fn hear_untimed(&mut self, burst: &Burst, octets: &[u8])
+        requires { IfOk burst.now.telegram (λ t. octets.now ≡ spelling t) }
         ensures { self.new ≡ heard_untimed burst.now self.old }
     {
         self.is_timed = false;
         self.quiet = None;
         self.traffic.count();
-        self.hear_telegram(burst, None);
+        self.hear_telegram(burst, octets, None);
     }
 
     /// Counts what a burst says.
-    fn hear_telegram(&mut self, burst: &Burst, before: Option<u64>)
+    fn hear_telegram(&mut self, burst: &Burst, octets: &[u8], before: Option<u64>)
+        requires { IfOk burst.now.telegram (λ t. octets.now ≡ spelling t) }
         ensures { self.new ≡ heard_telegram before burst.now.begin burst.now.end burst.now.telegram self.old }
     {
         match &burst.telegram {
@@ -220,7 +233,7 @@ impl Statistics {
             Ok(telegram) => match meaning_in(&burst.telegram) {
                 Meaning::Initiator(said) => {
                     let is_claim = said.is_claim && self.comes_after_slot(burst.begin, before);
-                    self.hear_initiator(burst, telegram, said, is_claim);
+                    self.hear_initiator(burst, telegram, octets, said, is_claim);
                 }
                 Meaning::Reply | Meaning::NoTelegram => self.hear_reply(burst, telegram),
             },
@@ -259,19 +272,22 @@ impl Statistics {
         self.forget_telegrams();
     }
 
-    /// Hears a token or a request.
+    /// Hears a token or a request, of these octets.
+    #[tactic(auto, using(crate::proofs::Fronts::spelling_fits))]
     fn hear_initiator(
         &mut self,
         burst: &Burst,
         telegram: &Telegram,
+        octets: &[u8],
         said: InitiatorTelegram,
         is_claim: bool,
     )
+        requires { octets.now ≡ spelling telegram.now }
         ensures { self.new
             ≡ heard_initiator burst.now.begin burst.now.end telegram.now said is_claim self.old }
     {
         self.close();
-        let is_repeat = self.repeats.hear(telegram) && !said.is_claim;
+        let is_repeat = self.repeats.hear(octets) && !said.is_claim;
         let (begin, end, is_timed) = (burst.begin, burst.end, self.is_timed);
         take_offer(
             &mut self.stations,
@@ -349,8 +365,10 @@ impl Statistics {
     pub(crate) fn close(&mut self)
         ensures { self.new ≡ closed self.old }
     {
-        close(&mut self.stations, self.request);
-        self.request = None;
+        if self.request.is_some() {
+            close(&mut self.stations, self.request);
+            self.request = None;
+        }
     }
 }
 

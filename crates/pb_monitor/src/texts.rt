@@ -1,22 +1,47 @@
 //! Numbers and words as text.
 
+ghost use Rattle.std.specs.Prelude.{◌≡◌, ◌≤◌, ◌+◌, ◌++◌, OnOk, decimal, length};
+
+use arrayvec::ArrayVec;
 use itoa::{Buffer, Integer};
 use std::alloc::AllocError;
 
 /// The most bytes of an input that a message repeats.
 const LONGEST_QUOTE: usize = 24;
 
+/// The most bytes of a line that is made before it is appended.
+pub(crate) const LONGEST_PIECE: usize = 128;
+
+/// Appends some bytes to a piece of a line.
+#[inline(always)]
+pub(crate) fn put(piece: &mut ArrayVec<u8, LONGEST_PIECE>, bytes: &[u8])
+    requires { length piece.old.items + length bytes.now ≤ 128 }
+    ensures items { piece.new.items ≡ piece.old.items ++ bytes.now }
+    ensures len { length piece.new.items ≡ length piece.old.items + length bytes.now }
+{
+    piece.try_extend_from_slice(bytes).unwrap();
+}
+
+/// Appends a number in decimal digits to a piece of a line.
+pub(crate) fn put_number<N: Integer>(piece: &mut ArrayVec<u8, LONGEST_PIECE>, number: N)
+    requires { length piece.old.items + N.MAX_STR_LEN ≤ 128 }
+    ensures items { piece.new.items ≡ piece.old.items ++ N.text number }
+    ensures len { length piece.new.items ≤ length piece.old.items + N.MAX_STR_LEN }
+{
+    put(piece, Buffer::new().format(number).as_bytes());
+}
+
 /// Appends a number in decimal digits.
-pub(crate) fn push_number<N: Integer>(text: &mut Vec<u8>, number: N) -> Result<(), AllocError> {
+pub(crate) fn push_number<N: Integer>(text: &mut Vec<u8>, number: N) -> Result<(), AllocError>
+    ensures { OnOk result (text.new.items ≡ text.old.items ++ N.text number) }
+{
     text.extend_from_slice(Buffer::new().format(number).as_bytes())
 }
 
 /// Appends words and a number.
-pub(crate) fn push_counted(
-    text: &mut Vec<u8>,
-    words: &[u8],
-    number: u64,
-) -> Result<(), AllocError> {
+pub(crate) fn push_counted(text: &mut Vec<u8>, words: &[u8], number: u64) -> Result<(), AllocError>
+    ensures { OnOk result (text.new.items ≡ (text.old.items ++ words.now) ++ decimal number) }
+{
     text.extend_from_slice(words)?;
     push_number(text, number)
 }

@@ -1,5 +1,9 @@
 //! What a telegram says, in words.
 
+ghost use Rattle.std.specs.Prelude.{◌≡◌, option_map};
+ghost use Rattle.pb_cycles.specs.Messages.{has_bit};
+ghost use Rattle.pb_monitor.specs.TelegramWords.{count_words, head_words, named_reply, reply_name, service_words, type_words, words_of, words_text};
+
 use crate::texts::push_number;
 use pb_cycles::{Asked, Service};
 use pb_telegram::{Fc, Telegram};
@@ -22,19 +26,27 @@ pub enum Words {
 
 impl Words {
     /// What a telegram says.
-    pub fn of(telegram: &Telegram) -> Words {
-        if let Some(head) = telegram.head() {
-            let fc = Fc(head.fc);
-            if fc.is_request() {
-                return Words::Request(fc);
-            }
-            return Words::Reply(fc, telegram.unit().is_empty());
-        }
+    pub fn of(telegram: &Telegram) -> Words
+        ensures { words_text result ≡ words_of telegram.now }
+    {
         match telegram {
+            Telegram::Short(short) => Words::by(Fc(short.fc), true),
+            Telegram::Var(var) => Words::by(Fc(var.fc), false),
+            Telegram::Fixed8(fixed) => Words::by(Fc(fixed.fc), false),
             Telegram::Token(token) if token.da == token.sa => Words::TokenToItself,
             Telegram::Token(token) => Words::TokenTo(token.da),
-            _ => Words::Acknowledgement,
+            Telegram::Ack => Words::Acknowledgement,
         }
+    }
+
+    /// What a telegram with a control octet says, without data or with some.
+    fn by(fc: Fc, is_empty: bool) -> Words
+        ensures { words_text result ≡ head_words fc.0 is_empty }
+    {
+        if fc.is_request() {
+            return Words::Request(fc);
+        }
+        Words::Reply(fc, is_empty)
     }
 
     /// Appends the words: `token to 2`, `FDL status request`, `SRD high, FCB 1`, `reply: data low`.
@@ -54,24 +66,31 @@ impl Words {
     }
 }
 
-/// Appends the service of a request, and its frame count bit.
+/// Appends what a request asks for, and its frame count bit.
 fn push_request(text: &mut Vec<u8>, fc: Fc) -> Result<(), AllocError> {
-    match Asked::by(fc.code()) {
-        Asked::Send(service, high) => {
-            text.extend_from_slice(service_name(service).as_bytes())?;
-            text.extend_from_slice(if high { " high" } else { " low" }.as_bytes())?;
-        }
-        Asked::Status => text.extend_from_slice(b"FDL status request")?,
-        Asked::Unknown => {
-            text.extend_from_slice(b"request with function code ")?;
-            push_number(text, fc.code())?;
-        }
-    }
+    push_asked(text, Asked::by(fc.code()), fc.code())?;
     text.extend_from_slice(count_words(fc).as_bytes())
 }
 
+/// Appends what a request asks for, by its function code.
+fn push_asked(text: &mut Vec<u8>, asked: Asked, code: u8) -> Result<(), AllocError> {
+    match asked {
+        Asked::Send(service, high) => {
+            text.extend_from_slice(service_name(service).as_bytes())?;
+            text.extend_from_slice(if high { " high" } else { " low" }.as_bytes())
+        }
+        Asked::Status => text.extend_from_slice(b"FDL status request"),
+        Asked::Unknown => {
+            text.extend_from_slice(b"request with function code ")?;
+            push_number(text, code)
+        }
+    }
+}
+
 /// The name of a service.
-fn service_name(service: Service) -> &'static str {
+fn service_name(service: Service) -> &'static str
+    ensures { result.now ≡ service_words service }
+{
     match service {
         Service::Sda => "SDA",
         Service::Sdn => "SDN",
@@ -80,7 +99,9 @@ fn service_name(service: Service) -> &'static str {
 }
 
 /// The frame count bit of a request. One that is set but not valid begins the count.
-fn count_words(fc: Fc) -> &'static str {
+fn count_words(fc: Fc) -> &'static str
+    ensures { result.now ≡ count_words (has_bit fc.0 4) (has_bit fc.0 5) }
+{
     if fc.fcv() {
         if fc.fcb() { ", FCB 1" } else { ", FCB 0" }
     } else if fc.fcb() {
@@ -92,21 +113,28 @@ fn count_words(fc: Fc) -> &'static str {
 
 /// Appends what a reply says: its function code, and the station type where it has no data.
 fn push_reply(text: &mut Vec<u8>, fc: Fc, is_empty: bool) -> Result<(), AllocError> {
-    match reply_name(fc.code()) {
-        Some(name) => text.extend_from_slice(name.as_bytes())?,
-        None => {
-            text.extend_from_slice(b"reply: function code ")?;
-            push_number(text, fc.code())?;
-        }
-    }
+    push_reply_name(text, fc.code())?;
     if is_empty && fc.code() == 0 {
-        text.extend_from_slice(type_words(fc.station_type()).as_bytes())?;
+        return text.extend_from_slice(type_words(fc.station_type()).as_bytes());
     }
     Ok(())
 }
 
+/// Appends what the function code of a reply means, or the code.
+fn push_reply_name(text: &mut Vec<u8>, code: u8) -> Result<(), AllocError> {
+    match reply_name(code) {
+        Some(name) => text.extend_from_slice(name.as_bytes()),
+        None => {
+            text.extend_from_slice(b"reply: function code ")?;
+            push_number(text, code)
+        }
+    }
+}
+
 /// What the function code of a reply means.
-fn reply_name(code: u8) -> Option<&'static str> {
+fn reply_name(code: u8) -> Option<&'static str>
+    ensures { named_reply (option_map (λ name. name.now) result) code ≡ reply_name code }
+{
     match code {
         0 => Some("reply: OK"),
         1 => Some("reply: user error"),
@@ -122,7 +150,9 @@ fn reply_name(code: u8) -> Option<&'static str> {
 }
 
 /// The station type of a reply, 0 to 3.
-fn type_words(station_type: u8) -> &'static str {
+fn type_words(station_type: u8) -> &'static str
+    ensures { result.now ≡ type_words station_type }
+{
     match station_type {
         0 => ", passive",
         1 => ", master not ready",

@@ -2,7 +2,7 @@ use Rattle.std.proofs.Common.{◌≡◌, map, take, subst, arith}
 use Rattle.std.proofs.lemmas.Grind.{common_steps}
 use Rattle.pb_telegram.specs.Receiving.{StandsFor}
 use Rattle.pb_telegram.specs.declared.chars.RxChar.TheVariants.{Good}
-use Rattle.pb_monitor.proofs.cutting.spelled.Goals as goal
+use Rattle.pb_monitor.proofs.spelled.received.Goals as goal
 
 pub loop-octet-preserved : goal.loop-octet-preserved
 loop-octet-preserved c =
