@@ -633,6 +633,32 @@ static void on_a_capture(void)
     fdl_monitor_free(&monitor);
 }
 
+/* Two masters pass the token, each 41 bit times after the last one: 4 later than the rules let them, which a slack of 4 allows. */
+static void on_a_ring(void)
+{
+    static const char turns[] = "100 133 dc0201\n174 207 dc0102\n248 281 dc0201\n322 355 dc0102\n396 429 dc0201\n470 503 dc0102\n";
+    for (uint32_t slack = 3; slack < 5; slack++) {
+        struct fdl_monitor monitor = FDL_MONITOR_EMPTY;
+        struct fdl_monitor_options options = all;
+        struct fdl_traffic traffic;
+        struct fdl_station_counts counts;
+        options.slack = slack;
+        WANT(FDL_OK, fdl_monitor_new(&monitor, &options, &usual));
+        WANT(FDL_OK, fdl_monitor_feed(&monitor, (const uint8_t *)turns, 15));
+        WANT(FDL_OK, fdl_monitor_traffic(&monitor, &traffic));
+        want(0, traffic.complete, "after one token the ring is not known");
+        WANT(FDL_OK, fdl_monitor_feed(&monitor, (const uint8_t *)&turns[15], sizeof turns - 1 - 15));
+        WANT(FDL_OK, fdl_monitor_traffic(&monitor, &traffic));
+        want(slack < 4 ? 5 : 0, (uint32_t)traffic.alarms, "the masters take the token late");
+        want(1, traffic.complete, "the ring is known");
+        for (uint8_t address = 0; address < 4; address++) {
+            WANT(FDL_OK, fdl_monitor_station(&monitor, address, &counts));
+            want(address == 1 || address == 2, counts.active, "its members");
+        }
+        fdl_monitor_free(&monitor);
+    }
+}
+
 /* Whether a monitor hears a capture with so many allocations; what it said before one is refused can be taken. */
 static bool is_heard(long allowed)
 {
@@ -683,6 +709,7 @@ int main(void)
     with_memory_for_a_bus_refused();
     on_an_empty_monitor();
     on_a_new_monitor();
+    on_a_ring();
     on_a_capture();
     with_memory_for_a_monitor_refused();
     printf("misuse: %d right, %d wrong\n", right, wrong);

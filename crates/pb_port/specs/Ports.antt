@@ -1,5 +1,5 @@
 -- A port as contracts see it, why it refuses a call, and what a call does.
-use Rattle.std.specs.Prelude.{◌≡◌, ℕ, Bool, nat_lt, nat_le, List, [], ◌∷◌, ◌++◌, length, take, Option, Some, None, Result, MatchResult}
+use Rattle.std.specs.Prelude.{◌≡◌, ℕ, Bool, nat_lt, nat_le, List, [], ◌∷◌, ◌++◌, length, drop, Option, Some, None, Result, MatchResult}
 use Rattle.pb_transitions.specs.Clocks.{last_turn}
 use Rattle.pb_cycles.specs.RequestFields.{RequestFields}
 use Rattle.pb_faults.specs.FirstFault.{first_fault}
@@ -109,7 +109,8 @@ Answers old faults does result new = MatchResult result
     (λ _. (first_fault faults ≡ None) × (new ≡ does))
     (λ fault. (first_fault faults ≡ Some fault) × (new ≡ old))
 
--- what a turn sends stands at the front of some octets: so many of them, none where it sends nothing
-abbrev pub Sends : Option (List ℕ) → ℕ → List ℕ → Type 0
-Sends None count out = count ≡ 0
-Sends (Some octets) count out = (count ≡ length octets) × (take count out ≡ octets)
+-- what a turn sends stands at the front of some octets, and the others are as before: so many of them, none where it sends
+-- nothing
+abbrev pub Sends : Option (List ℕ) → ℕ → (old out : List ℕ) → Type 0
+Sends None count old out = (count ≡ 0) × (out ≡ old)
+Sends (Some octets) count old out = (count ≡ length octets) × (out ≡ octets ++ drop count old)

@@ -236,7 +236,7 @@ impl Port {
     /// The station takes its turn at a moment: it reads its unread marks and the timers between them in order of time,
     /// and then speaks, if its moment has come (EN 50170-2, token passing). It answers how many octets it sends, 0 where
     /// it sends nothing; they stand at the front of `out`, which has room for 255, the caller's condition, and are on
-    /// the line from that moment on.
+    /// the line from that moment on. What `out` holds behind them is unchanged.
     ///
     /// Faults, with which `out` is unchanged too: `TooLate` past 2^61; `Backwards` before the moment of an earlier
     /// call.
@@ -245,7 +245,7 @@ impl Port {
         ensures turn { MatchResult result
             (λ _. (first_fault (clock_faults self.old now) ≡ None) × (self.new ≡ turned_port self.old now))
             (λ fault. (first_fault (clock_faults self.old now) ≡ Some fault) × (self.new ≡ self.old)) }
-        ensures said { MatchResult result (λ count. Sends (said_by self.old now) count out.new)
+        ensures said { MatchResult result (λ count. Sends (said_by self.old now) count out.old out.new)
             (λ _. out.new ≡ out.old) }
     {
         let now = self.moment(now)?;
@@ -341,7 +341,7 @@ impl Port {
 /// is room for 255, the caller's condition.
 fn copy_sent(sent: &SendBuffer, out: &mut [u8]) -> usize
     requires { 255 ≤ length out.old }
-    ensures { Sends sent.now result out.new }
+    ensures { Sends sent.now result out.old out.new }
 {
     match sent.octets() {
         Some([first, second, third]) => {

@@ -16,7 +16,7 @@ use Rattle.pb_world.specs.Acted.{IsDrivenBy}
 use Rattle.pb_world.specs.Watched.{world_in}
 use Rattle.pb_world.specs.declared.driven.Driven.{Driven}
 use Rattle.pbfdl.specs.BusCodes.{new_fault_code}
-use Rattle.pbfdl.specs.Buses.{is_bad_tap, Makes, tap_fault, tap_spec_of}
+use Rattle.pbfdl.specs.Buses.{is_bad_tap, KeepsNone, Makes, tap_fault, tap_spec_of}
 use Rattle.pbfdl.specs.declared.taps.FdlTap.{FdlTap}
 
 -- some tap has a bad address, or none has
@@ -81,5 +81,5 @@ new-code-some new.TooManyTaps = λ zero. cc
 new-code-some (new.BadAddress tap) = λ zero. cc
 new-code-some new.NoMemory = λ zero. cc
 
-pub makes-bus : (r : Result World NewFault) (b : Driven) → r ≡ Ok (world_in b.watched) → IsDrivenBy b [] (world_in b.watched) [] → Makes r 0 (Some b)
-makes-bus r b made came = subst (λ (x : Result World NewFault). Makes x 0 (Some b)) (sym made) (inr (refl, (b, refl, refl, came)))
+pub makes-bus : (r : Result World NewFault) (b : Driven) → r ≡ Ok (world_in b.watched) → IsDrivenBy b [] (world_in b.watched) [] → KeepsNone b → Makes r 0 (Some b)
+makes-bus r b made came none = subst (λ (x : Result World NewFault). Makes x 0 (Some b)) (sym made) (inr (refl, (b, refl, refl, came, none)))

@@ -1,17 +1,18 @@
 -- What a call at a bus answers and leaves.
-use Rattle.std.specs.Prelude.{◌≡◌, ℕ, Bool, not, nat_lt, ◌==◌, List, [], ◌∷◌, length, take, Option, Some, None, is_some, map, Result, Ok, Err, MatchResult, ◌⊎◌, if◌then◌else◌}
+use Rattle.std.specs.Prelude.{◌≡◌, ℕ, Bool, not, nat_lt, ◌==◌, List, [], ◌∷◌, length, take, Option, Some, None, is_some, map, Result, Ok, Err, MatchOption, MatchResult, ◌⊎◌, if◌then◌else◌}
 use Rattle.std.specs.List.{list_any}
 use Rattle.std.specs.Option.{option_map}
 use Rattle.pb_faults.specs.FirstFault.{first_fault}
 use Rattle.pb_timers.specs.Timers.{Params}
 use Rattle.law_model.specs.Medium.{TapSpec}
-use Rattle.law_model.specs.World.{World, Event, NewFault, clock_limit, new_faults}
+use Rattle.law_model.specs.World.{World, Event, NewFault, clock_limit, new_faults, new_world_within}
 use Rattle.pb_taps.specs.Faults.{new_fault}
 use Rattle.pb_taps.specs.declared.faults.WorldFault.{WorldFault}
 use Rattle.pb_medium.specs.LettingGo.{past_of}
 use Rattle.pb_world.specs.Driven.{Applies, LetsGo, SetsReply}
 use Rattle.pb_world.specs.RunTo.{HasRun, HasStopped}
 use Rattle.pb_world.specs.Acted.{IsDrivenBy}
+use Rattle.pb_world.specs.Told.{tray_at}
 use Rattle.pb_world.specs.Watched.{world_in}
 use Rattle.pb_world.specs.declared.driven.Driven.{Driven}
 use Rattle.pbfdl.specs.BusCodes.{new_fault_code, result_code}
@@ -46,10 +47,19 @@ bus_codes there p taps =
     ∷ (list_any is_long taps, 66)
     ∷ []
 
+-- the requests that stations execute are kept of no tap
+abbrev pub KeepsNone : Driven → Type 0
+KeepsNone b = (tap : ℕ) → tray_at b.watched.told tap ≡ None
+
 -- a new bus is made, or memory is refused; or the code is that of the first fault of its taps
 abbrev pub Makes : Result World NewFault → ℕ → Option Driven → Type 0
-Makes (Ok w) code new = (code ≡ 63) ⊎ ((code ≡ 0) × ((b : Driven) × (new ≡ Some b) × (world_in b.watched ≡ w) × IsDrivenBy b [] w []))
+Makes (Ok w) code new = (code ≡ 63) ⊎ ((code ≡ 0) × ((b : Driven) × (new ≡ Some b) × (world_in b.watched ≡ w) × IsDrivenBy b [] w [] × KeepsNone b))
 Makes (Err fault) code new = code ≡ new_fault_code (new_fault fault)
+
+-- the code is that of the first fault; where there is none, a bus is made whose trace may have so many entries
+abbrev pub MakesWithin : (limit : ℕ) → Params → List FdlTap → (old : Option Driven) → ℕ → (new : Option Driven) → Type 0
+MakesWithin limit p taps old code new = MatchOption (first_fault (bus_codes old p taps))
+    (Makes (new_world_within limit p (map tap_spec_of taps)) code new) (λ first. code ≡ first)
 
 -- a call with an event: it happens, or is refused with the code of its fault, and nothing has happened
 abbrev pub Meets : Driven → Event → ℕ → Option Driven → Type 0

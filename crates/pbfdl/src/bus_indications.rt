@@ -41,7 +41,8 @@ pub extern "C" fn fdl_bus_indications(
     count: &mut usize,
 ) -> u32
     ensures none { bus.old.value ≡ None → FindsNoBus result bus.new.value }
-    ensures count { IfSome bus.old.value (λ b. CountsKept result count.new (requests_at b.watched.told tap)) }
+    ensures count { IfSome bus.old.value
+        (λ b. CountsKept result count.new (requests_at b.watched.told tap)) }
     ensures same { result ≢ 0 → count.new ≡ count.old }
     ensures kept { bus.new.value ≡ bus.old.value }
 {
@@ -64,7 +65,8 @@ pub extern "C" fn fdl_bus_indication(
     told: &mut FdlIndication,
 ) -> u32
     ensures none { bus.old.value ≡ None → FindsNoBus result bus.new.value }
-    ensures told { IfSome bus.old.value (λ b. TellsKept result told.new (requests_at b.watched.told tap) index) }
+    ensures told { IfSome bus.old.value
+        (λ b. TellsKept result told.new (requests_at b.watched.told tap) index) }
     ensures same { result ≢ 0 → told.new ≡ told.old }
     ensures kept { bus.new.value ≡ bus.old.value }
 {

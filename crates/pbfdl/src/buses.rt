@@ -4,7 +4,7 @@ ghost use Rattle.std.specs.Prelude.{◌≡◌, ◌≢◌, ◌<◌, ◌≤◌, So
 ghost use Rattle.law_model.specs.World as model;
 ghost use Rattle.pb_faults.specs.FirstFault.{first_fault};
 ghost use Rattle.pb_taps.specs.Events.{event_of};
-ghost use Rattle.pbfdl.specs.Buses.{bus_codes, FindsNoBus, Makes, Meets, place_of, run_codes, Runs, SetsAt, tap_fault, tap_spec_of};
+ghost use Rattle.pbfdl.specs.Buses.{bus_codes, FindsNoBus, Makes, MakesWithin, Meets, place_of, run_codes, Runs, SetsAt, tap_fault, tap_spec_of};
 ghost use Rattle.pbfdl.specs.Calls.{params_of, request_codes, request_fields, service_of};
 
 use crate::bus_codes::{BUS_IN_USE, CLOCK_FULL, NO_BUS, TOO_FAR, event_code, new_code};
@@ -39,10 +39,8 @@ pub extern "C" fn fdl_bus_new(
     params: &FdlParams,
     taps: &[FdlTap],
 ) -> u32
-    ensures refused { IfSome (first_fault (bus_codes bus.old.value (params_of params.now) taps.now))
-        (λ code. result ≡ code) }
-    ensures made { first_fault (bus_codes bus.old.value (params_of params.now) taps.now) ≡ None
-        → Makes (model.new_world (params_of params.now) (map tap_spec_of taps.now)) result bus.new.value }
+    ensures made { MakesWithin model.trace_limit (params_of params.now) taps.now bus.old.value result
+        bus.new.value }
     ensures kept { result ≢ 0 → bus.new.value ≡ bus.old.value }
 {
     make(alloc, bus, params, taps, TRACE_LIMIT)
@@ -57,11 +55,7 @@ pub extern "C" fn fdl_bus_new_within(
     taps: &[FdlTap],
     entries: usize,
 ) -> u32
-    ensures refused { IfSome (first_fault (bus_codes bus.old.value (params_of params.now) taps.now))
-        (λ code. result ≡ code) }
-    ensures made { first_fault (bus_codes bus.old.value (params_of params.now) taps.now) ≡ None
-        → Makes (model.new_world_within entries (params_of params.now) (map tap_spec_of taps.now)) result
-        bus.new.value }
+    ensures made { MakesWithin entries (params_of params.now) taps.now bus.old.value result bus.new.value }
     ensures kept { result ≢ 0 → bus.new.value ≡ bus.old.value }
 {
     make(alloc, bus, params, taps, entries)
@@ -255,11 +249,7 @@ fn make(
     taps: &[FdlTap],
     entries: usize,
 ) -> u32
-    ensures refused { IfSome (first_fault (bus_codes bus.old.value (params_of params.now) taps.now))
-        (λ code. result ≡ code) }
-    ensures made { first_fault (bus_codes bus.old.value (params_of params.now) taps.now) ≡ None
-        → Makes (model.new_world_within entries (params_of params.now) (map tap_spec_of taps.now)) result
-        bus.new.value }
+    ensures made { MakesWithin entries (params_of params.now) taps.now bus.old.value result bus.new.value }
     ensures kept { result ≢ 0 → bus.new.value ≡ bus.old.value }
 {
     if let Some(there) = bus.take(alloc) {
@@ -305,10 +295,8 @@ fn new_bus(
     ensures made { IfOk result (λ b. (first_fault (bus_codes None (params_of params.now) taps.now) ≡ None)
         × Makes (model.new_world_within entries (params_of params.now) (map tap_spec_of taps.now)) 0
         (Some b.value)) }
-    ensures fault { IfErr result (λ code. (code ≢ 0)
-        × MatchOption (first_fault (bus_codes None (params_of params.now) taps.now))
-        (Makes (model.new_world_within entries (params_of params.now) (map tap_spec_of taps.now)) code None)
-        (λ first. code ≡ first)) }
+    ensures fault { IfErr result
+        (λ code. (code ≢ 0) × MakesWithin entries (params_of params.now) taps.now None code None) }
 {
     let params = bus_params(params)?;
     if has_long_reply(taps) {

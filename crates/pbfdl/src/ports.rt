@@ -1,10 +1,10 @@
 //! A station at a line: its life, its marks and its turns.
 
-ghost use Rattle.std.specs.Prelude.{◌≡◌, ◌≢◌, ◌<◌, ◌≤◌, ◌∷◌, [], Some, None, MatchOption, MatchResult, IfSome, IfOk, IfErr, ◌⊎◌, unwrap_or, length, map, take, false};
+ghost use Rattle.std.specs.Prelude.{◌≡◌, ◌≢◌, ◌<◌, ◌≤◌, ◌∷◌, [], Some, None, MatchOption, MatchResult, IfSome, IfOk, IfErr, ◌⊎◌, unwrap_or, length, map, false};
 ghost use Rattle.pb_faults.specs.FirstFault.{first_fault};
 ghost use Rattle.pb_telegram.specs.declared.chars.RxChar.TheVariants.{Good, Bad};
 ghost use Rattle.law_turn.specs.Marks as model;
-ghost use Rattle.pb_port.specs.Ports.{new_port, port_with_room, started_port, stopped_port, pushed_port, told_port, turned_port, replying_port, said_by, due_port, clock_faults, mark_faults, push_faults};
+ghost use Rattle.pb_port.specs.Ports.{new_port, port_with_room, started_port, stopped_port, pushed_port, told_port, turned_port, replying_port, said_by, due_port, Sends, clock_faults, mark_faults, push_faults};
 ghost use Rattle.pbfdl.specs.Calls.{params_of, is_bad_station, character_of, service_of, is_bad_room, new_codes, room_codes, station_codes, request_codes, request_fields, Answers, FindsNone};
 
 use crate::codes::{
@@ -274,9 +274,9 @@ pub extern "C" fn fdl_port_turn(
     ensures none { 255 ≤ length out.old → port.old.value ≡ None → FindsNone result port.new.value }
     ensures turn { 255 ≤ length out.old → IfSome port.old.value
         (λ p. Answers p (clock_faults p now) (turned_port p now) result port.new.value) }
-    ensures said { result ≡ 0 → IfSome port.old.value (λ p. MatchOption (said_by p now)
-        (count.new ≡ 0) (λ octets. (count.new ≡ length octets) × (take count.new out.new ≡ octets))) }
-    ensures silent { result ≢ 0 → count.new ≡ 0 }
+    ensures said { result ≡ 0
+        → IfSome port.old.value (λ p. Sends (said_by p now) count.new out.old out.new) }
+    ensures silent { result ≢ 0 → (count.new ≡ 0) × (out.new ≡ out.old) }
 {
     *count = 0;
     if out.len() < MOST_OCTETS {

@@ -31,6 +31,7 @@ pub extern "C" fn fdl_port_phase(alloc: Global, port: &mut Handle, phase: &mut u
     ensures none { port.old.value ≡ None → FindsNone result port.new.value }
     ensures phase { IfSome port.old.value
         (λ p. (result ≡ 0) × (phase.new ≡ phase_number p.station.station.phase)) }
+    ensures same { result ≢ 0 → phase.new ≡ phase.old }
     ensures kept { port.new.value ≡ port.old.value }
 {
     let Some(station) = port.take(alloc) else {
@@ -73,6 +74,7 @@ pub extern "C" fn fdl_port_executed(alloc: Global, port: &mut Handle, count: &mu
     ensures none { port.old.value ≡ None → FindsNone result port.new.value }
     ensures count { IfSome port.old.value
         (λ p. (result ≡ 0) × (count.new ≡ p.station.station.cycles.responder.executed)) }
+    ensures same { result ≢ 0 → count.new ≡ count.old }
     ensures kept { port.new.value ≡ port.old.value }
 {
     let Some(station) = port.take(alloc) else {
@@ -93,6 +95,7 @@ pub extern "C" fn fdl_port_outcome(
     ensures none { port.old.value ≡ None → FindsNone result port.new.value }
     ensures outcome { IfSome port.old.value
         (λ p. (result ≡ 0) × Tells outcome.new p.station.station.cycles.last_outcome) }
+    ensures same { result ≢ 0 → outcome.new ≡ outcome.old }
     ensures kept { port.new.value ≡ port.old.value }
 {
     let Some(station) = port.take(alloc) else {

@@ -13,4 +13,4 @@ returns-in-Ok-new_within-clause-made c =
     let b = c.in-Ok-new_within.bus in
     let made : new_world_within c.args.entries p (map tap_spec_of c.args.taps.now) ≡ Ok (world_in b.watched) =
     subst (λ (specs : List TapSpec). new_world_within c.args.entries p specs ≡ Ok (world_in b.watched)) (ap (map spec_of) c.deref.ensures.value ∙ c.in-Ok.ensures) c.in-Ok-new_within.ensures.new in
-    makes-bus (new_world_within c.args.entries p (map tap_spec_of c.args.taps.now)) b made c.in-Ok-new_within.ensures.came
+    makes-bus (new_world_within c.args.entries p (map tap_spec_of c.args.taps.now)) b made c.in-Ok-new_within.ensures.came c.in-Ok-new_within.ensures.told
