@@ -147,7 +147,7 @@ def rounds_of(found):
 def output(words, folder, seconds):
     """The lines that a program prints, None where it doesn't end in time, and the processor seconds that it takes."""
     with tempfile.TemporaryFile("w+", errors="replace") as said:
-        ran = subprocess.Popen(words, cwd=folder, stdin=subprocess.DEVNULL, stdout=said, stderr=subprocess.STDOUT, start_new_session=True)
+        ran = subprocess.Popen(words, cwd=folder, stdin=subprocess.DEVNULL, stdout=said, stderr=subprocess.STDOUT, process_group=0)
         late = threading.Event()
         clock = threading.Timer(seconds, lambda: (late.set(), os.killpg(ran.pid, signal.SIGKILL)))
         clock.start()
