@@ -84,17 +84,13 @@ def in_order(tasks):
 
 
 def chains(tasks):
-    """For each task the octets of sources of the longest chain of proofs that begins with it."""
+    """For each task the lines of code of the longest chain that begins with it. Those a task waits for come before it."""
     behind = dict.fromkeys(tasks, 0)
     for key in reversed([*tasks]):
-        behind[key] += octets(key[0]) if tasks[key][1] else 0
+        behind[key] += tasks[key][1]
         for it in tasks[key][0]:
             behind[it] = max(behind[it], behind[key])
     return behind
-
-
-def octets(name):
-    return sum(it.stat().st_size for part in ("src", "specs", "proofs") for it in pathlib.Path("crates", name, part).rglob("*.*"))
 
 
 def free():
