@@ -3,7 +3,7 @@
 ghost use Rattle.std.specs.Prelude.{◌≡◌, ◌≤◌, ◌<◌, ◌∷◌, [], Ok, IfErr, IfOk, OnOk, length, map};
 ghost use Rattle.std.specs.Option.{option_map, option_to_list};
 ghost use Rattle.pb_timers.specs.Timers.{last_moment};
-ghost use Rattle.law_model.specs.World.{new_world};
+ghost use Rattle.law_model.specs.World.{Pass, Turn, new_world};
 ghost use Rattle.pb_taps.specs.Events.{event_of};
 ghost use Rattle.pb_world.specs.Worlds.{due_at};
 ghost use Rattle.law_runs.specs.Runs.{turns, wants};
@@ -19,6 +19,7 @@ use crate::deeds::{Deed, Step, When};
 use crate::faults::RunFault;
 use crate::scenarios::Scenario;
 use crate::stages::Stage;
+use crate::usual::UsualEvents;
 use crate::walks::Walk;
 use pb_taps::{Event, NewFault};
 use pb_timers::Moment;
@@ -42,7 +43,8 @@ pub(crate) fn play<S: Stage>(
     let Ok(mut walk) = scenario.walk(alloc) else {
         return Err(RunFault::New(NewFault::NoMemory));
     };
-    while let Some(at) = play_instant(alloc, stage, &walk)? {
+    let mut usual = UsualEvents::new();
+    while let Some(at) = play_instant(alloc, stage, &walk, &mut usual)? {
         walk.go_to(at);
     }
     Ok(())
@@ -53,6 +55,7 @@ fn play_instant<S: Stage>(
     alloc: Global,
     stage: &mut S,
     walk: &Walk<'_>,
+    usual: &mut UsualEvents,
 ) -> Result<Option<u64>, RunFault>
     requires clock { walk.now.clock ≤ last_moment }
     requires taps { length (S.view stage.old).world.taps ≡ walk.now.taps }
@@ -61,10 +64,10 @@ fn play_instant<S: Stage>(
 {
     let now = moment_of(walk);
     play_steps(alloc, stage, now, walk.today(), When::BeforeTurns)?;
-    let soonest = play_turns(alloc, stage, now, walk)?;
+    let soonest = play_turns(alloc, stage, now, walk, usual)?;
     let turn = play_late(alloc, stage, now, walk, soonest)?;
     let next = walk.next_by(turn, stage.bus().next_change());
-    play_pass(alloc, stage, now, walk.pass_to(next))?;
+    play_pass(alloc, stage, now, usual, walk.pass_to(next))?;
     Ok(next)
 }
 
@@ -111,6 +114,7 @@ fn play_turns<S: Stage>(
     stage: &mut S,
     now: Moment,
     walk: &Walk<'_>,
+    usual: &mut UsualEvents,
 ) -> Result<Option<u64>, RunFault>
     requires now { now ≡ walk.now.clock }
     requires taps { length (S.view stage.old).world.taps ≡ walk.now.taps }
@@ -121,7 +125,7 @@ fn play_turns<S: Stage>(
 {
     let mut first = None;
     for tap in 0..walk.taps() {
-        let due = play_turn(alloc, stage, now, walk, tap)?;
+        let due = play_turn(alloc, stage, now, walk, usual, tap)?;
         first = walk.sooner(first, tap, due);
     }
     Ok(first)
@@ -133,6 +137,7 @@ fn play_turn<S: Stage>(
     stage: &mut S,
     now: Moment,
     walk: &Walk<'_>,
+    usual: &mut UsualEvents,
     tap: usize,
 ) -> Result<Option<Moment>, RunFault>
     requires now { now ≡ walk.now.clock }
@@ -144,10 +149,26 @@ fn play_turn<S: Stage>(
     ensures due { IfOk result (λ due. due ≡ due_at (S.view stage.new).world tap) }
 {
     if takes_turn(stage, now, walk, tap) {
-        happens(alloc, stage, now, &Event::Turn(tap))?;
+        take_turn(alloc, stage, now, usual, tap)?;
         return Ok(stage.bus().due(tap));
     }
     Ok(stage.bus().due(tap))
+}
+
+/// Plays a turn of a tap.
+#[inline(always)]
+fn take_turn<S: Stage>(
+    alloc: Global,
+    stage: &mut S,
+    now: Moment,
+    usual: &mut UsualEvents,
+    tap: usize,
+) -> Result<(), RunFault>
+    requires { IsReady (S.view stage.old) }
+    ensures { Plays now (S.view stage.old) (Turn tap ∷ []) result (S.view stage.new) }
+{
+    usual.set_turn(tap);
+    happens(alloc, stage, now, &usual.turn)
 }
 
 /// Whether a tap takes its turn now: it is due and not withheld.
@@ -190,15 +211,32 @@ fn play_pass<S: Stage>(
     alloc: Global,
     stage: &mut S,
     now: Moment,
+    usual: &mut UsualEvents,
     bits: Option<u64>,
 ) -> Result<(), RunFault>
     requires { IsReady (S.view stage.old) }
     ensures { Plays now (S.view stage.old) (passes bits) result (S.view stage.new) }
 {
     match bits {
-        Some(bits) => happens(alloc, stage, now, &Event::Pass(bits)),
+        Some(bits) => let_pass(alloc, stage, now, usual, bits),
         None => Ok(()),
     }
+}
+
+/// Lets some bit times pass.
+#[inline(always)]
+fn let_pass<S: Stage>(
+    alloc: Global,
+    stage: &mut S,
+    now: Moment,
+    usual: &mut UsualEvents,
+    bits: u64,
+) -> Result<(), RunFault>
+    requires { IsReady (S.view stage.old) }
+    ensures { Plays now (S.view stage.old) (Pass bits ∷ []) result (S.view stage.new) }
+{
+    usual.set_pass(bits);
+    happens(alloc, stage, now, &usual.pass)
 }
 
 /// Plays an event at `now`.

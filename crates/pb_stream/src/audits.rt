@@ -4,7 +4,7 @@ ghost use Rattle.pb_stream.specs.Audits.{IsFoundBy};
 
 use crate::plays::play_instant;
 use crate::streams::{ENTRIES, Progress};
-use pb_scenario::{Audit, NewFault, StreamScenario, StreamWalk, WorldFault};
+use pb_scenario::{Audit, NewFault, StreamScenario, StreamWalk, UsualEvents, WorldFault};
 use pb_world::{Judge, Watched, new_watched_within};
 use std::alloc::{AllocError, Global};
 
@@ -17,6 +17,7 @@ pub struct AuditStream<'a> {
     /// It has heard the entries that were let go.
     pub(crate) judge: Judge,
     pub(crate) found: Audit,
+    usual: UsualEvents,
 }
 
 impl<'a> AuditStream<'a> {
@@ -59,6 +60,7 @@ impl<'a> AuditStream<'a> {
                     premise: None,
                     illegal: None,
                 },
+                usual: UsualEvents::new(),
             }),
             Err(_) => Err(NewFault::NoMemory),
         }
@@ -86,7 +88,7 @@ impl<'a> AuditStream<'a> {
         requires { IsAuditing self.old }
         ensures { IfOk result (λ progress. FindsOf progress self.old self.new) }
     {
-        let progress = match play_instant(alloc, &mut self.watched, &self.walk) {
+        let progress = match play_instant(alloc, &mut self.watched, &self.walk, &mut self.usual) {
             Ok(Some(at)) => {
                 self.walk.go_to(at);
                 self.judge.hear_all(self.watched.bus().past())?;

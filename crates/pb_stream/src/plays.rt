@@ -1,7 +1,8 @@
 //! Plays the instants of a run on a stage.
 
-ghost use Rattle.std.specs.Prelude.{◌≡◌, ◌<◌, IfOk, IfSome, OnOk, map};
+ghost use Rattle.std.specs.Prelude.{◌≡◌, ◌<◌, ◌∷◌, [], IfOk, IfSome, OnOk, map};
 ghost use Rattle.std.specs.Option.{option_to_list};
+ghost use Rattle.law_model.specs.World.{Pass, Turn};
 ghost use Rattle.pb_world.specs.Buses.{world_of};
 ghost use Rattle.pb_world.specs.Worlds.{due_at};
 ghost use Rattle.law_runs.specs.Bus.{dues};
@@ -14,7 +15,7 @@ ghost use Rattle.pb_stream.specs.Plays.{FindsFirst, Goes, IsFirst, IsNext, Plays
 ghost use Rattle.pb_stream.specs.Stages.{taps_of};
 
 use crate::stages::Stage;
-use pb_scenario::{Deed, Event, StreamWalk, When, WorldFault};
+use pb_scenario::{Deed, StreamWalk, UsualEvents, When, WorldFault};
 use pb_timers::Moment;
 use std::alloc::Global;
 
@@ -25,6 +26,7 @@ pub(crate) fn play_instant<S: Stage>(
     alloc: Global,
     stage: &mut S,
     walk: &StreamWalk<'_>,
+    usual: &mut UsualEvents,
 ) -> Result<Option<u64>, WorldFault>
     requires taps { taps_of (S.view stage.old) ≡ walk.now.taps }
     requires ready { (S.view stage.old).ready }
@@ -34,10 +36,10 @@ pub(crate) fn play_instant<S: Stage>(
     ensures taps { OnOk result (taps_of (S.view stage.new) ≡ taps_of (S.view stage.old)) }
 {
     play_deeds(alloc, stage, walk.today(), When::BeforeTurns)?;
-    let soonest = play_turns(alloc, stage, walk)?;
+    let soonest = play_turns(alloc, stage, walk, usual)?;
     let turn = play_late(alloc, stage, walk, soonest)?;
     let next = walk.next_by(turn, stage.bus().next_change());
-    play_pass(alloc, stage, walk.pass_to(next))?;
+    play_pass(alloc, stage, usual, walk.pass_to(next))?;
     Ok(next)
 }
 
@@ -86,6 +88,7 @@ fn play_turns<S: Stage>(
     alloc: Global,
     stage: &mut S,
     walk: &StreamWalk<'_>,
+    usual: &mut UsualEvents,
 ) -> Result<Option<u64>, WorldFault>
     requires taps { taps_of (S.view stage.old) ≡ walk.now.taps }
     requires ready { (S.view stage.old).ready }
@@ -96,7 +99,7 @@ fn play_turns<S: Stage>(
 {
     let mut first = None;
     for tap in 0..walk.taps() {
-        let due = play_turn(alloc, stage, walk, tap)?;
+        let due = play_turn(alloc, stage, walk, usual, tap)?;
         first = walk.sooner(first, tap, due);
     }
     Ok(first)
@@ -107,6 +110,7 @@ fn play_turn<S: Stage>(
     alloc: Global,
     stage: &mut S,
     walk: &StreamWalk<'_>,
+    usual: &mut UsualEvents,
     tap: usize,
 ) -> Result<Option<Moment>, WorldFault>
     requires tap { tap < walk.now.taps }
@@ -119,10 +123,27 @@ fn play_turn<S: Stage>(
     ensures taps { OnOk result (taps_of (S.view stage.new) ≡ taps_of (S.view stage.old)) }
 {
     if takes_turn(stage, walk, tap) {
-        stage.apply(alloc, &Event::Turn(tap))?;
+        take_turn(alloc, stage, usual, tap)?;
         return Ok(stage.bus().due(tap));
     }
     Ok(stage.bus().due(tap))
+}
+
+/// Plays a turn of a tap.
+#[inline(always)]
+fn take_turn<S: Stage>(
+    alloc: Global,
+    stage: &mut S,
+    usual: &mut UsualEvents,
+    tap: usize,
+) -> Result<(), WorldFault>
+    requires { (S.view stage.old).ready }
+    ensures plays { Plays (S.view stage.old) (Turn tap ∷ []) result (S.view stage.new) }
+    ensures ready { OnOk result (S.view stage.new).ready }
+    ensures taps { OnOk result (taps_of (S.view stage.new) ≡ taps_of (S.view stage.old)) }
+{
+    usual.set_turn(tap);
+    stage.apply(alloc, &usual.turn)
 }
 
 /// Whether a tap takes its turn now: it is due and not withheld.
@@ -160,16 +181,38 @@ fn play_late<S: Stage>(
 }
 
 /// Lets time pass, in bit times, if it does.
-fn play_pass<S: Stage>(alloc: Global, stage: &mut S, bits: Option<u64>) -> Result<(), WorldFault>
+fn play_pass<S: Stage>(
+    alloc: Global,
+    stage: &mut S,
+    usual: &mut UsualEvents,
+    bits: Option<u64>,
+) -> Result<(), WorldFault>
     requires { (S.view stage.old).ready }
     ensures plays { Plays (S.view stage.old) (passes bits) result (S.view stage.new) }
     ensures ready { OnOk result (S.view stage.new).ready }
     ensures taps { OnOk result (taps_of (S.view stage.new) ≡ taps_of (S.view stage.old)) }
 {
     match bits {
-        Some(bits) => stage.apply(alloc, &Event::Pass(bits)),
+        Some(bits) => let_pass(alloc, stage, usual, bits),
         None => Ok(()),
     }
+}
+
+/// Lets some bit times pass.
+#[inline(always)]
+fn let_pass<S: Stage>(
+    alloc: Global,
+    stage: &mut S,
+    usual: &mut UsualEvents,
+    bits: u64,
+) -> Result<(), WorldFault>
+    requires { (S.view stage.old).ready }
+    ensures plays { Plays (S.view stage.old) (Pass bits ∷ []) result (S.view stage.new) }
+    ensures ready { OnOk result (S.view stage.new).ready }
+    ensures taps { OnOk result (taps_of (S.view stage.new) ≡ taps_of (S.view stage.old)) }
+{
+    usual.set_pass(bits);
+    stage.apply(alloc, &usual.pass)
 }
 
 /// The first moment after now at which some tap may take a turn next.

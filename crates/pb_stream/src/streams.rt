@@ -6,7 +6,8 @@ ghost use Rattle.pb_stream.specs.Streams.{HandsOn, IsShort};
 
 use crate::plays::play_instant;
 use pb_scenario::{
-    Deed, Entry, NewFault, Scenario, StreamScenario, StreamWalk, WorldFault, push_trace,
+    Deed, Entry, NewFault, Scenario, StreamScenario, StreamWalk, UsualEvents, WorldFault,
+    push_trace,
 };
 use pb_world::{Bus, new_bus_within};
 use std::alloc::{AllocError, Global};
@@ -43,6 +44,7 @@ pub struct Stream<'a> {
     pub(crate) scenario: &'a StreamScenario,
     pub(crate) bus: Bus,
     pub(crate) walk: StreamWalk<'a>,
+    usual: UsualEvents,
 }
 
 impl<'a> Stream<'a> {
@@ -81,6 +83,7 @@ impl<'a> Stream<'a> {
                 scenario,
                 bus,
                 walk,
+                usual: UsualEvents::new(),
             }),
             Err(_) => Err(NewFault::NoMemory),
         }
@@ -131,7 +134,7 @@ impl<'a> Stream<'a> {
         ensures plays { IfOk result (λ progress. HasPlayed progress self.old self.new) }
         ensures names { names_of self.new ≡ names_of self.old }
     {
-        match play_instant(alloc, &mut self.bus, &self.walk) {
+        match play_instant(alloc, &mut self.bus, &self.walk, &mut self.usual) {
             Ok(Some(at)) => {
                 self.walk.go_to(at);
                 Ok(Progress::Goes)

@@ -7,4 +7,4 @@ use Rattle.pb_stream.proofs.plays.play_turn.Goals as goal
 pub returns-then-takes_turn-clause-plays : goal.returns-then-takes_turn-clause-plays
 returns-then-takes_turn-clause-plays g c =
     let v = g.S.Stage.view c.args.stage.now in
-    subst (λ b. Plays {A = Unit {0}} v (turn_if b c.args.tap) (Ok (tt {0})) (g.S.Stage.view c.apply.new.self)) (sym c.if-takes_turn.true ∙ c.takes_turn.ensures) c.in_ok-apply.ensures.plays
+    subst (λ b. Plays {A = Unit {0}} v (turn_if b c.args.tap) (Ok (tt {0})) (g.S.Stage.view c.take_turn.new.stage)) (sym c.if-takes_turn.true ∙ c.takes_turn.ensures) c.in_ok-take_turn.ensures.plays

@@ -27,7 +27,7 @@ returns c whole i =
     let p = i.course.world.params in
     let specs = specs_of i.course.world in
     let So : Progress → AuditStream → Type 0 =
-    λ q n. IsFoundBy n.watched n.judge f → Finds q whole s (record { watched = n.watched; walk = n.walk; judge = n.judge; found = f }) in
+    λ q n. IsFoundBy n.watched n.judge f → Finds q whole s (record { watched = n.watched; walk = n.walk; judge = n.judge; found = f; usual = n.usual }) in
     elim c.match-play_instant.branch [
       | in-Ok-Some+in_ok-hear_all-in-Ok-Some w ↦
           let at = w.in-Ok-Some.at in
@@ -38,7 +38,7 @@ returns c whole i =
           let heard = subst (λ (es : List Entry). HasHeard p specs (i.gone ++ es) w.hear_all.new.self) all (w.in_ok-hear_all-in-Ok-Some.ensures p specs i.gone i.heard) in
           subst (λ q. So q m) (sym w.progress-is)
           (subst (So progress.Goes) (sym w.self-is)
-          (λ by. goes whole s (record { watched = w.let_go.new.self; walk = w.go_to.new.self; judge = w.hear_all.new.self; found = f }) i mid at
+          (λ by. goes whole s (record { watched = w.let_go.new.self; walk = w.go_to.new.self; judge = w.hear_all.new.self; found = f; usual = c.play_instant.new.usual }) i mid at
           going next w.in-Ok-Some.ensures.taps heard w.let_go.ensures.followed w.let_go.ensures.gone w.go_to.ensures by))
           c.findings-self.ensures
       | in-Ok-None+in_ok-hear_all-in-Ok-None w ↦

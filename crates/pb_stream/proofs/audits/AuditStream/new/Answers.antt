@@ -29,5 +29,5 @@ returns-in-Ok-walk-clause-audits c =
     let q = c.params.result.now in
     let ts = map spec_of c.taps.result.now in
     (world_in w, [], (new_begins q ts (world_in w) c.in_ok-watched.ensures.valid c.in_ok-watched.ensures.fit (stream_limit, c.in_ok-watched.ensures.new)).0, refl) in
-    begins v c.args.until (record { watched = w; walk = c.in-Ok-walk.walk; judge = judge; found = record { premise = None; illegal = None } })
+    begins v c.args.until (record { watched = w; walk = c.in-Ok-walk.walk; judge = judge; found = record { premise = None; illegal = None }; usual = c.new-in-Ok-walk.result })
     made c.in_ok-watched.ensures.followed c.in_ok-watched.ensures.at_end run heard c.in-Ok-walk.ensures refl
