@@ -1,7 +1,8 @@
 -- An export that is written entry by entry.
-use Rattle.std.proofs.Common.{◌≡◌, ◌≢◌, ◌∙◌, ap, refl, sym, subst, arith, ℕ, List, [], ◌++◌, Option, Some, None}
-use Rattle.std.proofs.lemmas.List.{append-nil}
-use Rattle.std.proofs.lemmas.Grind.{flat_map-append}
+use Rattle.std.proofs.Common.{◌≡◌, ◌≢◌, ◌∙◌, ap, refl, sym, subst, arith, append_assoc, ℕ, ◌≤◌, Bool, true, false, length, map, List, [], ◌++◌, Option, Some, None}
+use Rattle.std.specs.Prelude.{◌&&◌, drop, if◌then◌else◌, nat_le, take}
+use Rattle.std.proofs.lemmas.Bool.{and_parts}
+use Rattle.std.proofs.lemmas.List.{append-nil, length-map, length-take-le}
 use Rattle.std.specs.Io.KnownBytes.{Appends}
 use Rattle.law_model.specs.Trace.{Entry}
 use Rattle.law_model.specs.World as model
@@ -23,89 +24,176 @@ use Rattle.pb_stream.specs.declared.streams.Progress.TheVariants as progress
 use Rattle.pb_stream.specs.declared.streams.Stream.{Stream}
 use Rattle.pb_texts.specs.Faults.{new_line, refused_line}
 use Rattle.pb_texts.proofs.Outcomes.{world_fault-of}
-use Rattle.pb_export.specs.Streamed.{entries_of, entry_in, head_of}
-use Rattle.pb_export.specs.Windows.{if_shown}
+use Rattle.pb_export.specs.Streamed.{Begins, GoesOn, entries_of, follow_in, head_of, may_go_in, unwritten}
 use Rattle.pb_export.specs.declared.options.StreamExport.{StreamExport}
+use Rattle.pb_export.specs.declared.options.StreamForm.{StreamForm}
+use Rattle.pb_export.specs.declared.options.StreamForm.TheVariants as form
+use Rattle.pb_export.specs.declared.streamed.StreamExporter.{StreamExporter}
+use Rattle.pb_medium.specs.Entries.{entry_of}
+use Rattle.pb_medium.specs.LettingGo.{gone_of}
+use Rattle.pb_medium.specs.Traces.{limit_of, over_of}
+use Rattle.pb_medium.specs.declared.entries.Entry as medium
+use Rattle.pb_cli.proofs.Cuts.{later-since}
 use Rattle.pb_cli.proofs.Written.{appends_both, appends_nothing, behind_both, behind_nothing, some_map}
-use Rattle.pb_cli.specs.Exporting.{AppendsOn, AppendsRest, ExportsRun, ExportsScenario, written_of}
+use Rattle.pb_cli.specs.Exporting.{AppendsOn, AppendsRest, ExportsRun, ExportsScenario, IsToCome, written_of}
 use Rattle.pb_cli.specs.Settling.{IsOfRun, Says}
 use Rattle.pb_cli.specs.declared.faults.Status.TheVariants.{Done, Refused}
 use Rattle.pb_cli.specs.declared.settled.Settled.{Settled}
 
-entries_both : (x : StreamExport) (s : StreamView) (es fs : List Entry) → entries_of x s (es ++ fs) ≡ entries_of x s es ++ entries_of x s fs
-entries_both x s es fs = flat_map-append (if_shown x.window (entry_in x.form x s)) es fs
-
 -- ---- an instant
 
 -- nothing is let go
-pub keeps_all : (x : StreamExport) (s : StreamView) (old next : Stream) (bytes : List ℕ) → StillHas old next → AppendsOn x s old next bytes bytes
-keeps_all x s old next bytes still = record {
+pub keeps_all : (s : StreamView) (old next : Stream) (x : StreamExporter) (bytes : List ℕ) → StillHas old next → AppendsOn s old next x x bytes bytes
+keeps_all s old next x bytes still = record {
   entries = [];
+  text = [];
   bytes = sym (append-nil bytes);
+  export = refl;
+  written = λ later to_come. refl;
   rest = still.rest ∙ behind_nothing (rest_of next);
   ready = still.ready;
   until = still.until;
   later = still.later;
 }
 
+may_follow : (f : StreamForm) (mid next : Stream) → IsStreaming mid → LetsGo (past_in mid) mid next
+    → follow_in f (past_in mid) (drop (gone_of mid.bus.trace) (kept_of mid)) ≡ true → (later : List Entry) → IsToCome next later
+    → follow_in f (past_in mid) later ≡ true
+may_follow form.Json mid next ready lets kept later to_come = refl
+may_follow form.Pcap mid next ready lets kept later to_come = refl
+may_follow form.Pcapng mid next ready lets kept later to_come = refl
+may_follow form.Vcd mid next ready lets kept later to_come = later-since mid next ready lets kept later to_come
+
 -- what is over is said, and let go
-pub lets_go : (x : StreamExport) (s : StreamView) (old mid next : Stream) (before after : List ℕ) → StillHas old mid
-    → after ≡ before ++ entries_of x s (past_in mid) → LetsGo (past_in mid) mid next → AppendsOn x s old next before after
-lets_go x s old mid next before after still said lets =
+pub lets_go : (s : StreamView) (old mid next : Stream) (x y : StreamExporter) (over : ℕ) (before after : List ℕ) → StillHas old mid → over ≡ gone_of mid.bus.trace
+    → (may_go_in x.export.form x (take over (kept_of mid)) && follow_in x.export.form (take over (kept_of mid)) (drop over (kept_of mid))) ≡ true
+    → GoesOn x y s (past_in mid) before after → LetsGo (past_in mid) mid next → AppendsOn s old next x y before after
+lets_go s old mid next x y over before after still count may said lets =
     let clock = ap (λ (w : WalkView). w.clock) lets.walk in
+    let gone = gone_of mid.bus.trace in
+    let f = x.export.form in
+    let may_all = subst (λ (n : ℕ). (may_go_in f x (take n (kept_of mid)) && follow_in f (take n (kept_of mid)) (drop n (kept_of mid))) ≡ true) count may in
+    let both = and_parts (may_go_in f x (past_in mid)) (follow_in f (past_in mid) (drop gone (kept_of mid))) may_all in
     record {
       entries = past_in mid;
-      bytes = said;
+      text = said.text;
+      bytes = said.bytes;
+      export = said.export;
+      written = λ later to_come. said.rest both.0 later (may_follow f mid next still.ready lets both.1 later to_come);
       rest = still.rest ∙ lets.rest;
       ready = lets.ready;
       until = ap (λ (w : WalkView). w.until) lets.walk ∙ still.until;
       later = omega (arith, clock, still.later);
     }
 
-pub at_end : (x : StreamExport) (s : StreamView) (old next : Stream) (before after : List ℕ) (ended : Settled) → HasPlayed progress.Ended old next
-    → after ≡ before ++ entries_of x s (kept_of next) → ended.status ≡ Done → ended.line.items ≡ [] → AppendsRest x s old before after ended
-at_end x s old next before after ended rest said status line = (record { entries = kept_of next; fault = None }, rest, said, tt, (status, line))
+gone-fits : (b : Bool) (over n : ℕ) → over ≤ n → (if b then over else 0) ≤ n
+gone-fits true over n there = there
+gone-fits false over n there = omega arith
 
-pub at_refusal : (x : StreamExport) (s : StreamView) (old next : Stream) (clock : ℕ) (f : WorldFault) (before after : List ℕ) (ended : Settled)
-    → HasPlayed (progress.Refused clock f) old next → after ≡ before ++ entries_of x s (kept_of next) → f ≢ fault.NoMemory → ended.status ≡ Refused
-    → ended.line.items ≡ refused_line f clock → AppendsRest x s old before after ended
-at_refusal x s old next clock f before after ended rest said told status line =
-    world_fault-of f (λ (n : WorldFault). ended.line.items ≡ refused_line n clock → AppendsRest x s old before after ended)
+-- as many as the slice of those that are over has
+counted : (old mid : Stream) (past : List medium.Entry) (over : ℕ) → StillHas old mid → map entry_of past ≡ past_in mid → over ≡ length past
+    → over ≡ gone_of mid.bus.trace
+counted old mid past over still gone count =
+    let t = mid.bus.trace in
+    let there = gone-fits (nat_le (over_of t) (limit_of t)) (over_of t) (length (kept_of mid)) still.ready.kept.cut.2 in
+    count ∙ sym (length-map past entry_of) ∙ ap length gone ∙ length-take-le (gone_of t) (kept_of mid) there
+
+-- they are a front of those that it has
+pub past-fits : (old mid : Stream) (entries past : List medium.Entry) (over : ℕ) → StillHas old mid → map entry_of entries ≡ kept_of mid
+    → map entry_of past ≡ past_in mid → over ≡ length past → over ≤ length entries
+past-fits old mid entries past over still kept gone count =
+    let t = mid.bus.trace in
+    let there = gone-fits (nat_le (over_of t) (limit_of t)) (over_of t) (length (kept_of mid)) still.ready.kept.cut.2 in
+    let so_many : over ≡ gone_of t = counted old mid past over still gone count in
+    let all : length entries ≡ length (kept_of mid) = sym (length-map entries entry_of) ∙ ap length kept in
+    omega (arith, there, so_many, all)
+
+-- what is let go, of slices as they are read
+pub goes_so : (s : StreamView) (old mid next : Stream) (x y : StreamExporter) (entries past : List medium.Entry) (over : ℕ) (may : Bool) (before after : List ℕ)
+    → StillHas old mid → map entry_of entries ≡ kept_of mid → map entry_of past ≡ past_in mid → over ≡ length past → may ≡ true
+    → may ≡ (may_go_in x.export.form x (take over (map entry_of entries))
+    && follow_in x.export.form (take over (map entry_of entries)) (drop over (map entry_of entries)))
+    → GoesOn x y s (map entry_of past) before after → LetsGo (past_in mid) mid next → AppendsOn s old next x y before after
+goes_so s old mid next x y entries past over may before after still kept gone count holds is said lets =
+    let f = x.export.form in
+    lets_go s old mid next x y over before after still (counted old mid past over still gone count)
+    (subst (λ (es : List Entry). (may_go_in f x (take over es) && follow_in f (take over es) (drop over es)) ≡ true) kept (sym is ∙ holds))
+    (subst (λ (es : List Entry). GoesOn x y s es before after) gone said) lets
+
+-- where both cases join
+pub joins : (s : StreamView) (old next joined : Stream) (x y z : StreamExporter) (before after whole : List ℕ) → joined ≡ next → z ≡ y → whole ≡ after
+    → AppendsOn s old next x y before after → AppendsOn s old joined x z before whole
+joins s old next joined x y z before after whole stream export bytes a =
+    subst (λ (n : Stream). AppendsOn s old n x z before whole) (sym stream)
+    (subst (λ (e : StreamExporter). AppendsOn s old next x e before whole) (sym export)
+    (subst (λ (t : List ℕ). AppendsOn s old next x y before t) (sym bytes) a))
+
+pub at_end : (s : StreamView) (old next : Stream) (x : StreamExporter) (before after : List ℕ) (ended : Settled) → HasPlayed progress.Ended old next
+    → after ≡ before ++ unwritten x s (kept_of next) → ended.status ≡ Done → ended.line.items ≡ [] → AppendsRest s old x before after ended
+at_end s old next x before after ended rest said status line = (record { entries = kept_of next; fault = None }, rest, said, tt, (status, line))
+
+pub at_refusal : (s : StreamView) (old next : Stream) (x : StreamExporter) (clock : ℕ) (f : WorldFault) (before after : List ℕ) (ended : Settled)
+    → HasPlayed (progress.Refused clock f) old next → after ≡ before ++ unwritten x s (kept_of next) → f ≢ fault.NoMemory → ended.status ≡ Refused
+    → ended.line.items ≡ refused_line f clock → AppendsRest s old x before after ended
+at_refusal s old next x clock f before after ended rest said told status line =
+    world_fault-of f (λ (n : WorldFault). ended.line.items ≡ refused_line n clock → AppendsRest s old x before after ended)
     (some_map _ _ (model_fault f) by rest) told line
   where
     by : (g : model.Fault) → rest_of old ≡ Some (record { entries = kept_of next; fault = Some (At clock g) })
-        → ended.line.items ≡ refused_line (world_fault g) clock → AppendsRest x s old before after ended
+        → ended.line.items ≡ refused_line (world_fault g) clock → AppendsRest s old x before after ended
     by g whole is = (record { entries = kept_of next; fault = Some (At clock g) }, whole, said, tt, (status, is))
 
 -- ---- a whole run
 
--- some of it is written, and the stream goes on
-pub record Exports (x : StreamExport) (s : StreamView) (whole : Option Streamed) (stream : Stream) (before now : Option (List ℕ)) : Type 0 where
+-- some of it is written, and the stream and the export go on
+pub record Exports (x : StreamExport) (s : StreamView) (whole : Option Streamed) (stream : Stream) (y : StreamExporter) (before now : Option (List ℕ)) : Type 0 where
   pub done : List Entry
-  pub bytes : Appends before now (entries_of x s done)
+  pub text : List ℕ
+  pub bytes : Appends before now text
+  pub export : y.export ≡ x
+  pub written : (later : List Entry) → IsToCome stream later → text ++ unwritten y s later ≡ entries_of x s (done ++ later)
   pub rest : whole ≡ stream_behind done (rest_of stream)
   pub ready : IsStreaming stream
 
-pub begins : (x : StreamExport) (s : StreamView) (stream : Stream) (before : Option (List ℕ)) → IsStreaming stream → Exports x s (rest_of stream) stream before before
-begins x s stream before ready = record { done = []; bytes = appends_nothing before; rest = behind_nothing (rest_of stream); ready = ready }
+pub begins : (x : StreamExport) (s : StreamView) (stream : Stream) (y : StreamExporter) (before : Option (List ℕ)) → Begins x s y → IsStreaming stream
+    → Exports x s (rest_of stream) stream y before before
+begins x s stream y before begun ready = record {
+  done = [];
+  text = [];
+  bytes = appends_nothing before;
+  export = begun.export;
+  written = λ later to_come. begun.rest later;
+  rest = behind_nothing (rest_of stream);
+  ready = ready;
+}
 
-pub goes_on : (x : StreamExport) (s : StreamView) (whole : Option Streamed) (stream next : Stream) (text : List ℕ) (before mid after : Option (List ℕ))
-    → Exports x s whole stream before mid → AppendsOn x s stream next [] text → Appends mid after text → Exports x s whole next before after
-goes_on x s whole stream next text before mid after i a written = record {
+-- what is still to come of a stream, with what it lets go in front
+still_to_come : (stream next : Stream) (entries later : List Entry) → rest_of stream ≡ stream_behind entries (rest_of next) → IsToCome next later
+    → IsToCome stream (entries ++ later)
+still_to_come stream next entries later rest (fault, is) = (fault, rest ∙ ap (stream_behind entries) is)
+
+pub goes_on : (x : StreamExport) (s : StreamView) (whole : Option Streamed) (stream next : Stream) (y z : StreamExporter) (text : List ℕ) (before mid after : Option (List ℕ))
+    → Exports x s whole stream y before mid → AppendsOn s stream next y z [] text → Appends mid after text → Exports x s whole next z before after
+goes_on x s whole stream next y z text before mid after i a written = record {
   done = i.done ++ a.entries;
-  bytes = subst (Appends before after) (sym (entries_both x s i.done a.entries))
-      (appends_both before mid after (entries_of x s i.done) (entries_of x s a.entries) i.bytes (subst (Appends mid after) a.bytes written));
+  text = i.text ++ a.text;
+  bytes = appends_both before mid after i.text a.text i.bytes (subst (Appends mid after) a.bytes written);
+  export = a.export ∙ i.export;
+  written = λ later to_come.
+      append_assoc i.text a.text (unwritten z s later) ∙ ap (λ (t : List ℕ). i.text ++ t) (a.written later to_come)
+      ∙ i.written (a.entries ++ later) (still_to_come stream next a.entries later a.rest to_come)
+      ∙ ap (entries_of x s) (sym (append_assoc i.done a.entries later));
   rest = i.rest ∙ ap (stream_behind i.done) a.rest ∙ behind_both i.done a.entries (rest_of next);
   ready = a.ready;
 }
 
-pub ends : (x : StreamExport) (s : StreamView) (whole : Option Streamed) (stream : Stream) (text : List ℕ) (before mid after : Option (List ℕ)) (ended : Settled)
-    → Exports x s whole stream before mid → AppendsRest x s stream [] text ended → Appends mid after text → ExportsRun x s whole before after ended
-ends x s whole stream text before mid after ended i (rest, is, said, of_run, says) written = (
+pub ends : (x : StreamExport) (s : StreamView) (whole : Option Streamed) (stream : Stream) (y : StreamExporter) (text : List ℕ) (before mid after : Option (List ℕ))
+    (ended : Settled) → Exports x s whole stream y before mid → AppendsRest s stream y [] text ended → Appends mid after text → ExportsRun x s whole before after ended
+ends x s whole stream y text before mid after ended i (rest, is, said, of_run, says) written = (
   record rest { entries = i.done ++ rest.entries },
   i.rest ∙ ap (stream_behind i.done) is,
-  subst (Appends before after) (sym (entries_both x s i.done rest.entries))
-      (appends_both before mid after (entries_of x s i.done) (entries_of x s rest.entries) i.bytes (subst (Appends mid after) said written)),
+  subst (Appends before after) (i.written rest.entries (rest.fault, is))
+      (appends_both before mid after i.text (unwritten y s rest.entries) i.bytes (subst (Appends mid after) said written)),
   of_run,
   says,
 )

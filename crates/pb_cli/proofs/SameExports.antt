@@ -1,4 +1,4 @@
--- An export that is written as the run settles is that of the whole trace.
+-- An export that is written as the run settles, and a picture of such a run, are those of the whole trace.
 use Rattle.std.proofs.Common.{◌≡◌, ◌∙◌, ap, refl, sym, subst, arith, ℕ, List, Option, Some, None, Result, Ok, Err, false}
 use Rattle.std.specs.Prelude.{IfSome}
 use Rattle.std.specs.Io.KnownBytes.{Appends}
@@ -17,10 +17,13 @@ use Rattle.pb_scenario.specs.StreamLaws.{ReadsTheSame, UnrollsTheSame}
 use Rattle.pb_texts.specs.Files.{described, in_table, scenario_of, stream_scenario_of, table_of}
 use Rattle.pb_export.specs.declared.options.Export.{Export}
 use Rattle.pb_export.specs.declared.options.StreamExport.{StreamExport}
+use Rattle.pb_export.specs.declared.options.Window.{Window}
 use Rattle.pb_export.specs.Streamed.{IsSame, streamed_bytes, streamed_of}
+use Rattle.pb_export.specs.Svg.{drawn, stream_svg_text, svg_text}
 use Rattle.pb_export.proofs.Settling.{same}
 use Rattle.pb_cli.specs.Exporting.{ExportsFile, ExportsScenario, SettlesToTheSame, written_of}
 use Rattle.pb_cli.specs.Settling.{Says}
+use Rattle.pb_cli.specs.StreamDrawing.{DrawsFile, DrawsScenario, DrawsTheSame, drawn_of}
 use Rattle.pb_cli.specs.declared.settled.Settled.{Settled}
 
 -- ---- the file
@@ -87,3 +90,24 @@ settles read steps within more run x y file s entries before after e form descri
     subst (λ (r : Result StreamView (Option Fault)). ExportsFile y r before after e) (reads read file s describes) exports in
     let (written, says) = at_end y v entries before after e stream of_scenario in
     (subst (Appends before after) (is_same x y (streamed_of x) (same x) form s entries) written, says)
+
+-- ---- a picture
+
+drawn_at_end : (w : Window) (v : StreamView) (entries : List Entry) (before after : Option (List ℕ)) (e : Settled)
+    → stream_within stream_limit (unrolled v.until v) ≡ Some (with_all entries None) → DrawsScenario w v before after e
+    → Appends before after (stream_svg_text w v entries) × Says e None
+drawn_at_end w v entries before after e is (stream, whole, written, says) =
+    let one : stream ≡ with_all entries None = cc in
+    (subst (λ (t : Streamed). Appends before after (drawn_of w v t.entries t.fault)) one written, subst (λ (t : Streamed). Says e t.fault) one says)
+
+pub draws : ReadsTheSame → UnrollsTheSame → RunIsWithin → MoreIsSame → StreamIsRun → DrawsTheSame
+draws read steps within more run w file s entries before after e describes trace pictures =
+    let v = unrepeated s in
+    let scenario : unrolled v.until v ≡ s.scenario = steps s s.scenario.until in
+    let stream : stream_within stream_limit (unrolled v.until v) ≡ Some (with_all entries None) =
+    ap (stream_within stream_limit) scenario ∙ streams within more run s.scenario entries trace in
+    let of_scenario : DrawsScenario w v before after e =
+    subst (λ (r : Result StreamView (Option Fault)). DrawsFile w r before after e) (reads read file s describes) pictures in
+    let (written, says) = drawn_at_end w v entries before after e stream of_scenario in
+    let picture : stream_svg_text w v entries ≡ svg_text w s entries = ap (λ (x : Scenario). drawn w s s.scenario.until x.steps entries) scenario in
+    (subst (Appends before after) picture written, says)

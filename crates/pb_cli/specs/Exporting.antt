@@ -9,9 +9,10 @@ use Rattle.pb_scenario.specs.Fields.{Fault}
 use Rattle.pb_scenario.specs.Repeats.{StreamView, unrolled}
 use Rattle.pb_scenario.specs.Scenarios.{ScenarioView}
 use Rattle.pb_export.specs.Exports.{bytes_of}
-use Rattle.pb_export.specs.Streamed.{entries_of, streamed_bytes, streamed_of}
+use Rattle.pb_export.specs.Streamed.{entries_of, streamed_bytes, streamed_of, unwritten}
 use Rattle.pb_export.specs.declared.options.Export.{Export}
 use Rattle.pb_export.specs.declared.options.StreamExport.{StreamExport}
+use Rattle.pb_export.specs.declared.streamed.StreamExporter.{StreamExporter}
 use Rattle.pb_stream.specs.Streams.{IsStreaming, rest_of}
 use Rattle.pb_stream.specs.declared.streams.Stream.{Stream}
 use Rattle.pb_texts.specs.Faults.{run_line, scenario_line}
@@ -30,25 +31,32 @@ written_of x s entries (Some (New fault)) = run_line (New fault)
 
 -- ---- a run on a bus
 
--- entries are appended: they were to come, and then what is still to come; the stream goes on
-pub record AppendsOn (x : StreamExport) (s : StreamView) (old new : Stream) (before after : List ℕ) : Type 0 where
+-- these entries are still to come, and then the run ends
+abbrev pub IsToCome : Stream → List Entry → Type 0
+IsToCome stream es = (fault : Option RunFault) × (rest_of stream ≡ Some (record { entries = es; fault = fault }))
+
+-- entries are written: they were to come, and then what is still to come; the stream and the export go on
+pub record AppendsOn (s : StreamView) (old new : Stream) (x y : StreamExporter) (before after : List ℕ) : Type 0 where
   pub entries : List Entry
-  pub bytes : after ≡ before ++ entries_of x s entries
+  pub text : List ℕ
+  pub bytes : after ≡ before ++ text
+  pub export : y.export ≡ x.export
+  pub written : (later : List Entry) → IsToCome new later → text ++ unwritten y s later ≡ unwritten x s (entries ++ later)
   pub rest : rest_of old ≡ stream_behind entries (rest_of new)
   pub ready : IsStreaming new
   pub until : new.walk.until ≡ old.walk.until
   pub later : old.walk.clock < new.walk.clock
 
 -- all that was to come is appended
-abbrev pub AppendsRest : StreamExport → StreamView → Stream → (before after : List ℕ) → Settled → Type 0
-AppendsRest x s old before after ended =
-    (stream : Streamed) × (rest_of old ≡ Some stream) × (after ≡ before ++ entries_of x s stream.entries) × IsOfRun stream.fault
+abbrev pub AppendsRest : StreamView → Stream → StreamExporter → (before after : List ℕ) → Settled → Type 0
+AppendsRest s old x before after ended =
+    (stream : Streamed) × (rest_of old ≡ Some stream) × (after ≡ before ++ unwritten x s stream.entries) × IsOfRun stream.fault
     × Says ended stream.fault
 
 -- an instant is played, and that ends the stream or not
-abbrev pub PlaysOn : StreamExport → StreamView → (old new : Stream) → (before after : List ℕ) → Option Settled → Type 0
-PlaysOn x s old new before after None = AppendsOn x s old new before after
-PlaysOn x s old new before after (Some ended) = AppendsRest x s old before after ended
+abbrev pub PlaysOn : StreamView → (old new : Stream) → (x y : StreamExporter) → (before after : List ℕ) → Option Settled → Type 0
+PlaysOn s old new x y before after None = AppendsOn s old new x y before after
+PlaysOn s old new x y before after (Some ended) = AppendsRest s old x before after ended
 
 -- all that was to come is written
 abbrev pub ExportsRun : StreamExport → StreamView → Option Streamed → (before after : Option (List ℕ)) → Settled → Type 0

@@ -15,3 +15,4 @@ pub mod Statuses
 pub mod Writing
 pub mod Streaming
 pub mod StreamAudits
+pub mod StreamDrawing

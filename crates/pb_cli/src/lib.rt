@@ -3,10 +3,10 @@
 //! [`ask`] reads the program's words, [`decode_lines`] decodes lines of hex, [`play`] plays a scenario file with some
 //! workers, [`audit_file`] judges its run, [`bounds_file`] computes the bounds of its bus, and [`export_file`] writes its
 //! trace for other tools. [`stream_file`], [`audit_stream_file`], [`export_stream`] and [`capture_file`] write of a run of any
-//! length as it settles. [`monitor`] reads captures, and [`export_capture`] writes them for other tools. The contracts name
-//! the bytes: what is written is a stated function of what is read, and `Read`, `TooLong` and `Write` are returned only if
-//! their cause is there. A [`Source`] is read from and a [`Sink`] is written to; [`CountedReader`] and [`CountedWriter`] make
-//! them from any reader and writer of std.
+//! length as it settles, and [`draw_stream`] draws its picture. [`monitor`] reads captures, and [`export_capture`] writes them
+//! for other tools. The contracts name the bytes: what is written is a stated function of what is read, and `Read`, `TooLong`
+//! and `Write` are returned only if their cause is there. A [`Source`] is read from and a [`Sink`] is written to;
+//! [`CountedReader`] and [`CountedWriter`] make them from any reader and writer of std.
 #![tactic(auto)]
 
 mod answers;
@@ -28,6 +28,7 @@ mod progress;
 mod reading;
 mod settled;
 mod stream_audits;
+mod stream_drawing;
 mod stream_exporting;
 mod streaming;
 mod streams;
@@ -43,13 +44,14 @@ pub use counted_writer::CountedWriter;
 pub use decoding::decode_lines;
 pub use exporting::export_file;
 pub use faults::{CliFault, Status};
-pub use laws::exports_settle_to_the_same;
+pub use laws::{exports_settle_to_the_same, pictures_are_the_same};
 pub use monitoring::{Bus, Notes, bus_of, export_capture, monitor};
 pub use playing::play;
 pub use progress::{Observer, Progress};
 pub use reading::read_input;
 pub use settled::Settled;
 pub use stream_audits::audit_stream_file;
+pub use stream_drawing::draw_stream;
 pub use stream_exporting::export_stream;
 pub use streaming::{Flush, stream_file};
 pub use streams::{ReadFault, Sink, Source, WriteFault};

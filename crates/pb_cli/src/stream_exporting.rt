@@ -12,13 +12,13 @@ use crate::settled::{Settled, done, refused};
 use crate::streaming::{BLOCK, played_up_to};
 use crate::streams::Sink;
 use crate::writing::write_out;
-use pb_export::{StreamExport, push_stream_entries, push_stream_head};
+use pb_export::{StreamExport, StreamExporter, push_stream_head};
 use pb_stream::{Progress, Stream};
 use pb_texts::{StreamScenario, described_stream, new_line, refused_file, refused_line};
 use std::alloc::{AllocError, Global};
 
 /// Plays a scenario file up to its end, and writes its trace in a form that is written entry by entry: what the form begins
-/// with, and each entry once it is over, 64 at once. Where an event is refused, the entries up to it are written. Where the
+/// with, and each entry once it is over, at least 64 at once. Where an event is refused, the entries up to it are written. Where the
 /// file or a new world is refused, the line of that fault is written in place of an export. After each instant `observer`
 /// is told how far it is.
 ///
@@ -94,10 +94,11 @@ fn export_run<W: Sink, O: Observer>(
     ensures too_long { result ≢ Err CliFault.TooLong }
     ensures writer_failed { result ≢ Err CliFault.Write → W.failures writer.new ≡ W.failures writer.old }
 {
+    let mut exporter = StreamExporter::new(scenario, export);
     let mut bytes = Vec::new(alloc);
     loop {
         bytes.clear();
-        let ended = play(alloc, scenario, &mut stream, &mut bytes, export)?;
+        let ended = play(alloc, scenario, &mut stream, &mut exporter, &mut bytes)?;
         write_out(writer, &bytes)?;
         let status = ended.as_ref().map(|settled| settled.status);
         let until = scenario.until();
@@ -109,34 +110,36 @@ fn export_run<W: Sink, O: Observer>(
     }
 }
 
-/// Plays an instant, and appends the entries that are over if they are a block, or at the end all that are left. Returns
-/// how the run has ended, if it has.
+/// Plays an instant, and appends the entries that are over if they are a block and can be written without the others, or
+/// at the end all that are left. Returns how the run has ended, if it has.
 fn play(
     alloc: Global,
     scenario: &StreamScenario,
     stream: &mut Stream<'_>,
+    exporter: &mut StreamExporter,
     bytes: &mut Vec<u8>,
-    export: &StreamExport,
 ) -> Result<Option<Settled>, AllocError>
-    requires baud { IsBaud export.now.baud }
+    requires baud { IsBaud exporter.old.export.baud }
     requires ready { IsStreaming stream.old }
-    ensures { IfOk result
-        (PlaysOn export.now scenario.now stream.old stream.new bytes.old.items bytes.new.items) }
+    ensures { IfOk result (PlaysOn scenario.now stream.old stream.new exporter.old exporter.new
+        bytes.old.items bytes.new.items) }
 {
     match stream.play(alloc)? {
         Progress::Goes => {
-            if stream.past().len() >= BLOCK {
-                push_stream_entries(bytes, alloc, scenario, stream.past(), export)?;
+            let past = stream.past();
+            let over = past.len();
+            if over >= BLOCK && exporter.may_go(stream.entries(), over) {
+                exporter.push_past(bytes, alloc, scenario, past)?;
                 stream.let_go();
             }
             Ok(None)
         }
         Progress::Ended => {
-            push_stream_entries(bytes, alloc, scenario, stream.entries(), export)?;
+            exporter.push_rest(bytes, alloc, scenario, stream.entries())?;
             Ok(Some(done(alloc)))
         }
         Progress::Refused { clock, fault } => {
-            push_stream_entries(bytes, alloc, scenario, stream.entries(), export)?;
+            exporter.push_rest(bytes, alloc, scenario, stream.entries())?;
             Ok(Some(refused(refused_line(alloc, fault, clock)?)))
         }
     }

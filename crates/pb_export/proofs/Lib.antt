@@ -3,5 +3,7 @@ pub mod Appending
 pub mod Cut
 pub mod Loops
 pub mod Waving
+pub mod InPieces
 pub mod Around
 pub mod Settling
+pub mod Repeating

@@ -1,9 +1,13 @@
 -- The marks of a scenario's steps in a picture: starts, stops, and stretches in which a station is withheld.
-use Rattle.std.specs.Prelude.{ℕ, ◌+◌, ◌&&◌, ◌==◌, nat_le, nat_lt, if◌then◌else◌, List, [], ◌∷◌, ◌++◌, position, codes, decimal, Option, Some, None}
+use Rattle.std.specs.Prelude.{ℕ, ◌+◌, ◌-◌, ◌*◌, ◌/◌, ◌^◌, ◌≤◌, ◌<◌, min, ◌&&◌, ◌==◌, nat_le, nat_lt, if◌then◌else◌, List, [], ◌∷◌, ◌++◌, position, codes, decimal, Option, Some, None}
 use Rattle.std.specs.List.{flat_map}
 use Rattle.law_model.specs.World.{Event, Unheard, Turn, Pass, Damage, Start, Stop, Queue, Noise}
 use Rattle.law_runs.specs.Scenarios.{Deed, Happens, Withhold, Planned}
+use Rattle.pb_scenario.specs.Repeats.{happenings, series}
 use Rattle.pb_scenario.specs.Scenarios.{ScenarioView}
+use Rattle.pb_scenario.specs.Steps.{steps_of}
+use Rattle.pb_export.specs.declared.marks.Series.{Series}
+use Rattle.pb_export.specs.declared.marks.Steps.{Steps}
 use Rattle.pb_export.specs.Sheets.{Sheet}
 use Rattle.pb_export.specs.declared.places.Stretch.{Stretch}
 use Rattle.pb_export.specs.Pieces.{all_of}
@@ -78,5 +82,30 @@ mark s sheet lanes p = at_tap s sheet lanes p (marked_tap p.deed)
 abbrev pub mark_if : ScenarioView → Sheet → (lanes : List ℕ) → Planned → List ℕ
 mark_if s sheet lanes p = if nat_le sheet.from p.at && nat_lt p.at sheet.last then mark s sheet lanes p else []
 
-abbrev pub marks_text : ScenarioView → Sheet → (lanes : List ℕ) → List ℕ
-marks_text s sheet lanes = flat_map (mark_if s sheet lanes) s.scenario.steps
+-- the marks of some happenings of steps
+abbrev pub marks_text : ScenarioView → Sheet → (lanes : List ℕ) → List Planned → List ℕ
+marks_text s sheet lanes steps = flat_map (mark_if s sheet lanes) steps
+
+-- ---- steps that repeat
+
+-- all happenings of the steps of a run
+abbrev pub happenings_in : Steps → List Planned
+happenings_in x = happenings x.until x.repeats.now (steps_of x.once.now)
+
+-- happenings of one step
+abbrev pub happenings_of : Series → Deed → List Planned
+happenings_of x deed = series x.at x.every x.count deed
+
+abbrev pub IsSteadySeries : Series → Type 0
+IsSteadySeries x = (1 ≤ x.every) × (x.every < 2 ^ 63)
+
+abbrev pub without : (gone : ℕ) → Series → Series
+without gone x = record { at = x.at + gone * x.every; every = x.every; count = x.count - gone }
+
+-- without those before a moment, of which the last may be left
+abbrev pub skipped : (from : ℕ) → Series → Series
+skipped from x = without (min ((from - x.at) / x.every) x.count) x
+
+-- without the first
+abbrev pub rest_of : Series → Series
+rest_of x = record { at = x.at + x.every; every = x.every; count = x.count - 1 }

@@ -2,6 +2,8 @@
 use Rattle.std.specs.Prelude.{ℕ, ◌-◌, ◌/◌, ◌*◌, ◌==◌, if◌then◌else◌, List, ◌++◌, [], ◌∷◌, length, codes, decimal}
 use Rattle.std.specs.List.{flat_map}
 use Rattle.law_model.specs.Trace.{Entry}
+use Rattle.law_runs.specs.Scenarios.{Planned}
+use Rattle.pb_scenario.specs.Repeats.{StreamView, happenings}
 use Rattle.pb_scenario.specs.Scenarios.{ScenarioView}
 use Rattle.pb_export.specs.declared.options.Window.{Window}
 use Rattle.pb_export.specs.Sheets.{Sheet}
@@ -17,8 +19,8 @@ use Rattle.pb_export.specs.Rosters.{lanes_of}
 use Rattle.pb_export.specs.Styles.{light, dark, patterns, legend}
 
 -- from a multiple of 100 bit times on, with some lanes
-abbrev pub sheet_of : Window → ScenarioView → List Entry → (lanes : List ℕ) → Sheet
-sheet_of w s es lanes = record { from = w.from / 100 * 100; last = last_moment w s.scenario.until es; lanes = length lanes }
+abbrev pub sheet_of : Window → (until : ℕ) → List Entry → (lanes : List ℕ) → Sheet
+sheet_of w until es lanes = record { from = w.from / 100 * 100; last = last_moment w until es; lanes = length lanes }
 
 abbrev pub head_with : Sheet → (legend : List ℕ) → List ℕ
 head_with sheet legend =
@@ -43,18 +45,31 @@ band s sheet es = flat_map (tenure_box s sheet) (tenures_of s es sheet.from shee
 abbrev pub boxes : Window → ScenarioView → Sheet → (lanes : List ℕ) → List Entry → List ℕ
 boxes w s sheet lanes es = shown_in w (entry_box s sheet lanes) es
 
--- the lanes, who holds the token, the entries that are shown, and the steps
-abbrev pub picture : Window → ScenarioView → List Entry → Sheet → (lanes : List ℕ) → List ℕ
-picture w s es sheet lanes =
+-- the lanes, who holds the token, and the entries that are shown
+abbrev pub traced : Window → ScenarioView → List Entry → Sheet → (lanes : List ℕ) → List ℕ
+traced w s es sheet lanes =
     head sheet
     ++ left_out (length s.scenario.taps - length lanes)
     ++ lanes_text s sheet lanes
     ++ band s sheet es
     ++ boxes w s sheet lanes es
-    ++ marks_text s sheet lanes
+
+-- with the steps
+abbrev pub picture : Window → ScenarioView → List Planned → List Entry → Sheet → (lanes : List ℕ) → List ℕ
+picture w s steps es sheet lanes =
+    traced w s es sheet lanes
+    ++ marks_text s sheet lanes steps
     ++ codes "</svg>\n"
 
-abbrev pub svg_text : Window → ScenarioView → List Entry → List ℕ
-svg_text w s es =
+-- the run of a scenario's bus with some steps up to a moment
+abbrev pub drawn : Window → ScenarioView → (until : ℕ) → List Planned → List Entry → List ℕ
+drawn w s until steps es =
     let lanes = lanes_of s.scenario.taps es in
-    picture w s es (sheet_of w s es lanes) lanes
+    picture w s steps es (sheet_of w until es lanes) lanes
+
+abbrev pub svg_text : Window → ScenarioView → List Entry → List ℕ
+svg_text w s es = drawn w s s.scenario.until s.scenario.steps es
+
+-- of a scenario whose steps may repeat, with each happening of a step
+abbrev pub stream_svg_text : Window → StreamView → List Entry → List ℕ
+stream_svg_text w s es = drawn w s.once s.until (happenings s.until s.repeats s.once.scenario.steps) es

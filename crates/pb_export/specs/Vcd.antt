@@ -92,8 +92,8 @@ abbrev pub named_from : Window → ℕ → (place : ℕ) → Option ℕ → List
 named_from w t place found [] = found
 named_from w t place found (e ∷ es) = named_from w t (place + 1) (named_with w t place found e) es
 
-abbrev pub named_at : Window → List Entry → ℕ → Option ℕ
-named_at w es t = named_from w t 0 None es
+abbrev pub named_at : Window → (place : ℕ) → List Entry → ℕ → Option ℕ
+named_at w place es t = named_from w t place None es
 
 abbrev pub is_same_place : Option ℕ → Option ℕ → Bool
 is_same_place None None = true
@@ -105,19 +105,20 @@ abbrev pub name_of : Option Entry → List ℕ
 name_of None = codes "-"
 name_of (Some e) = entry_name e
 
-abbrev pub named_entry : List Entry → Option ℕ → Option Entry
-named_entry es None = None
-named_entry es (Some place) = slice_get es place
+-- the entry with an index among some entries, the first of these at an index
+abbrev pub named_entry : (place : ℕ) → List Entry → Option ℕ → Option Entry
+named_entry place es None = None
+named_entry place es (Some n) = slice_get es (n - place)
 
-abbrev pub name_text : List Entry → Option ℕ → List ℕ
-name_text es named =
+abbrev pub name_text : (place : ℕ) → List Entry → Option ℕ → List ℕ
+name_text place es named =
     codes "s"
-    ++ name_of (named_entry es named)
+    ++ name_of (named_entry place es named)
     ++ codes " s\n"
 
-abbrev pub name_change : Strings → List Entry → (before named : Option ℕ) → List ℕ
-name_change LeftOut es before named = []
-name_change Shown es before named = if is_same_place before named then [] else name_text es named
+abbrev pub name_change : Strings → (place : ℕ) → List Entry → (before named : Option ℕ) → List ℕ
+name_change LeftOut place es before named = []
+name_change Shown place es before named = if is_same_place before named then [] else name_text place es named
 
 -- ---- all moments
 
@@ -126,26 +127,35 @@ abbrev pub stamped : (baud moment : ℕ) → List ℕ → List ℕ
 stamped baud t [] = []
 stamped baud t (byte ∷ bytes) = stamp baud t ++ byte ∷ bytes
 
-abbrev pub moment : (baud : ℕ) → Strings → Window → List Entry → Level → Option ℕ → ℕ → List ℕ
-moment baud strings w es level named t = stamped baud t (
+-- the first of the entries has an index
+abbrev pub moment : (baud : ℕ) → Strings → Window → (place : ℕ) → List Entry → Level → Option ℕ → ℕ → List ℕ
+moment baud strings w place es level named t = stamped baud t (
     flat_map (entry_change w t) es
     ++ level_change level (bus_at w es t)
-    ++ name_change strings es named (named_at w es t))
+    ++ name_change strings place es named (named_at w place es t))
 
 -- so many moments from one on; the bus had a level and a name before
-abbrev pub moments : (baud : ℕ) → Strings → Window → List Entry → Level → Option ℕ → ℕ → ℕ → List ℕ
-moments baud strings w es level named t zero = []
-moments baud strings w es level named t (suc n) =
-    moment baud strings w es level named t ++ moments baud strings w es (bus_at w es t) (named_at w es t) (t + 1) n
+abbrev pub moments : (baud : ℕ) → Strings → Window → (place : ℕ) → List Entry → Level → Option ℕ → ℕ → ℕ → List ℕ
+moments baud strings w place es level named t zero = []
+moments baud strings w place es level named t (suc n) =
+    moment baud strings w place es level named t
+    ++ moments baud strings w place es (bus_at w es t) (named_at w place es t) (t + 1) n
 
+-- from the window's first moment to the last one, with the line of that
 abbrev pub waves : (baud : ℕ) → Strings → Window → List Entry → (last : ℕ) → List ℕ
-waves baud strings w es last = moments baud strings w es High None w.from (last + 1 - w.from)
+waves baud strings w es last = moments baud strings w 0 es High None w.from (last + 1 - w.from) ++ stamp baud last
 
-abbrev pub vcd_text : (baud : ℕ) → Strings → Window → ScenarioView → List Entry → List ℕ
-vcd_text baud strings w s es =
-    let last = last_moment w s.scenario.until es in
+-- ---- a dump
+
+abbrev pub vcd_head : (baud : ℕ) → Strings → Window → ScenarioView → List ℕ
+vcd_head baud strings w s =
     variables strings s
     ++ stamp baud w.from
     ++ idle strings (length s.scenario.taps)
-    ++ waves baud strings w es last
-    ++ stamp baud last
+
+-- of a run up to a moment
+abbrev pub vcd_body : (baud : ℕ) → Strings → Window → (until : ℕ) → List Entry → List ℕ
+vcd_body baud strings w until es = waves baud strings w es (last_moment w until es)
+
+abbrev pub vcd_text : (baud : ℕ) → Strings → Window → ScenarioView → List Entry → List ℕ
+vcd_text baud strings w s es = vcd_head baud strings w s ++ vcd_body baud strings w s.scenario.until es

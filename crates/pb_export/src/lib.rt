@@ -10,6 +10,7 @@ mod capture_band;
 mod capture_boxes;
 mod capture_svg;
 mod captures;
+mod dumps;
 mod exports;
 mod files;
 mod holders;
@@ -45,6 +46,6 @@ pub use options::{Export, Form, LATEST, Link, StreamExport, StreamForm, Strings,
 pub use pcap::push_pcap;
 pub use pcapng::push_pcapng;
 pub use runs::entries_of;
-pub use streamed::{push_stream_entries, push_stream_head};
-pub use svg::push_svg;
+pub use streamed::{StreamExporter, push_stream_head};
+pub use svg::{push_stream_svg, push_svg};
 pub use vcd::push_vcd;

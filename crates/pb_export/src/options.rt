@@ -75,6 +75,8 @@ pub enum StreamForm {
     Pcap,
     /// A capture file with comments (pcapng).
     Pcapng,
+    /// The lines of the stations and of the bus, bit by bit (value change dump).
+    Vcd,
 }
 
 /// What an export that is written entry by entry is to be.
@@ -88,13 +90,15 @@ pub struct StreamExport {
     pub baud: u32,
     /// The link type of a capture file.
     pub link: Link,
+    /// Whether a VCD file has strings.
+    pub strings: Strings,
 }
 
 impl Export {
     ghost use Rattle.std.specs.Prelude.{◌≡◌, IfSome};
     ghost use Rattle.pb_export.specs.Streamed.{IsSame, streamed_of};
 
-    /// The same entry by entry, if its form is one that is written so: a picture and a dump are not.
+    /// The same entry by entry, if its form is one that is written so: a picture is not.
     pub fn streamed(&self) -> Option<StreamExport>
         ensures value { result ≡ streamed_of self.now }
         ensures same { IfSome result (IsSame self.now) }
@@ -103,13 +107,15 @@ impl Export {
             Form::Json => StreamForm::Json,
             Form::Pcap => StreamForm::Pcap,
             Form::Pcapng => StreamForm::Pcapng,
-            Form::Svg | Form::Vcd => return None,
+            Form::Vcd => StreamForm::Vcd,
+            Form::Svg => return None,
         };
         Some(StreamExport {
             form,
             window: self.window,
             baud: self.baud,
             link: self.link,
+            strings: self.strings,
         })
     }
 }

@@ -1,6 +1,8 @@
 //! A trace as a picture.
 
 ghost use Rattle.std.specs.Prelude.{◌≡◌, ◌≤◌, ◌-◌, ◌++◌, OnOk, length, map};
+ghost use Rattle.pb_scenario.specs.Repeats.{AreSteady, stream_until};
+ghost use Rattle.pb_export.specs.Marks.{happenings_in};
 ghost use Rattle.law_runs.specs.Judging.{StandsFrom};
 ghost use Rattle.pb_medium.specs.Entries.{entry_of};
 ghost use Rattle.std.specs.List.{flat_map};
@@ -11,14 +13,14 @@ ghost use Rattle.pb_export.specs.Svg as svg;
 use crate::boxes::{push_entry, push_tenure};
 use crate::holders::{Tenure, tenures_of};
 use crate::lanes::push_lanes;
-use crate::marks::push_marks;
+use crate::marks::{Steps, push_marks};
 use crate::options::Window;
 use crate::pieces::{Piece, push_pieces};
 use crate::places::{Sheet, WIDTH};
 use crate::rosters::lanes_of;
 use crate::styles::{dark, legend, light, patterns};
 use crate::times::last_moment;
-use pb_scenario::{Entry, Scenario};
+use pb_scenario::{Entry, Scenario, StreamScenario};
 use std::alloc::{AllocError, Global};
 
 /// A picture begins at a multiple of this many bit times.
@@ -40,17 +42,66 @@ pub fn push_svg(
     ensures { OnOk result (text.new.items
         ≡ text.old.items ++ svg.svg_text window scenario.now (map entry_of entries.now)) }
 {
+    let steps = Steps {
+        once: scenario.steps(),
+        repeats: &[],
+        until: scenario.until(),
+    };
+    push_run(text, alloc, scenario, steps, entries, window)
+}
+
+/// Appends the trace of a scenario whose steps may repeat as such a picture. A step has a mark each time that it happens.
+///
+/// Fault: memory was refused.
+pub fn push_stream_svg(
+    text: &mut Vec<u8>,
+    alloc: Global,
+    scenario: &StreamScenario,
+    entries: &[Entry],
+    window: Window,
+) -> Result<(), AllocError>
+    requires { StandsFrom 0 (map entry_of entries.now) }
+    ensures { OnOk result (text.new.items
+        ≡ text.old.items ++ svg.stream_svg_text window scenario.now (map entry_of entries.now)) }
+{
+    let once = scenario.once();
+    let steps = Steps {
+        once: once.steps(),
+        repeats: scenario.repeats(),
+        until: scenario.until(),
+    };
+    push_run(text, alloc, once, steps, entries, window)
+}
+
+/// Appends the run of a scenario's bus with some steps.
+fn push_run(
+    text: &mut Vec<u8>,
+    alloc: Global,
+    scenario: &Scenario,
+    steps: Steps<'_>,
+    entries: &[Entry],
+    window: Window,
+) -> Result<(), AllocError>
+    requires order { StandsFrom 0 (map entry_of entries.now) }
+    requires steady { AreSteady steps.repeats.now }
+    requires end { steps.until ≤ stream_until }
+    ensures { OnOk result (text.new.items ≡ text.old.items
+        ++ svg.drawn window scenario.now steps.entry.until (happenings_in steps.entry)
+        (map entry_of entries.now)) }
+{
     let lanes = lanes_of(alloc, scenario, entries)?;
     let sheet = Sheet::new(
         window.from / STEP * STEP,
-        last_moment(window, scenario.until(), entries),
+        last_moment(window, steps.until, entries),
         lanes.len() as u64,
     );
-    push_picture(text, alloc, scenario, entries, window, sheet, &lanes)
+    push_trace(text, alloc, scenario, entries, window, sheet, &lanes)?;
+    push_marks(text, scenario, sheet, &lanes, steps)?;
+    text.extend_from_slice(b"</svg>\n")
 }
 
-/// Appends a picture of some lanes.
-fn push_picture(
+/// Appends what a picture of some lanes has of a trace.
+fn push_trace(
     text: &mut Vec<u8>,
     alloc: Global,
     scenario: &Scenario,
@@ -62,15 +113,13 @@ fn push_picture(
     requires lanes { length lanes.now ≤ 127 }
     requires order { StandsFrom 0 (map entry_of entries.now) }
     ensures { OnOk result (text.new.items ≡ text.old.items
-        ++ svg.picture window scenario.now (map entry_of entries.now) sheet lanes.now) }
+        ++ svg.traced window scenario.now (map entry_of entries.now) sheet lanes.now) }
 {
     push_head(text, sheet)?;
     push_left_out(text, left_out(scenario, lanes))?;
     push_lanes(text, scenario, sheet, lanes)?;
     push_band(text, alloc, scenario, sheet, entries)?;
-    push_boxes(text, alloc, scenario, sheet, lanes, entries, window)?;
-    push_marks(text, scenario, sheet, lanes)?;
-    text.extend_from_slice(b"</svg>\n")
+    push_boxes(text, alloc, scenario, sheet, lanes, entries, window)
 }
 
 /// How many taps have no lane.

@@ -2,7 +2,7 @@
 
 ghost use Rattle.std.specs.Prelude.{◌≡◌, ◌<◌, ◌≤◌, map};
 ghost use Rattle.pb_medium.specs.Entries.{entry_of};
-ghost use Rattle.pb_export.specs.Times.{end_of_time, last_moment, later_end, nanos};
+ghost use Rattle.pb_export.specs.Times.{end_of_time, last_end, last_moment, later_end, nanos};
 
 use crate::options::Window;
 use pb_scenario::Entry;
@@ -29,11 +29,18 @@ pub(crate) fn last_moment(window: Window, until: u64, entries: &[Entry]) -> u64
     ensures value { result ≡ last_moment window until (map entry_of entries.now) }
     ensures end { result ≤ end_of_time }
 {
-    let mut last = window.from.max(window.until.min(until));
+    last_end(window, window.from.max(window.until.min(until)), entries).min(END)
+}
+
+/// The latest of a moment and of the ends of the entries that are shown telegrams.
+pub(crate) fn last_end(window: Window, moment: u64, entries: &[Entry]) -> u64
+    ensures { result ≡ last_end window moment (map entry_of entries.now) }
+{
+    let mut last = moment;
     for entry in entries {
         last = later_end(window, last, entry);
     }
-    last.min(END)
+    last
 }
 
 /// The later of a moment and of the end of an entry, if that is a telegram that is shown.

@@ -2,20 +2,20 @@
 
 ghost use Rattle.std.specs.Prelude.{◌≡◌, ◌<◌, ◌++◌, OnOk, map};
 ghost use Rattle.pb_medium.specs.Entries.{entry_of};
-ghost use Rattle.law_runs.specs.Judging.{StandsFrom};
 ghost use Rattle.pb_export.specs.Vcd as vcd;
 
+use crate::dumps::Dump;
 use crate::options::{Strings, Window};
 use crate::pieces::{Piece, push_pieces};
-use crate::times::{last_moment, nanos};
-use crate::waves::{Dump, push_waves};
+use crate::times::nanos;
+use crate::waves::{begun, push_rest};
 use pb_scenario::{Entry, Scenario};
 use std::alloc::{AllocError, Global};
 
 /// Appends a trace as a value change dump (VCD) in nanoseconds: a wire for the bus and one for the line of each station,
 /// and a string that says which telegram is on the bus, unless strings are left out. An idle line is 1. Each octet has a
 /// start bit, eight bits with the least first, an even parity bit and a stop bit; a bus is 0 where any line is, and
-/// unknown in noise. The caller ensures that the trace is in order of begin.
+/// unknown in noise. A trace in order of begin takes less time.
 ///
 /// Fault: memory was refused.
 pub fn push_vcd(
@@ -27,22 +27,32 @@ pub fn push_vcd(
     baud: u32,
     strings: Strings,
 ) -> Result<(), AllocError>
-    requires baud { 0 < baud }
-    requires order { StandsFrom 0 (map entry_of entries.now) }
+    requires { 0 < baud }
     ensures { OnOk result (text.new.items
         ≡ text.old.items ++ vcd.vcd_text baud strings window scenario.now (map entry_of entries.now)) }
 {
-    let last = last_moment(window, scenario.until(), entries);
-    push_variables(text, scenario, strings)?;
-    push_stamp(text, baud, window.from)?;
-    push_idle(text, scenario.taps().len(), strings)?;
     let dump = Dump {
         window,
         baud,
         strings,
     };
-    push_waves(text, alloc, entries, dump, last)?;
-    push_stamp(text, baud, last)
+    push_head(text, scenario, dump)?;
+    push_rest(text, alloc, begun(window, scenario.until()), entries, dump)
+}
+
+/// Appends what is before the first moment that changes anything: the variables and the levels of an idle bus.
+pub(crate) fn push_head(
+    text: &mut Vec<u8>,
+    scenario: &Scenario,
+    dump: Dump,
+) -> Result<(), AllocError>
+    requires { 0 < dump.baud }
+    ensures { OnOk result (text.new.items
+        ≡ text.old.items ++ vcd.vcd_head dump.baud dump.strings dump.window scenario.now) }
+{
+    push_variables(text, scenario, dump.strings)?;
+    push_stamp(text, dump.baud, dump.window.from)?;
+    push_idle(text, scenario.taps().len(), dump.strings)
 }
 
 /// Appends the line of a moment, in nanoseconds.

@@ -1,40 +1,43 @@
 //! The changes of a value change dump, moment by moment.
 
-ghost use Rattle.std.specs.Prelude.{◌≡◌, ◌<◌, ◌≤◌, ◌+◌, ◌^◌, ◌++◌, IfOk, OnOk, None, length, map, take, drop};
+ghost use Rattle.std.specs.Prelude.{◌≡◌, ◌<◌, ◌≤◌, ◌+◌, ◌-◌, ◌^◌, ◌++◌, IfOk, OnOk, IsTrue, None};
+ghost use Rattle.std.specs.Prelude.{length, map, take, drop};
 ghost use Rattle.std.specs.List.{flat_map};
 ghost use Rattle.law_runs.specs.Judging.{StandsFrom};
 ghost use Rattle.pb_medium.specs.Entries.{entry_of, record_of};
 ghost use Rattle.pb_export.specs.Times.{end_of_time};
-ghost use Rattle.pb_export.specs.Waves.{AreOver, AreToCome};
+ghost use Rattle.pb_export.specs.Waves.{AreOver, AreToCome, GoesOn, IsBegun, most};
+ghost use Rattle.pb_export.specs.Waves as pieces;
 ghost use Rattle.pb_export.specs.Levels as levels;
 ghost use Rattle.pb_export.specs.Vcd as vcd;
 
+use crate::dumps::{Dump, Waves};
 use crate::levels::{Level, digit, is_on, joined, level_at, level_before};
 use crate::options::{Strings, Window};
 use crate::pieces::{Piece, push_pieces};
 use crate::saying::push_word;
+use crate::times::{END, last_end};
 use crate::vcd::push_stamp;
 use pb_scenario::Entry;
 use pb_world::Record;
 use std::alloc::{AllocError, Global};
 
-/// What a dump is to say.
+/// How many entries a dump may have had before its last ones.
+const MOST: usize = 1_000_000_000_000;
+
+/// Entries, the first of them at an index; those of a run are in order of begin.
 #[derive(Clone, Copy, Debug)]
-pub(crate) struct Dump {
-    /// Which entries it shows.
-    pub(crate) window: Window,
-    /// How many bits a second the bus has.
-    pub(crate) baud: u32,
-    /// Whether it has strings.
-    pub(crate) strings: Strings,
+struct Batch {
+    first: usize,
+    is_in_order: bool,
 }
 
-/// Where a walk through the moments is: what a dump has said of the bus, and which entries may be on it.
+/// Where a walk through the moments is: what was said of the bus, and which entries may be on it.
 #[derive(Clone, Copy, Debug)]
 struct Place {
     /// The level of the bus.
     level: Level,
-    /// The entry whose name the string has.
+    /// The index of the entry whose name the string has.
     named: Option<usize>,
     /// The entries before this one are over.
     first: usize,
@@ -42,32 +45,174 @@ struct Place {
     next: usize,
 }
 
-/// Appends the changes of each moment from the window's first to `last`. The caller ensures that the trace is in order of
-/// begin. Only entries that have begun and are not all over are looked at, so this takes time in proportion to moments
-/// and entries, unless one of them lasts long.
-pub(crate) fn push_waves(
+/// A dump of a run up to the moment `until`, of which nothing is written.
+pub(crate) fn begun(window: Window, until: u64) -> Waves
+    ensures { IsBegun window until result }
+{
+    Waves {
+        level: Level::High,
+        named: None,
+        gone: 0,
+        next: window.from,
+        last: window.from.max(window.until.min(until)),
+    }
+}
+
+/// Whether a dump may be written up to the end of the first of some entries, without the others: these begin no earlier, and
+/// that end is a moment of the dump, unless nothing later is shown. Of entries that are over this is not so only where a
+/// telegram has begun at the far end of a cable before noise was over, or after 10^12 entries.
+pub(crate) fn may_go(waves: Waves, window: Window, entries: &[Entry], over: usize) -> bool
+    requires { over ≤ length entries.now }
+    ensures { result ≡ pieces.may_go window waves over (map entry_of entries.now) }
+{
+    let (past, rest) = entries.split_at(over);
+    is_closed(waves, window, past) && all_since(rest, latest_end(past))
+}
+
+/// Whether a dump may be written up to the end of some entries, if no other begins earlier.
+fn is_closed(waves: Waves, window: Window, entries: &[Entry]) -> bool
+    ensures { result ≡ pieces.is_closed window waves (map entry_of entries.now) }
+{
+    let end = latest_end(entries);
+    waves.gone + entries.len() <= MOST
+        && (end <= last_end(window, waves.last, entries) || window.until < end)
+}
+
+/// Appends the changes up to the latest end of some entries. Those to come begin no earlier ([`may_go`]).
+pub(crate) fn push_past(
+    text: &mut Vec<u8>,
+    alloc: Global,
+    waves: Waves,
+    entries: &[Entry],
+    dump: Dump,
+) -> Result<Waves, AllocError>
+    requires { 0 < dump.baud }
+    ensures { IfOk result
+        (λ next. GoesOn dump waves next (map entry_of entries.now) text.old.items text.new.items) }
+{
+    let last = last_end(dump.window, waves.last, entries);
+    let end = latest_end(entries).min(last.min(END) + 1);
+    let place = push_moments(text, alloc, entries, dump, waves, end)?;
+    Ok(Waves {
+        level: place.level,
+        named: place.named,
+        gone: (waves.gone + entries.len()).min(MOST),
+        next: waves.next.max(end),
+        last,
+    })
+}
+
+/// Appends the changes up to the end of a dump, with the last entries, and the line of that moment.
+pub(crate) fn push_rest(
+    text: &mut Vec<u8>,
+    alloc: Global,
+    waves: Waves,
+    entries: &[Entry],
+    dump: Dump,
+) -> Result<(), AllocError>
+    requires { 0 < dump.baud }
+    ensures { OnOk result (text.new.items
+        ≡ text.old.items ++ pieces.waves_from dump waves (map entry_of entries.now)) }
+{
+    let last = last_end(dump.window, waves.last, entries).min(END);
+    push_moments(text, alloc, entries, dump, waves, last + 1)?;
+    push_stamp(text, dump.baud, last)
+}
+
+/// When the last of some entries ends.
+fn latest_end(entries: &[Entry]) -> u64
+    ensures { result ≡ pieces.latest_end 0 (map entry_of entries.now) }
+{
+    let mut latest = 0;
+    for entry in entries {
+        latest = entry.end().max(latest);
+    }
+    latest
+}
+
+/// Whether all of some entries begin no earlier than a moment.
+fn all_since(entries: &[Entry], moment: u64) -> bool
+    ensures { result ≡ pieces.are_since moment (map entry_of entries.now) }
+{
+    for entry in entries {
+        if entry.begin() < moment {
+            return false;
+        }
+    }
+    true
+}
+
+/// Appends the changes of each moment from the next one of a dump up to one before `end`, and returns where the walk is
+/// then. Only entries that have begun and are not all over are looked at, and none of the moments at which the bus is idle:
+/// so this takes time in proportion to entries and their bits, if the entries are in order of begin.
+fn push_moments(
     text: &mut Vec<u8>,
     alloc: Global,
     entries: &[Entry],
     dump: Dump,
-    last: u64,
-) -> Result<(), AllocError>
+    waves: Waves,
+    end: u64,
+) -> Result<Place, AllocError>
     requires baud { 0 < dump.baud }
-    requires last { last ≤ end_of_time }
-    requires order { StandsFrom 0 (map entry_of entries.now) }
-    ensures { OnOk result (text.new.items ≡ text.old.items
-        ++ vcd.waves dump.baud dump.strings dump.window (map entry_of entries.now) last) }
+    requires end { end ≤ end_of_time + 1 }
+    ensures text { IfOk result (λ _. text.new.items ≡ text.old.items
+        ++ vcd.moments dump.baud dump.strings dump.window waves.gone (map entry_of entries.now)
+        waves.level waves.named waves.next (end - waves.next)) }
+    ensures level { IfOk result (λ p. p.level
+        ≡ pieces.level_behind dump.window (map entry_of entries.now) waves.level waves.next (end - waves.next)) }
+    ensures named { IfOk result (λ p. p.named ≡ pieces.named_behind dump.window waves.gone
+        (map entry_of entries.now) waves.named waves.next (end - waves.next)) }
 {
+    let batch = Batch {
+        first: waves.gone,
+        is_in_order: is_in_order(entries),
+    };
     let mut place = Place {
-        level: Level::High,
-        named: None,
+        level: waves.level,
+        named: waves.named,
         first: 0,
         next: 0,
     };
-    for now in dump.window.from..last + 1 {
-        place = push_moment(text, alloc, entries, dump, place, now)?;
+    let mut now = waves.next;
+    while now < end {
+        place = push_moment(text, alloc, entries, dump, batch, place, now)?;
+        now = following(entries, batch, place, now, end);
     }
-    Ok(())
+    Ok(place)
+}
+
+/// Whether entries are in order of begin.
+fn is_in_order(entries: &[Entry]) -> bool
+    ensures { IsTrue result → StandsFrom 0 (map entry_of entries.now) }
+{
+    let mut from = 0;
+    for entry in entries {
+        if entry.begin() < from {
+            return false;
+        }
+        from = entry.begin();
+    }
+    true
+}
+
+/// The next moment after `now` at which something may change, up to `end`: where nothing is on the bus, the next begin.
+fn following(entries: &[Entry], batch: Batch, place: Place, now: u64, end: u64) -> u64
+    requires order { IsTrue batch.is_in_order → StandsFrom 0 (map entry_of entries.now) }
+    requires before { now < end }
+    ensures after { now < result }
+    ensures bound { result ≤ end }
+    ensures idle { now + 1 < result → place.next ≤ place.first }
+    ensures to_come { now + 1 < result
+        → AreToCome (result - 1) (drop place.next (map entry_of entries.now)) }
+{
+    if place.first < place.next {
+        return now + 1;
+    }
+    match entries.get(place.next) {
+        None => end,
+        Some(entry) if batch.is_in_order => entry.begin().max(now + 1).min(end),
+        Some(_) => now + 1,
+    }
 }
 
 /// Appends the changes of a moment, and returns where the walk is then.
@@ -76,28 +221,32 @@ fn push_moment(
     alloc: Global,
     entries: &[Entry],
     dump: Dump,
+    batch: Batch,
     place: Place,
     now: u64,
 ) -> Result<Place, AllocError>
     requires baud { 0 < dump.baud }
-    requires order { StandsFrom 0 (map entry_of entries.now) }
+    requires order { IsTrue batch.is_in_order → StandsFrom 0 (map entry_of entries.now) }
+    requires few { batch.first ≤ most }
     requires over { AreOver now (take place.first (map entry_of entries.now)) }
     requires first { place.first ≤ place.next }
     requires next { place.next ≤ length entries.now }
     ensures text { IfOk result (λ _. text.new.items ≡ text.old.items
-        ++ vcd.moment dump.baud dump.strings dump.window (map entry_of entries.now)
+        ++ vcd.moment dump.baud dump.strings dump.window batch.first (map entry_of entries.now)
         place.level place.named now) }
     ensures level { IfOk result (λ p. p.level ≡ levels.bus_at dump.window (map entry_of entries.now) now) }
-    ensures named { IfOk result (λ p. p.named ≡ vcd.named_at dump.window (map entry_of entries.now) now) }
+    ensures named { IfOk result (λ p.
+        p.named ≡ vcd.named_at dump.window batch.first (map entry_of entries.now) now) }
     ensures over { IfOk result (λ p. AreOver now (take p.first (map entry_of entries.now))) }
     ensures first { IfOk result (λ p. p.first ≤ p.next) }
     ensures next { IfOk result (λ p. p.next ≤ length entries.now) }
+    ensures to_come { IfOk result (λ p. AreToCome now (drop p.next (map entry_of entries.now))) }
 {
-    let next = begun_until(entries, place.next, now);
+    let next = begun_until(entries, batch, place.next, now);
     let first = over_until(entries, place.first, next, now);
     let on_bus = &entries[first..next];
     let level = level_of(on_bus, dump.window, now);
-    let named = named_in(on_bus, first, dump.window, now);
+    let named = named_in(on_bus, batch.first + first, dump.window, now);
     let mut changes = Vec::new(alloc);
     push_lines(&mut changes, on_bus, dump.window, now)?;
     push_level(&mut changes, place.level, level)?;
@@ -105,6 +254,7 @@ fn push_moment(
         &mut changes,
         alloc,
         entries,
+        batch.first,
         dump.strings,
         place.named,
         named,
@@ -118,17 +268,19 @@ fn push_moment(
     })
 }
 
-/// The first entry from an index on that has not begun by now.
-fn begun_until(entries: &[Entry], next: usize, now: u64) -> usize
-    requires order { StandsFrom 0 (map entry_of entries.now) }
+/// The first entry from an index on that has not begun by now, where entries are in order.
+fn begun_until(entries: &[Entry], batch: Batch, next: usize, now: u64) -> usize
+    requires order { IsTrue batch.is_in_order → StandsFrom 0 (map entry_of entries.now) }
     requires next { next ≤ length entries.now }
     ensures to_come { AreToCome now (drop result (map entry_of entries.now)) }
     ensures after { next ≤ result }
     ensures bound { result ≤ length entries.now }
 {
-    for place in next..entries.len() {
-        if now < entries[place].begin() {
-            return place;
+    if batch.is_in_order {
+        for place in next..entries.len() {
+            if now < entries[place].begin() {
+                return place;
+            }
         }
     }
     entries.len()
@@ -275,23 +427,25 @@ fn push_level(changes: &mut Vec<u8>, before: Level, level: Level) -> Result<(), 
     push_pieces(changes, &[Piece::Text(digit(level)), Piece::Text(b"b\n")])
 }
 
-/// Appends the name of the entry that is on the bus, if it is another one than before and there are strings.
+/// Appends the name of the entry that is on the bus, if it is another one than before and there are strings. The first of
+/// the entries has an index.
 fn push_named(
     changes: &mut Vec<u8>,
     alloc: Global,
     entries: &[Entry],
+    first: usize,
     strings: Strings,
     before: Option<usize>,
     named: Option<usize>,
 ) -> Result<(), AllocError>
     ensures { OnOk result (changes.new.items
-        ≡ changes.old.items ++ vcd.name_change strings (map entry_of entries.now) before named) }
+        ≡ changes.old.items ++ vcd.name_change strings first (map entry_of entries.now) before named) }
 {
     if strings == Strings::LeftOut || before == named {
         return Ok(());
     }
     changes.extend_from_slice(b"s")?;
-    push_name_at(changes, alloc, entries, named)?;
+    push_name_at(changes, alloc, entries, first, named)?;
     changes.extend_from_slice(b" s\n")
 }
 
@@ -300,14 +454,18 @@ fn push_name_at(
     changes: &mut Vec<u8>,
     alloc: Global,
     entries: &[Entry],
+    first: usize,
     named: Option<usize>,
 ) -> Result<(), AllocError>
     ensures { OnOk result (changes.new.items
-        ≡ changes.old.items ++ vcd.name_of (vcd.named_entry (map entry_of entries.now) named)) }
+        ≡ changes.old.items ++ vcd.name_of (vcd.named_entry first (map entry_of entries.now) named)) }
 {
     match named {
-        Some(place) if place < entries.len() => push_name(changes, alloc, &entries[place]),
-        _ => changes.extend_from_slice(b"-"),
+        Some(place) => match entries.get(place.saturating_sub(first)) {
+            Some(entry) => push_name(changes, alloc, entry),
+            None => changes.extend_from_slice(b"-"),
+        },
+        None => changes.extend_from_slice(b"-"),
     }
 }
 

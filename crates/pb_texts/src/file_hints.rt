@@ -81,7 +81,7 @@ fn bad_version(document: &Document<'_>) -> Result<String, AllocError> {
     if document.has_repeats() {
         return document.at(
             found.spot,
-            "version 3 is read by stream (its audit by --audit), capture, bounds, monitor, and export to json, pcap and pcapng; wanted here: 1 or 2, without 'every' and 'count'",
+            "version 3 is read by stream (its audit by --audit), capture, export, bounds and monitor; wanted here: 1 or 2, without 'every' and 'count'",
         );
     }
     let text = found.text_or("the version");
@@ -223,7 +223,7 @@ fn no_repeat(document: &Document<'_>, section: Section, key: &str) -> Option<&'s
         Section::Step(_) if is_of_repeats => Some(if document.has_repeats() {
             "'count' says how often a step repeats; wanted: 'every' too, after how many bit times"
         } else {
-            "a step repeats in version 3 alone, which stream, capture, bounds, monitor, and export to json, pcap and pcapng read; write version = 3"
+            "a step repeats in version 3 alone, which stream, capture, export, bounds and monitor read; write version = 3"
         }),
         _ => None,
     }

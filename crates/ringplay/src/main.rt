@@ -16,11 +16,14 @@ use looking_on::{ErrorLines, ProgressLine, Shown, Terminals};
 use pb_cli::{
     Ask, AskFault, Asked, Bus, CliFault, CountedReader, CountedWriter, Flush, Options, Settled,
     Status, VERSION, ask_with_options, audit_stream_file, audit_with_reasons, bounds_file, bus_of,
-    capture_file, decode_lines, export_capture, export_file, export_stream, monitor, play,
-    read_input, stream_file, write_out,
+    capture_file, decode_lines, draw_stream, export_capture, export_file, export_stream, monitor,
+    play, read_input, stream_file, write_out,
 };
-use pb_export::{CaptureExport, Export, StreamExport};
-use pb_texts::{MOST_EVENTS, explain, explain_audit, explain_bus, explain_settling, warn};
+use pb_export::{CaptureExport, Export, StreamExport, Window};
+use pb_scenario::ScenarioFault;
+use pb_texts::{
+    MOST_EVENTS, described, explain, explain_audit, explain_bus, explain_settling, warn,
+};
 use std::alloc::{AllocError, Global};
 use std::fmt::Display;
 use std::fs::Files;
@@ -273,7 +276,7 @@ fn export<T: AllocGlobal + Clock + Eprint + Files + Input + Print>(
 {
     match export.streamed() {
         Some(streamed) => export_as_it_settles(rt, path, &streamed, shown_when, is_quiet),
-        None => export_whole(rt, path, export, is_quiet),
+        None => export_picture(rt, path, export, shown_when, is_quiet),
     }
 }
 
@@ -327,25 +330,61 @@ fn hint_of<T: AllocGlobal + Eprint>(
     }
 }
 
-/// `ringplay export FILE` in a form that needs the whole trace, to standard output; hints go to standard error.
-fn export_whole<T: AllocGlobal + Eprint + Files + Input + Print>(
+/// `ringplay export FILE --to svg`, to standard output; hints go to standard error. A file of version 1 or 2 has no picture
+/// where its run is refused. Any other is drawn up to the event that is refused.
+fn export_picture<T: AllocGlobal + Clock + Eprint + Files + Input + Print>(
     rt: &T,
     path: &str,
     export: &Export,
+    shown_when: Shown,
     is_quiet: bool,
 ) -> Result<Status, CliFault>
     requires { IsBaud export.now.baud }
 {
     let file = scenario_file(rt, path, is_quiet)?;
-    let mut reader = CountedReader::new(file.as_slice());
+    match described(rt.alloc(), &file) {
+        Ok(_) => export_whole(rt, path, &file, export, is_quiet),
+        Err(ScenarioFault::NoMemory) => Err(CliFault::NoMemory),
+        Err(_) => draw(rt, path, &file, export.window, shown_when, is_quiet),
+    }
+}
+
+/// The picture of a scenario whose steps do not repeat.
+fn export_whole<T: AllocGlobal + Eprint + Print>(
+    rt: &T,
+    path: &str,
+    file: &[u8],
+    export: &Export,
+    is_quiet: bool,
+) -> Result<Status, CliFault>
+    requires { IsBaud export.now.baud }
+{
+    let mut reader = CountedReader::new(file);
     let mut writer = CountedWriter::new(io::writer(rt));
     let status = export_file(rt.alloc(), &mut reader, &mut writer, export)?;
     if let Status::Refused = status
         && !is_quiet
     {
-        hint(rt, explain(rt.alloc(), shown(path), &file, None));
+        hint(rt, explain(rt.alloc(), shown(path), file, None));
     }
     Ok(status)
+}
+
+/// The picture of a scenario whose steps may repeat. Progress, and the line of an event that is refused, go to standard
+/// error.
+fn draw<T: AllocGlobal + Clock + Eprint + Print>(
+    rt: &T,
+    path: &str,
+    file: &[u8],
+    window: Window,
+    shown_when: Shown,
+    is_quiet: bool,
+) -> Result<Status, CliFault> {
+    let mut writer = CountedWriter::new(io::writer(rt));
+    let mut line = ProgressLine::new(rt, shown_when);
+    let answer = draw_stream(rt.alloc(), file, window, &mut writer, &mut line);
+    line.end();
+    Ok(settled(rt, path, file, &answer?, is_quiet))
 }
 
 /// `ringplay stream FILE`, to standard output; progress and hints go to standard error.

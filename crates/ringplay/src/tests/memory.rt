@@ -5,7 +5,7 @@ use pb_cli::{
     AskFault, CliFault, CountedReader, CountedWriter, Observer, Status, ask, audit_stream_file,
     capture_file, decode_lines, export_stream,
 };
-use pb_export::{LATEST, Link, StreamExport, StreamForm, Window};
+use pb_export::{LATEST, Link, StreamExport, StreamForm, Strings, Window};
 use std::alloc::AllocGlobal;
 use std::io;
 use std::io::Write;
@@ -28,6 +28,28 @@ step = [
 
 /// What an audit of it finds.
 const FOUND: &[u8] = b"premises kept\ntrace legal\n";
+
+/// A dump of its first moment, at which the bus is idle.
+const IDLE: &[u8] = b"$version ringplay $end
+$timescale 1 ns $end
+$scope module ringplay $end
+$var wire 1 b bus $end
+$var string 1 s telegram $end
+$scope module stations $end
+$var wire 1 t0 a $end
+$var wire 1 t1 b $end
+$upscope $end
+$upscope $end
+$enddefinitions $end
+#0
+$dumpvars
+1b
+s- s
+1t0
+1t1
+$end
+#0
+";
 
 /// What the second hears of it.
 const HEARD: &[u8] = b"800 833 dc0101\ngap\n890 903 --\n940 1006 100201494c16\n";
@@ -151,8 +173,23 @@ fn refused_memory_in_an_export_of_a_stream(rt: HostRuntime) {
         },
         baud: 1_500_000,
         link: Link::User,
+        strings: Strings::Shown,
     };
     let mut writer = wanting(PACKETS);
+    let answer = export_stream(rt.alloc(), RING, &export, &mut writer, &mut Blind);
+    is_whole_or_refused(&rt, answer.map(|settled| settled.status), &writer);
+}
+
+#[test]
+fn refused_memory_in_a_dump(rt: HostRuntime) {
+    let export = StreamExport {
+        form: StreamForm::Vcd,
+        window: Window { from: 0, until: 0 },
+        baud: 1_500_000,
+        link: Link::User,
+        strings: Strings::Shown,
+    };
+    let mut writer = wanting(IDLE);
     let answer = export_stream(rt.alloc(), RING, &export, &mut writer, &mut Blind);
     is_whole_or_refused(&rt, answer.map(|settled| settled.status), &writer);
 }

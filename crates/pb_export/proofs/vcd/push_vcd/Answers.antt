@@ -1,10 +1,10 @@
-use Rattle.std.proofs.Common.{◌≡◌, ◌∙◌, ◌++◌, ℕ, List, ap, sym, length, map}
-use Rattle.std.proofs.lemmas.List.{length-map}
+use Rattle.std.proofs.Common.{subst, map}
 use Rattle.pb_medium.specs.Entries.{entry_of}
-use Rattle.pb_taps.specs.Taps.{spec_of}
-use Rattle.pb_texts.proofs.Pieces.{front, last, more}
-use Rattle.pb_export.specs.Times.{last_moment}
-use Rattle.pb_export.specs.Vcd.{idle, stamp, variables, waves}
+use Rattle.pb_texts.proofs.Pieces.{front, last}
+use Rattle.pb_export.specs.declared.dumps.Dump.{Dump}
+use Rattle.pb_export.specs.Vcd.{vcd_body, vcd_head}
+use Rattle.pb_export.specs.Waves.{IsBegun, waves_from}
+use Rattle.pb_export.proofs.InPieces.{begun-waves}
 use Rattle.pb_export.proofs.vcd.push_vcd.Goals as goal
 
 pub returns : goal.returns
@@ -14,21 +14,10 @@ returns c =
     let baud = c.args.baud in
     let strings = c.args.strings in
     let es = map entry_of c.args.entries.now in
+    let x : Dump = record { window = w; baud = baud; strings = strings } in
     let text = c.args.text.now.items in
-    let end = last_moment w s.scenario.until es in
-    let is_end : c.last_moment-last.result ≡ end = c.last_moment-last.ensures.value ∙ ap (λ (u : ℕ). last_moment w u es) c.until.ensures.until in
-    let taps : length c.taps.result.now ≡ length s.scenario.taps = sym (length-map c.taps.result.now spec_of) ∙ ap length c.taps.ensures.specs in
-    let q0 : List ℕ = variables strings s in
-    let q1 : List ℕ = q0 ++ stamp baud w.from in
-    let q2 : List ℕ = q1 ++ idle strings (length s.scenario.taps) in
-    let q3 : List ℕ = q2 ++ waves baud strings w es end in
-    let s1 : c.push_stamp.new.text.items ≡ text ++ q1 =
-    more text c.push_variables.new.text.items c.push_stamp.new.text.items q0 (stamp baud w.from) c.in_ok-push_variables.ensures c.in_ok-push_stamp.ensures in
-    let s2 : c.push_idle.new.text.items ≡ text ++ q2 =
-    more text c.push_stamp.new.text.items c.push_idle.new.text.items q1 (idle strings (length s.scenario.taps)) s1
-    (c.in_ok-push_idle.ensures ∙ ap (λ (n : ℕ). c.push_stamp.new.text.items ++ idle strings n) taps) in
-    let s3 : c.push_waves.new.text.items ≡ text ++ q3 =
-    more text c.push_idle.new.text.items c.push_waves.new.text.items q2 (waves baud strings w es end) s2
-    (c.in_ok-push_waves.ensures ∙ ap (λ (n : ℕ). c.push_idle.new.text.items ++ waves baud strings w es n) is_end) in
-    front c.push_stamp-2.result text c.push_waves.new.text.items c.push_stamp-2.new.text.items q3 (stamp baud end) s3
-    (last c.push_stamp-2.result c.push_waves.new.text.items c.push_stamp-2.new.text.items (stamp baud c.last_moment-last.result) (stamp baud end) (ap (stamp baud) is_end) c.push_stamp-2.ensures)
+    let until = s.scenario.until in
+    let same = begun-waves x until c.begun.result es (subst (λ u. IsBegun w u c.begun.result) c.until.ensures.until c.begun.ensures) in
+    front c.push_rest.result text c.push_head.new.text.items c.push_rest.new.text.items (vcd_head baud strings w s) (vcd_body baud strings w until es)
+    c.in_ok-push_head.ensures
+    (last c.push_rest.result c.push_head.new.text.items c.push_rest.new.text.items (waves_from x c.begun.result es) (vcd_body baud strings w until es) same c.push_rest.ensures)

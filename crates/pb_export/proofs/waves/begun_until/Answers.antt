@@ -10,4 +10,4 @@ returns-then-now-begin-clause-to_come c =
     let i = c.loop-place.place in
     let e = c.index-entries-place.result in
     let here = item-at entry_of entries i e (omega (arith, c.loop-place-test.true)) c.index-entries-place.is in
-    come-at c.args.now i (map entry_of entries) (entry_of e) c.requires.order here (subst (λ n. c.args.now < n) c.begin.ensures c.if-now-begin.true)
+    come-at c.args.now i (map entry_of entries) (entry_of e) (c.requires.order c.if-batch.true) here (subst (λ n. c.args.now < n) c.begin.ensures c.if-now-begin.true)

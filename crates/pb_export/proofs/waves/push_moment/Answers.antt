@@ -1,4 +1,4 @@
-use Rattle.std.proofs.Common.{◌≡◌, ◌∙◌, ◌-◌, ◌++◌, ℕ, List, None, Option, ap, sym, map}
+use Rattle.std.proofs.Common.{◌≡◌, ◌∙◌, ◌+◌, ◌-◌, ◌++◌, ℕ, List, None, Option, ap, sym, map}
 use Rattle.std.specs.Prelude.{drop, take}
 use Rattle.std.specs.List.{flat_map}
 use Rattle.law_model.specs.Trace.{Entry}
@@ -24,8 +24,8 @@ returns-clause-named c =
     let entries = c.args.entries.now in
     let first = c.over_until-first.result in
     let next = c.begun_until-next.result in
-    c.named_in-named.ensures ∙ ap (λ (z : List Entry). named_from c.args.dump.window c.args.now first None z) (part_of (next - first) first entries)
-    ∙ sym (named-seen c.args.dump.window c.args.now first next (map entry_of entries) c.over_until-first.ensures.bound c.over_until-first.ensures.over c.begun_until-next.ensures.to_come)
+    c.named_in-named.ensures ∙ ap (λ (z : List Entry). named_from c.args.dump.window c.args.now (c.args.batch.first + first) None z) (part_of (next - first) first entries)
+    ∙ sym (named-seen c.args.dump.window c.args.now c.args.batch.first first next (map entry_of entries) c.over_until-first.ensures.bound c.over_until-first.ensures.over c.begun_until-next.ensures.to_come)
 
 pub returns-clause-text : goal.returns-clause-text
 returns-clause-text c =
@@ -47,7 +47,8 @@ returns-clause-text c =
     c.in_ok-push_level.ensures ∙ ap (λ (z : List ℕ). z ++ level_change place.level level) s0
     ∙ ap (λ (l : Level). lines ++ level_change place.level l) (returns-clause-level c) in
     let strings = c.args.dump.strings in
-    let s2 : c.push_named.new.changes.items ≡ lines ++ level_change place.level (bus_at w es t) ++ name_change strings es place.named (named_at w es t) =
-    c.in_ok-push_named.ensures ∙ ap (λ (z : List ℕ). z ++ name_change strings es place.named named) s1
-    ∙ ap (λ (n : Option ℕ). lines ++ level_change place.level (bus_at w es t) ++ name_change strings es place.named n) (returns-clause-named c) in
+    let base = c.args.batch.first in
+    let s2 : c.push_named.new.changes.items ≡ lines ++ level_change place.level (bus_at w es t) ++ name_change strings base es place.named (named_at w base es t) =
+    c.in_ok-push_named.ensures ∙ ap (λ (z : List ℕ). z ++ name_change strings base es place.named named) s1
+    ∙ ap (λ (n : Option ℕ). lines ++ level_change place.level (bus_at w es t) ++ name_change strings base es place.named n) (returns-clause-named c) in
     c.in_ok-push_stamped.ensures ∙ ap (λ (z : List ℕ). c.args.text.now.items ++ stamped c.args.dump.baud t z) (c.deref.ensures.value ∙ s2)

@@ -1,13 +1,11 @@
 use Rattle.std.proofs.Common.{◌≡◌, ◌∙◌, ap, ◌++◌, ℕ, List}
-use Rattle.std.specs.Prelude.{codes}
 use Rattle.std.specs.Prelude.{◌-◌}
 use Rattle.std.proofs.Common.{length, map}
 use Rattle.pb_medium.specs.Entries.{entry_of}
 use Rattle.pb_export.specs.Svg.{band, boxes, head, left_out}
 use Rattle.pb_export.specs.Lanes.{lanes_text}
-use Rattle.pb_export.specs.Marks.{marks_text}
-use Rattle.pb_texts.proofs.Pieces.{front, more, octets}
-use Rattle.pb_export.proofs.svg.push_picture.Goals as goal
+use Rattle.pb_texts.proofs.Pieces.{front, more}
+use Rattle.pb_export.proofs.svg.push_trace.Goals as goal
 
 pub returns : goal.returns
 returns c =
@@ -22,19 +20,12 @@ returns c =
     let p2 : List ℕ = lanes_text s sheet lanes in
     let p3 : List ℕ = band s sheet es in
     let p4 : List ℕ = boxes w s sheet lanes es in
-    let p5 : List ℕ = marks_text s sheet lanes in
-    let p6 : List ℕ = codes "</svg>\n" in
     let q0 : List ℕ = p0 in
     let q1 : List ℕ = q0 ++ p1 in
     let q2 : List ℕ = q1 ++ p2 in
     let q3 : List ℕ = q2 ++ p3 in
-    let q4 : List ℕ = q3 ++ p4 in
-    let q5 : List ℕ = q4 ++ p5 in
-    let q6 : List ℕ = q5 ++ p6 in
     let s0 : c.push_head.new.text.items ≡ text ++ q0 = c.in_ok-push_head.ensures in
     let s1 : c.push_left_out.new.text.items ≡ text ++ q1 = more text c.push_head.new.text.items c.push_left_out.new.text.items q0 p1 s0 (c.in_ok-push_left_out.ensures ∙ ap (λ (z : List ℕ). c.push_head.new.text.items ++ z) (ap left_out c.left_out.ensures)) in
     let s2 : c.push_lanes.new.text.items ≡ text ++ q2 = more text c.push_left_out.new.text.items c.push_lanes.new.text.items q1 p2 s1 (c.in_ok-push_lanes.ensures) in
     let s3 : c.push_band.new.text.items ≡ text ++ q3 = more text c.push_lanes.new.text.items c.push_band.new.text.items q2 p3 s2 (c.in_ok-push_band.ensures) in
-    let s4 : c.push_boxes.new.text.items ≡ text ++ q4 = more text c.push_band.new.text.items c.push_boxes.new.text.items q3 p4 s3 (c.in_ok-push_boxes.ensures) in
-    let s5 : c.push_marks.new.text.items ≡ text ++ q5 = more text c.push_boxes.new.text.items c.push_marks.new.text.items q4 p5 s4 (c.in_ok-push_marks.ensures) in
-    front c.extend_from_slice.result text c.push_marks.new.text.items c.extend_from_slice.new.self.items q5 p6 s5 (octets c.extend_from_slice.result c.push_marks.new.text.items c.extend_from_slice.new.self.items p6 c.extend_from_slice.ensures.items)
+    front c.push_boxes.result text c.push_band.new.text.items c.push_boxes.new.text.items q3 p4 s3 c.push_boxes.ensures

@@ -1,10 +1,9 @@
 -- The latest end so far, and what follows.
 use Rattle.std.proofs.Common.{◌≡◌, map, drop}
-use Rattle.std.specs.Prelude.{min, max}
 use Rattle.pb_medium.specs.Entries.{entry_of}
 use Rattle.pb_export.specs.Times.{last_end}
-use Rattle.pb_export.proofs.times.last_moment.Given as goal
+use Rattle.pb_export.proofs.times.last_end.Given as goal
 
 abbrev pub invariant-loop-entry : goal.invariant-loop-entry
 invariant-loop-entry l =
-    last_end l.window l.last (map entry_of (drop l.entry-index l.entries)) ≡ last_end l.window (max l.window.from (min l.window.until l.until)) (map entry_of l.entries)
+    last_end l.window l.last (map entry_of (drop l.entry-index l.entries)) ≡ last_end l.window l.moment (map entry_of l.entries)
