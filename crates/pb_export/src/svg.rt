@@ -1,12 +1,12 @@
 //! A trace as a picture.
 
 ghost use Rattle.std.specs.Prelude.{◌≡◌, ◌≤◌, ◌-◌, ◌++◌, OnOk, length, map};
-ghost use Rattle.pb_scenario.specs.Repeats.{AreSteady, stream_until};
-ghost use Rattle.pb_export.specs.Marks.{happenings_in};
 ghost use Rattle.law_runs.specs.Judging.{StandsFrom};
 ghost use Rattle.pb_medium.specs.Entries.{entry_of};
+ghost use Rattle.pb_scenario.specs.Repeats.{AreSteady, stream_until};
 ghost use Rattle.std.specs.List.{flat_map};
 ghost use Rattle.pb_export.specs.Boxes.{entry_box, tenure_box};
+ghost use Rattle.pb_export.specs.Marks.{happenings_in};
 ghost use Rattle.pb_export.specs.Windows.{if_shown};
 ghost use Rattle.pb_export.specs.Svg as svg;
 
