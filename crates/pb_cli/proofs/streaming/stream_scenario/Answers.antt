@@ -1,10 +1,10 @@
-use Rattle.std.proofs.Common.{Option, subst, rules}
+use Rattle.std.proofs.Common.{Option, refl, subst, rules}
 use Rattle.std.specs.Io.KnownBytes.{Appends}
 use Rattle.law_streams.specs.Streams.{stream_limit, stream_within}
 use Rattle.pb_scenario.specs.Repeats.{unrolled}
 use Rattle.pb_cli.specs.Streaming.{StepsOn}
 use Rattle.pb_cli.specs.declared.faults.Status.{Status}
-use Rattle.pb_cli.proofs.Written.{ends, goes_on, no_world}
+use Rattle.pb_cli.proofs.Written.{begins, ends, goes_on, no_world}
 use Rattle.pb_cli.proofs.streaming.stream_scenario.Goals as goal
 
 pub returns-in-Err-clause-text : goal.returns-in-Err-clause-text
@@ -22,6 +22,15 @@ returns-in-Some-clause-text g c =
     let after = g.W.Sink.contents c.step.new.writer in
     ends c.args.scenario.now.once.names whole c.loop-text.stream (g.W.Sink.contents c.args.writer.now) mid after c.in-Some.status c.loop-text.invariant.streams
     (subst (λ (o : Option Status). StepsOn c.loop-text.stream c.step.new.stream mid after o) c.in-Some.is c.in_ok-ended.ensures.steps)
+
+pub loop-text-init : goal.loop-text-init
+loop-text-init g c =
+    let v = c.args.scenario.now in
+    record {
+      streams = begins v.once.names (stream_within stream_limit (unrolled c.args.until v)) c.in-Ok.stream (g.W.Sink.contents c.args.writer.now)
+          c.in-Ok.ensures.rest c.in-Ok.ensures.ready c.in-Ok.ensures.names;
+      unfailed = refl;
+    }
 
 pub loop-text-preserved : goal.loop-text-preserved
 loop-text-preserved g c =
