@@ -182,6 +182,7 @@ fn a_dump_settles_in_pieces(rt: HostRuntime) -> Result<(), Fail> {
         let settled = exported_in(&rt, LONG, StreamForm::Vcd, window);
         let export = Export {
             window,
+            baud: 1_500_000,
             ..whole(Form::Vcd)
         };
         equal(
@@ -261,6 +262,7 @@ fn a_picture_has_each_happening(rt: HostRuntime) -> Result<(), Fail> {
         } = drawn(&rt, REPEATS, window);
         let export = Export {
             window,
+            baud: 1_500_000,
             ..whole(Form::Svg)
         };
         equal(
