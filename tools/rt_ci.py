@@ -42,7 +42,8 @@ def main():
 
 
 def loaded():
-    """The kit's rt, as a module."""
+    """The kit's rt, as a module. Nothing is written beside it."""
+    sys.dont_write_bytecode = True
     loader = importlib.machinery.SourceFileLoader("rt", str(RT))
     rt = importlib.util.module_from_spec(importlib.util.spec_from_loader("rt", loader))
     loader.exec_module(rt)
