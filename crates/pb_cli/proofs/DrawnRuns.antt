@@ -27,9 +27,10 @@ use Rattle.pb_export.specs.declared.options.Window.{Window}
 use Rattle.pb_cli.proofs.RunKeeps.{Ends, Keeps, run-keeps}
 use Rattle.pb_cli.proofs.Written.{some_map}
 use Rattle.pb_cli.specs.Settling.{IsOfRun, Says}
-use Rattle.pb_cli.specs.StreamDrawing.{AreInOrder, DrawsRun, DrawsScenario, HasEnded, drawn_of}
+use Rattle.pb_cli.specs.StreamDrawing.{AreInOrder, DrawsRun, DrawsScenario, HasEnded, drawn_of, moment_of, up_to}
 use Rattle.pb_cli.specs.declared.faults.Status.TheVariants.{Refused}
 use Rattle.pb_cli.specs.declared.settled.Settled.{Settled}
+use Rattle.pb_cli.specs.declared.stream_drawing.Ending.{Ending}
 
 -- ---- the order of entries
 
@@ -53,14 +54,14 @@ in-order s limit = from-in-order s (new_world_within limit s.params s.taps) (λ 
 -- ---- an instant
 
 pub at_refusal : (old next : Stream) (clock : ℕ) (f : WorldFault) (ended : Settled) → HasPlayed (progress.Refused clock f) old next → f ≢ fault.NoMemory
-    → ended.status ≡ Refused → ended.line.items ≡ refused_line f clock → HasEnded old next ended
+    → ended.status ≡ Refused → ended.line.items ≡ refused_line f clock → HasEnded old next (record { settled = ended; refused_at = Some clock })
 at_refusal old next clock f ended rest told status line =
-    world_fault-of f (λ (n : WorldFault). ended.line.items ≡ refused_line n clock → HasEnded old next ended)
+    world_fault-of f (λ (n : WorldFault). ended.line.items ≡ refused_line n clock → HasEnded old next (record { settled = ended; refused_at = Some clock }))
     (some_map _ _ (model_fault f) by rest) told line
   where
     by : (g : model.Fault) → rest_of old ≡ Some (record { entries = kept_of next; fault = Some (At clock g) })
-        → ended.line.items ≡ refused_line (world_fault g) clock → HasEnded old next ended
-    by g whole is = (Some (At clock g), whole, tt, (status, is))
+        → ended.line.items ≡ refused_line (world_fault g) clock → HasEnded old next (record { settled = ended; refused_at = Some clock })
+    by g whole is = (Some (At clock g), whole, tt, (status, is), refl)
 
 -- ---- a run
 
@@ -72,16 +73,23 @@ pub record Goes (whole : Option Streamed) (stream : Stream) : Type 0 where
 pub goes_on : (whole : Option Streamed) (stream next : Stream) → Goes whole stream → StillHas stream next → Goes whole next
 goes_on whole stream next i still = record { rest = i.rest ∙ still.rest; ready = still.ready }
 
-pub ends : (old stream next : Stream) (ended : Settled) → Goes (rest_of old) stream → HasEnded stream next ended → HasEnded old next ended
-ends old stream next ended i (fault, rest, of_run, says) = (fault, i.rest ∙ rest, of_run, says)
+pub ends : (old stream next : Stream) (ended : Ending) → Goes (rest_of old) stream → HasEnded stream next ended → HasEnded old next ended
+ends old stream next ended i (fault, rest, of_run, says, moment) = (fault, i.rest ∙ rest, of_run, says, moment)
 
-pub draws : (w : Window) (s : StreamView) (old next : Stream) (before after : Option (List ℕ)) (ended : Settled) → HasEnded old next ended
-    → Appends before after (stream_svg_text w s (kept_of next)) → DrawsRun w s (rest_of old) before after ended
-draws w s old next before after ended (fault, rest, of_run, says) written = (record { entries = kept_of next; fault = fault }, rest, written, of_run, says)
+pub draws : (w : Window) (s : StreamView) (old next : Stream) (before after : Option (List ℕ)) (ended : Ending) → HasEnded old next ended
+    → Appends before after (stream_svg_text (up_to w ended.refused_at) s (kept_of next)) → DrawsRun w s (rest_of old) before after ended.settled
+draws w s old next before after ended (fault, rest, of_run, says, moment) written = (
+  record { entries = kept_of next; fault = fault },
+  rest,
+  subst (λ (m : Option ℕ). Appends before after (stream_svg_text (up_to w m) s (kept_of next))) moment written,
+  of_run,
+  says,
+)
 
 -- ---- a scenario
 
-drawn-same : (w : Window) (s : StreamView) (stream : Streamed) (fault : Option RunFault) → IsOfRun fault → stream_svg_text w s stream.entries ≡ drawn_of w s stream.entries fault
+drawn-same : (w : Window) (s : StreamView) (stream : Streamed) (fault : Option RunFault) → IsOfRun fault
+    → stream_svg_text (up_to w (moment_of fault)) s stream.entries ≡ drawn_of w s stream.entries fault
 drawn-same w s stream None of_run = refl
 drawn-same w s stream (Some (At clock f)) of_run = refl
 drawn-same w s stream (Some (New f)) of_run = absurd of_run

@@ -3,7 +3,7 @@
 ghost use Rattle.std.specs.Prelude.{◌≡◌, ◌≢◌, Err, IfOk};
 ghost use Rattle.pb_texts.specs.Files.{stream_scenario_of};
 ghost use Rattle.pb_stream.specs.Streams.{IsStreaming, rest_of};
-ghost use Rattle.pb_cli.specs.StreamDrawing.{AreInOrder, DrawsFile, DrawsRun, DrawsScenario, HasEnded, Plays};
+ghost use Rattle.pb_cli.specs.StreamDrawing.{AreInOrder, DrawsFile, DrawsRun, DrawsScenario, HasEnded, Plays, up_to};
 
 use crate::faults::CliFault;
 use crate::progress::Observer;
@@ -16,8 +16,16 @@ use pb_stream::{Progress, Stream};
 use pb_texts::{StreamScenario, described_stream, new_line, refused_file, refused_line};
 use std::alloc::{AllocError, Global};
 
+/// How a run has ended.
+#[derive(Debug, Drop)]
+struct Ending {
+    settled: Settled,
+    /// When an event was refused, in bit times, if one was.
+    refused_at: Option<u64>,
+}
+
 /// Plays a scenario file of any version up to its end, and writes a picture of its trace. Where an event is refused, the
-/// picture has the entries up to it. Where the file or a new world is refused, the line of that fault is written in place of
+/// picture ends there. Where the file or a new world is refused, the line of that fault is written in place of
 /// a picture. After each instant `observer` is told how far the run is.
 ///
 /// On `Ok` the writer holds the picture of all entries of the run within 10^12, and the status is `Refused` exactly if there
@@ -86,10 +94,24 @@ fn draw_run<W: Sink, O: Observer>(
     ensures writer_failed { result ≢ Err CliFault.Write → W.failures writer.new ≡ W.failures writer.old }
 {
     let ended = play_out(alloc, &mut stream, scenario.until(), observer)?;
+    let shown = shown_of(window, ended.refused_at);
     let mut picture = Vec::new(alloc);
-    push_stream_svg(&mut picture, alloc, scenario, stream.entries(), window)?;
+    push_stream_svg(&mut picture, alloc, scenario, stream.entries(), shown)?;
     write_out(writer, &picture)?;
-    Ok(ended)
+    Ok(ended.settled)
+}
+
+/// What of a window a run has up to the moment at which an event was refused, if one was.
+fn shown_of(window: Window, refused_at: Option<u64>) -> Window
+    ensures { result ≡ up_to window refused_at }
+{
+    match refused_at {
+        Some(moment) => Window {
+            from: window.from,
+            until: window.until.min(moment),
+        },
+        None => window,
+    }
 }
 
 /// Plays a stream to its end, and keeps all entries.
@@ -98,31 +120,35 @@ fn play_out<O: Observer>(
     stream: &mut Stream<'_>,
     until: u64,
     observer: &mut O,
-) -> Result<Settled, AllocError>
+) -> Result<Ending, AllocError>
     requires { IsStreaming stream.old }
     ensures { IfOk result (HasEnded stream.old stream.new) }
 {
     loop {
         let ended = play(alloc, stream)?;
-        let status = ended.as_ref().map(|settled| settled.status);
+        let status = ended.as_ref().map(|ending| ending.settled.status);
         observer.observe(played_up_to(stream, status, until), until);
         match ended {
-            Some(settled) => return Ok(settled),
+            Some(ending) => return Ok(ending),
             None => {}
         }
     }
 }
 
 /// Plays an instant, and keeps all entries. Returns how the run has ended, if it has.
-fn play(alloc: Global, stream: &mut Stream<'_>) -> Result<Option<Settled>, AllocError>
+fn play(alloc: Global, stream: &mut Stream<'_>) -> Result<Option<Ending>, AllocError>
     requires { IsStreaming stream.old }
     ensures { IfOk result (Plays stream.old stream.new) }
 {
     match stream.play(alloc)? {
         Progress::Goes => Ok(None),
-        Progress::Ended => Ok(Some(done(alloc))),
-        Progress::Refused { clock, fault } => {
-            Ok(Some(refused(refused_line(alloc, fault, clock)?)))
-        }
+        Progress::Ended => Ok(Some(Ending {
+            settled: done(alloc),
+            refused_at: None,
+        })),
+        Progress::Refused { clock, fault } => Ok(Some(Ending {
+            settled: refused(refused_line(alloc, fault, clock)?),
+            refused_at: Some(clock),
+        })),
     }
 }

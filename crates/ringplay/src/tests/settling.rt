@@ -304,13 +304,13 @@ fn a_picture_leaves_what_happens_behind_it(rt: HostRuntime) -> Result<(), Fail> 
     Ok(())
 }
 
-/// Where an event is refused, the picture has the entries before it, and its line is returned.
+/// Where an event is refused, at 3000, the picture ends, and its line is returned.
 #[test]
 fn a_picture_ends_before_a_refused_event(rt: HostRuntime) -> Result<(), Fail> {
     let Ending { answer, writer, .. } = drawn(&rt, STOPS, WINDOW);
     let text = std::str::from_utf8(writer.writer())?;
     assert!(rt; text.contains("<title>800 833 a dc0101 -w") && text.ends_with("</svg>\n"));
-    assert!(rt; text.contains("<title>3000: start b</title>"));
+    assert!(rt; text.contains(">3000<") && !text.contains(">3500<"));
     let ended = answer.expect(&rt, "a picture");
     equal(&rt, &ended.status, &Status::Refused);
     equal(&rt, &ended.line.as_slice(), &REFUSED);
