@@ -27,8 +27,10 @@ KNOWN = "rattle-kit-13b "
 # How far each kind of task stands back behind the check that most wait for (niceness), and its jobs.
 BACK = {"proof": 5, "tests": 10, "edits": 15}
 JOBS = {"proof": 2, "tests": 2, "edits": 1}
-# What must stay free of memory, and what part of rt's estimate a check takes in fact, with each further job.
-SPARE, PART, PART_OF_JOB = 2_000_000_000, 0.4, 0.1
+# What must stay free of memory, and what part of rt's estimate a check takes in fact, and with each further job.
+SPARE = 2_000_000_000
+PART = {"proof": 0.4, "tests": 0.6, "edits": 0.5}
+PART_OF_JOB = 0.1
 
 
 def main():
@@ -74,7 +76,7 @@ def in_order(tasks):
         first = max(proofs, key=behind.get, default=None)
         for key in [it for it in left if all(below in given for below in tasks[it][0])]:
             jobs = processors if key == first else JOBS[key[1]]
-            needs = tasks[key][2] * (PART + PART_OF_JOB * (jobs - 1))
+            needs = tasks[key][2] * (PART[key[1]] + PART_OF_JOB * (jobs - 1))
             room = free() - sum(needs for _, needs in running.values()) / 2
             if not running or len(running) <= processors and needs <= room:
                 left.remove(key)

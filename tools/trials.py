@@ -25,8 +25,10 @@ from verdicts import Kind
 UNREADY = re.compile(r"rattle: .*\.rlib\b")
 # How often it is asked again, with so many seconds between.
 PATIENCE, PAUSE = 60, 5
-# How long a check may take. Beside the gate's other work, one that looks at a few dozen functions takes some minutes.
-SECONDS = 3600
+# How long a check may take. Until the longest chain of crates is proved it gets little of the processors.
+SECONDS = 9000
+# How far it stands back behind the checks of rt ci (niceness).
+BACK = "12"
 
 
 class Trials:
@@ -112,7 +114,7 @@ class Trials:
             edits.apply(together, crate)
             only = [word for it in together if it.target for word in ("--only", f"{name}::{it.target}")]
             for _ in range(PATIENCE):
-                lines, taken = output(["nice", "-n", "19", *self.repository.check(name), *only], crate, self.longest)
+                lines, taken = output(["nice", "-n", BACK, *self.repository.check(name), *only], crate, self.longest)
                 self.seconds[name] += taken
                 if lines is None or not any(map(UNREADY.match, lines)):
                     break
