@@ -4,7 +4,7 @@
     tools/rt_ci.py
 
 What is checked, by which words, and what is said of it is rt's own: its file is loaded as a module. With kit 13b two things in it are
-set, since it takes over three hours for this tree without them: what it asks again and again of the graph of crates it computes once
+set, since it is not done in three hours for this tree without them: what it asks again and again of the graph of crates it computes once
 (it follows each path of crates.txt, 67,000 from ringplay), and the crate with the longest chain of others behind it gets every
 processor that it can use, while others run on what it leaves. With another kit it is 'rt ci' as it is.
 """
