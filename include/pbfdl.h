@@ -96,7 +96,7 @@ enum fdl_code {
     FDL_ZERO_TIME = 85,         /* 0 bit times */
     FDL_TOO_FAR = 86,           /* the clock would be past the next end on the bus; or noise of 2^32 bit times or more */
     FDL_CLOCK_FULL = 87,        /* the clock would be over 1,000,000,000,000 */
-    FDL_TRACE_FULL = 90,        /* the trace has 100,000 entries */
+    FDL_TRACE_FULL = 90,        /* the trace has as many entries as the bus was made for */
 
     /* Why a monitor refuses a call. */
     FDL_NO_MONITOR = 91,        /* the monitor is empty */
@@ -431,7 +431,7 @@ struct fdl_entry {
     uint64_t end;        /* when it ends: the first moment after it */
     bool noise;          /* whether it is noise; then the fields below have no meaning */
     uint8_t tap;         /* the tap that sent it */
-    uint8_t count;       /* how many octets it has */
+    uint8_t count;       /* how many octets it has, also those that a stop of its speaker cut off */
     uint8_t octets[255]; /* the octets; those from count on have no meaning */
     uint8_t heard[127];  /* an fdl_heard for each tap */
 };
