@@ -1,6 +1,6 @@
 //! What was on the bus from one moment to another.
 
-use pb_telegram::{Telegram, TelegramFault};
+use pb_telegram::{ACKNOWLEDGEMENT, TOKEN_START, Telegram, TelegramFault};
 
 /// Activity on the bus from one moment to another, with nothing before or after it.
 #[derive(Debug, PartialEq, Eq, Drop)]
@@ -20,6 +20,36 @@ impl Burst {
             begin: 0,
             end: 0,
             telegram: Err(TelegramFault::Empty),
+        }
+    }
+}
+
+/// Rooms for the next burst by its first octet: a telegram is mostly written over one of its form, which is cheaper than to
+/// replace one of another form.
+#[derive(Drop)]
+pub(crate) struct Rooms {
+    tokens: Burst,
+    acknowledgements: Burst,
+    others: Burst,
+}
+
+impl Rooms {
+    /// Nothing is in the rooms.
+    pub(crate) fn new() -> Rooms {
+        Rooms {
+            tokens: Burst::none(),
+            acknowledgements: Burst::none(),
+            others: Burst::none(),
+        }
+    }
+
+    /// The room for a burst of these octets.
+    #[inline(always)]
+    pub(crate) fn room(&mut self, octets: &[u8]) -> &mut Burst {
+        match octets {
+            [TOKEN_START, ..] => &mut self.tokens,
+            [ACKNOWLEDGEMENT, ..] => &mut self.acknowledgements,
+            _ => &mut self.others,
         }
     }
 }

@@ -3,12 +3,12 @@
 ghost use Rattle.std.specs.Prelude.{◌≡◌, ◌<◌, ◌≤◌, [], length, IfOk};
 ghost use Rattle.pb_telegram.specs.Grammar.{spelling};
 
-use crate::bursts::Burst;
+use crate::bursts::{Burst, Rooms};
 use crate::cutting::{Cut, cut_front};
 use crate::heard_bursts::Known;
 use crate::lines::When;
 use crate::monitors::Monitor;
-use crate::pcap::{Item, PACKET_HEAD, Part, PcapFault, Stamp};
+use crate::pcap::{Heads, Item, PACKET_HEAD, Part, PcapFault, Stamp};
 use crate::reports::{push_refused, put_content};
 use crate::spelled::octets_of;
 use crate::texts::{push_number, put, put_number};
@@ -52,17 +52,19 @@ impl Monitor {
     fn cut_octets(&mut self, bytes: &[u8], text: &mut Vec<u8>) -> Result<(), AllocError>
         requires { 0 < length bytes.now → self.old.cutter ≡ [] }
     {
-        let mut burst = Burst::none();
+        let mut rooms = Rooms::new();
         let mut left = bytes;
-        while let Some(front) = cut_front(left, &mut self.receiver, &mut burst.telegram) {
+        while !left.is_empty() {
+            let burst = rooms.room(left);
+            let Some(front) = cut_front(left, &mut self.receiver, &mut burst.telegram) else {
+                self.cutter.append(left);
+                return Ok(());
+            };
             match front.cut {
-                Cut::Whole => self.hear_cut(&burst, &left[..front.count], text)?,
+                Cut::Whole => self.hear_cut(burst, &left[..front.count], text)?,
                 Cut::Skipped(_) => self.pass_octet(),
             }
             left = &left[front.count..];
-        }
-        if !left.is_empty() {
-            self.cutter.append(left);
         }
         Ok(())
     }
@@ -161,23 +163,44 @@ impl Monitor {
         bytes: &[u8],
         text: &mut Vec<u8>,
     ) -> Result<(), AllocError> {
-        let mut burst = Burst::none();
+        let mut rooms = Rooms::new();
         let mut left = bytes;
         while !left.is_empty() {
-            if let Some(whole) = self.packets.next_whole(left) {
-                let packet = &left[PACKET_HEAD..];
-                let octets = &packet[..whole.count];
-                if self.kept.is_wanted() {
-                    self.kept.note_octets(octets);
-                }
-                self.hear_packet(Some(whole.stamp), octets, &mut burst, text)?;
-                left = &packet[whole.count..];
-            } else {
-                let taken = self.feed_part(left, &mut burst, text)?;
+            if let Some(heads) = self.packets.heads() {
+                let taken = self.hear_packets(heads, left, &mut rooms, text)?;
+                self.packets.pass(taken);
+                left = &left[taken..];
+            }
+            if !left.is_empty() {
+                let taken = self.feed_part(left, &mut rooms, text)?;
                 left = &left[taken..];
             }
         }
         Ok(())
+    }
+
+    /// Hears the packets of a pcap file that are there whole at the front of some octets, and returns how many octets they
+    /// have.
+    fn hear_packets(
+        &mut self,
+        heads: Heads,
+        octets: &[u8],
+        rooms: &mut Rooms,
+        text: &mut Vec<u8>,
+    ) -> Result<usize, AllocError>
+        ensures { IfOk result (λ taken. taken ≤ length octets.now) }
+    {
+        let mut place = 0;
+        while let Some(whole) = heads.whole(&octets[place..]) {
+            let first = place + PACKET_HEAD;
+            place = first + whole.count;
+            let octets = &octets[first..place];
+            if self.kept.is_wanted() {
+                self.kept.note_octets(octets);
+            }
+            self.hear_packet(whole.stamp, octets, rooms, text)?;
+        }
+        Ok(place)
     }
 
     /// Reads the next part of a file of packets from some octets, and returns how many it took.
@@ -185,7 +208,7 @@ impl Monitor {
     fn feed_part(
         &mut self,
         octets: &[u8],
-        burst: &mut Burst,
+        rooms: &mut Rooms,
         text: &mut Vec<u8>,
     ) -> Result<usize, AllocError>
         requires { 0 < length octets.now }
@@ -199,9 +222,11 @@ impl Monitor {
         let taken = step.taken;
         match step.item {
             Some(Item::Packet(stamp)) if step.is_whole => {
-                self.hear_packet(stamp, &octets[..taken], burst, text)?
+                self.place = self.place.saturating_add(1);
+                let when = self.when(stamp);
+                self.hear_rare_octets(when, &octets[..taken], rooms, text)?
             }
-            Some(item) => self.hear_item(item, burst, text)?,
+            Some(item) => self.hear_item(item, text)?,
             None => {}
         }
         Ok(taken)
@@ -223,36 +248,33 @@ impl Monitor {
 
     /// A packet whose octets the receiver was fed, or something that is refused.
     #[inline(never)]
-    pub(crate) fn hear_item(
-        &mut self,
-        item: Item,
-        burst: &mut Burst,
-        text: &mut Vec<u8>,
-    ) -> Result<(), AllocError> {
+    pub(crate) fn hear_item(&mut self, item: Item, text: &mut Vec<u8>) -> Result<(), AllocError> {
         match item {
             Item::Packet(stamp) => {
                 self.place = self.place.saturating_add(1);
                 let when = self.when(stamp);
-                self.hear_fed(when, burst, text)
+                self.hear_fed(when, text)
             }
             Item::Refused(offset, fault) => self.refuse_packet(offset, fault, text),
         }
     }
 
     /// A packet of these octets.
+    #[inline(always)]
     fn hear_packet(
         &mut self,
-        stamp: Option<Stamp>,
+        stamp: Stamp,
         octets: &[u8],
-        burst: &mut Burst,
+        rooms: &mut Rooms,
         text: &mut Vec<u8>,
     ) -> Result<(), AllocError> {
         self.place = self.place.saturating_add(1);
-        let when = self.when(stamp);
-        self.hear_octets(when, octets, burst, text)
+        let when = self.when(Some(stamp));
+        self.hear_octets(when, octets, rooms, text)
     }
 
     /// When a packet was on the bus, as far as the file says.
+    #[inline(always)]
     fn when(&mut self, stamp: Option<Stamp>) -> When {
         match (stamp, self.options.baud) {
             (Some(stamp), Some(baud)) => When::From(self.moment_of(stamp, baud)),
@@ -261,10 +283,23 @@ impl Monitor {
     }
 
     /// The moment of a time, in bit times since the first packet: the nearest one, since a file's times are rounded down.
+    #[inline(always)]
     fn moment_of(&mut self, stamp: Stamp, baud: u32) -> u64 {
+        if let Some(origin) = self.near_origin
+            && let Some(bits) = near_bits_of(stamp, baud)
+        {
+            return bits.saturating_sub(origin);
+        }
+        self.far_moment_of(stamp, baud)
+    }
+
+    /// The same, of any time.
+    #[inline(never)]
+    fn far_moment_of(&mut self, stamp: Stamp, baud: u32) -> u64 {
         let bits = bits_of(stamp, baud);
         let origin = self.origin.unwrap_or(bits);
         self.origin = Some(origin);
+        self.near_origin = u64::try_from(origin).ok();
         bits.saturating_sub(origin).min(u128::from(u64::MAX)) as u64
     }
 
@@ -289,15 +324,20 @@ impl Monitor {
 
 /// How many bit times a time is behind the file's epoch: the nearest number.
 fn bits_of(stamp: Stamp, baud: u32) -> u128 {
-    let per_second = stamp.per_second.max(1);
-    if let Some(ticks) = stamp.ticks.checked_mul(u64::from(baud))
-        && let Some(ticks) = ticks.checked_add(per_second / 2)
-    {
-        return u128::from(ticks / per_second);
+    if let Some(bits) = near_bits_of(stamp, baud) {
+        return u128::from(bits);
     }
     let ticks = u128::from(stamp.ticks) * u128::from(baud);
-    let per_second = u128::from(per_second);
+    let per_second = u128::from(stamp.per_second.max(1));
     (ticks + per_second / 2) / per_second
+}
+
+/// The same, if no step of it overflows 64 bits.
+#[inline(always)]
+fn near_bits_of(stamp: Stamp, baud: u32) -> Option<u64> {
+    let per_second = stamp.per_second.max(1);
+    let ticks = u64::try_from(u128::from(stamp.ticks) * u128::from(baud)).ok()?;
+    Some(ticks.checked_add(per_second / 2)? / per_second)
 }
 
 /// Appends the line of a telegram at an offset.

@@ -12,9 +12,9 @@ ghost use Rattle.pb_monitor.specs.Judging.{StandsFor};
 use crate::alarms::{Alarm, Classes};
 use crate::bursts::Burst;
 use crate::holders::{Holder, named_holder};
-use crate::judging::alarm;
-use crate::meanings::{Meaning, meaning_in};
-use crate::states::{State, behind};
+use crate::judging::judged;
+use crate::meanings::{InitiatorTelegram, Meaning, meaning_in};
+use crate::states::{State, hear, silence_before};
 use pb_timers::BusParams;
 use std::marker::Model;
 
@@ -92,31 +92,57 @@ impl Judge {
     }
 
     /// What is wrong with the telegram of the next burst, by its meaning.
+    #[inline(always)]
     pub(crate) fn alarm(&self, burst: &Burst, meaning: Meaning) -> Option<Alarm>
         ensures { result ≡ judge.alarm_by self.now.params self.now.slack self.now.classes self.now.since
             self.now.state burst.now.begin meaning }
     {
-        alarm(
+        match meaning {
+            Meaning::Initiator(telegram) if telegram.is_claim => {
+                self.alarm_of_claim(burst.begin, telegram)
+            }
+            // When the last long silence was counts of claims alone.
+            Meaning::Initiator(telegram) => judged(
+                &self.params,
+                self.slack,
+                self.classes,
+                self.since,
+                self.state,
+                burst.begin,
+                telegram,
+            ),
+            Meaning::Reply | Meaning::NoTelegram => None,
+        }
+    }
+
+    /// What is wrong with a claim. It may end a silence.
+    #[inline(never)]
+    fn alarm_of_claim(&self, begin: u64, telegram: InitiatorTelegram) -> Option<Alarm>
+        ensures { result ≡ judge.judged self.now.params self.now.slack self.now.classes self.now.since
+            (judge.silence_before self.now.params self.now.state begin) begin telegram }
+    {
+        judged(
             &self.params,
             self.slack,
             self.classes,
             self.since,
-            self.state,
-            burst.begin,
-            meaning,
+            silence_before(&self.params, self.state, begin),
+            begin,
+            telegram,
         )
     }
 
     /// Keeps what the next burst tells, by its meaning.
+    #[inline(always)]
     pub(crate) fn keep(&mut self, burst: &Burst, meaning: Meaning)
         ensures { self.new ≡ record (self.old) {
           state = judge.behind_by self.old.params self.old.slack self.old.state burst.now.begin burst.now.end meaning;
         } }
     {
-        self.state = behind(
+        hear(
+            &mut self.state,
             &self.params,
             self.slack,
-            self.state,
             burst.begin,
             burst.end,
             meaning,

@@ -4,33 +4,13 @@ ghost use Rattle.std.specs.Prelude.{◌≡◌, Some};
 ghost use Rattle.pb_monitor.specs.Judge as judge;
 
 use crate::alarms::{Alarm, Classes};
-use crate::meanings::{InitiatorTelegram, Meaning};
-use crate::states::{LastHeard, State, is_past_live, is_sooner, silence_before};
+use crate::meanings::InitiatorTelegram;
+use crate::states::{LastHeard, State, is_past_live, is_sooner};
 use pb_timers::BusParams;
 
-/// The alarm that a burst raises which begins at a moment.
-pub(crate) fn alarm(
-    params: &BusParams,
-    slack: u32,
-    classes: Classes,
-    since: u64,
-    state: State,
-    begin: u64,
-    meaning: Meaning,
-) -> Option<Alarm>
-    ensures { result ≡ judge.alarm_by params.now slack classes since state begin meaning }
-{
-    match meaning {
-        Meaning::Initiator(telegram) => {
-            let state = silence_before(params, state, begin);
-            judged(params, slack, classes, since, state, begin, telegram)
-        }
-        Meaning::Reply | Meaning::NoTelegram => None,
-    }
-}
-
 /// The alarm that a token or a request raises.
-fn judged(
+#[inline(always)]
+pub(crate) fn judged(
     params: &BusParams,
     slack: u32,
     classes: Classes,
@@ -47,9 +27,12 @@ fn judged(
     if classes.loss && is_past_live(params, slack, state.quiet, begin) {
         return Some(lost_alarm(telegram));
     }
-    let illegal = judged_last(params, slack, state.last, begin, telegram);
-    let timing = taking_last(params, slack, state.last, begin, telegram);
-    chosen(classes, illegal, timing)
+    match judged_last(params, slack, state.last, begin, telegram) {
+        Some(alarm) if classes.legality => Some(alarm),
+        Some(_) => None,
+        None if classes.timing => taking_last(params, slack, state.last, begin, telegram),
+        None => None,
+    }
 }
 
 /// Whether it is a claim, before which its speaker may have had silence for its time-out.
@@ -70,16 +53,6 @@ fn may_claim(
         && (begin < u128::from(since) + (ttd + timeout + slack)
             || (begin <= u128::from(state.silent_to) + (ttd + slack)
                 && u128::from(state.silent_from) + timeout <= begin + slack))
-}
-
-/// The alarm of legality, if there is one, else that of timing; each only if its class was chosen.
-fn chosen(classes: Classes, illegal: Option<Alarm>, timing: Option<Alarm>) -> Option<Alarm>
-    ensures { result ≡ judge.chosen classes illegal timing }
-{
-    match illegal {
-        Some(alarm) => if classes.legality { Some(alarm) } else { None },
-        None => if classes.timing { timing } else { None },
-    }
 }
 
 /// The alarm of a telegram after the loss of the token.
@@ -104,6 +77,7 @@ fn or_claim(telegram: InitiatorTelegram, alarm: Alarm) -> Option<Alarm>
 }
 
 /// What is illegal about a telegram after the last one, as far as that is known.
+#[inline(always)]
 fn judged_last(
     params: &BusParams,
     slack: u32,
@@ -122,6 +96,7 @@ fn judged_last(
 }
 
 /// What is illegal about a telegram after a token to another station.
+#[inline(always)]
 fn judged_offer(
     params: &BusParams,
     slack: u32,
@@ -159,6 +134,7 @@ fn judged_passing(params: &BusParams, slack: u32, last: LastHeard, begin: u64) -
 }
 
 /// What is wrong about the moment at which an offered token is taken, if a telegram takes it.
+#[inline(always)]
 fn taking_last(
     params: &BusParams,
     slack: u32,
@@ -178,6 +154,7 @@ fn taking_last(
 }
 
 /// What is wrong about the moment at which an offered token is taken.
+#[inline(always)]
 fn judged_taking(params: &BusParams, slack: u32, last: LastHeard, begin: u64) -> Option<Alarm>
     ensures { result ≡ judge.judged_taking params.now slack last begin }
 {

@@ -1,6 +1,6 @@
 //! Reads lines of a capture: `BEGIN END HEX`, `BEGIN HEX` or `HEX`.
 
-ghost use Rattle.std.specs.Prelude.{◌≤◌, length, IfSome};
+ghost use Rattle.std.specs.Prelude.{◌<◌, ◌≤◌, ◌*◌, length, IfSome};
 ghost use Rattle.pb_monitor.specs.Lines.{IsInRoom};
 
 use crate::reports::push_refused;
@@ -120,6 +120,95 @@ pub(crate) fn push_line_fault(
     push_refused(text, b"line", number)?;
     fault.push(text)?;
     text.extend_from_slice(b"\n")
+}
+
+/// A line `BEGIN END HEX` whose characters are undamaged.
+#[derive(Clone, Copy, Debug)]
+pub(crate) struct TimedLine {
+    pub(crate) begin: u64,
+    pub(crate) end: u64,
+    /// How many octets it has, at most 255.
+    pub(crate) count: usize,
+    /// How many bytes it has, with its end.
+    pub(crate) taken: usize,
+}
+
+/// Reads the line that begins some bytes and puts its octets into the room, if it ends in them and is `BEGIN END HEX` with
+/// single spaces, as most lines are: what `read_line` and `read_hex` do, in one pass. `None` for any other line.
+#[inline(always)]
+pub(crate) fn timed_line(bytes: &[u8], room: &mut [u8; LONGEST_TELEGRAM]) -> Option<TimedLine>
+    ensures count { IfSome result (λ line. line.count ≤ 255) }
+    ensures some { IfSome result (λ line. 0 < line.taken) }
+    ensures within { IfSome result (λ line. line.taken ≤ length bytes.now) }
+{
+    let begin = moment_before_space(bytes)?;
+    let rest = &bytes[begin.digits + 1..];
+    let end = moment_before_space(rest)?;
+    let hex = &rest[end.digits + 1..];
+    let count = octets_before_end(hex, room)?;
+    let length = begin.digits + end.digits + 2 * count + 2;
+    if count == 0 || end.bits <= begin.bits || length > LONGEST_LINE {
+        return None;
+    }
+    Some(TimedLine {
+        begin: begin.bits,
+        end: end.bits,
+        count,
+        taken: length + 1,
+    })
+}
+
+/// A moment at the front of some bytes.
+#[derive(Clone, Copy, Debug)]
+struct Moment {
+    bits: u64,
+    digits: usize,
+}
+
+/// The moment at the front of some bytes, with a space behind it, if no sum overflows.
+#[inline(always)]
+fn moment_before_space(bytes: &[u8]) -> Option<Moment>
+    ensures { IfSome result (λ moment. moment.digits < length bytes.now) }
+{
+    let mut bits: u64 = 0;
+    for place in 0..bytes.len() {
+        let digit = bytes[place].wrapping_sub(b'0');
+        if digit > 9 {
+            if place == 0 || bytes[place] != b' ' {
+                return None;
+            }
+            return Some(Moment {
+                bits,
+                digits: place,
+            });
+        }
+        if bits >= MOST_BEFORE_A_DIGIT {
+            return None;
+        }
+        bits = bits * 10 + u64::from(digit);
+    }
+    None
+}
+
+/// How many undamaged characters, at most 255, the hex at the front of some bytes spells, if the line ends behind it. They are
+/// then in the room.
+#[inline(always)]
+fn octets_before_end(bytes: &[u8], room: &mut [u8; LONGEST_TELEGRAM]) -> Option<usize>
+    ensures count { IfSome result (λ count. count ≤ 255) }
+    ensures within { IfSome result (λ count. 2 * count < length bytes.now) }
+{
+    let most = (bytes.len() / 2).min(LONGEST_TELEGRAM);
+    for place in 0..most {
+        match character(bytes[2 * place], bytes[2 * place + 1]) {
+            Some(RxChar::Good(octet)) => room[place] = octet,
+            _ if bytes[2 * place] == b'\n' => return Some(place),
+            _ => return None,
+        }
+    }
+    if 2 * most < bytes.len() && bytes[2 * most] == b'\n' {
+        return Some(most);
+    }
+    None
 }
 
 /// Reads a line without its end.

@@ -3,6 +3,7 @@
 ghost use Rattle.std.specs.Prelude.{◌≡◌, ℕ, List, Ok};
 ghost use Rattle.law_turn.specs.Arrivals.{Token, Framed};
 ghost use Rattle.pb_monitor.specs.Meanings.{arrival_in, meaning_of};
+ghost use Rattle.pb_monitor.specs.declared.meanings.Meaning.TheVariants.{Initiator};
 
 use pb_telegram::{Fc, Telegram, TelegramFault};
 
@@ -43,7 +44,7 @@ fn told_by(telegram: &Telegram) -> Meaning
     ensures { result ≡ meaning_of (arrival_in (Ok telegram.now)) }
 {
     match telegram {
-        Telegram::Token(token) => passes(token.da, token.sa),
+        Telegram::Token(token) => Meaning::Initiator(passed(token.da, token.sa)),
         Telegram::Short(short) => asks(short.sa, short.fc),
         Telegram::Var(var) => asks(var.sa, var.fc),
         Telegram::Fixed8(fixed) => asks(fixed.sa, fixed.fc),
@@ -51,15 +52,16 @@ fn told_by(telegram: &Telegram) -> Meaning
     }
 }
 
-/// What a token means.
-fn passes(da: u8, sa: u8) -> Meaning
-    ensures { result ≡ meaning_of (Token da sa) }
+/// What a token says of the token.
+#[inline(always)]
+pub(crate) fn passed(da: u8, sa: u8) -> InitiatorTelegram
+    ensures { Initiator result ≡ meaning_of (Token da sa) }
 {
-    Meaning::Initiator(InitiatorTelegram {
+    InitiatorTelegram {
         source: sa,
         offered: if da == sa { None } else { Some(da) },
         is_claim: da == sa,
-    })
+    }
 }
 
 /// What a telegram with a control octet means.

@@ -6,13 +6,14 @@ ghost use Rattle.pb_monitor.specs.Lines.{IsTold};
 
 use crate::alarms::Alarm;
 use crate::buffers::LineBuffer;
-use crate::bursts::Burst;
+use crate::bursts::{Burst, Rooms};
 use crate::cutting::Cutter;
 use crate::formats::{Form, Options};
 use crate::heard_bursts::{HeardBurst, Kept, Known, Named, bits, named_before};
 use crate::judges::Judge;
 use crate::lines::{
-    Characters, LONGEST_TELEGRAM, Line, LineFault, Told, When, push_line_fault, read_hex, read_line,
+    Characters, LONGEST_TELEGRAM, Line, LineFault, TimedLine, Told, When, push_line_fault,
+    read_hex, read_line, timed_line,
 };
 use crate::meanings::{Meaning, meaning_in};
 use crate::orders::{Order, Wrong};
@@ -52,6 +53,8 @@ pub struct Monitor {
     pub(crate) skipped: u64,
     /// When the first packet came, in bit times since the file's epoch.
     pub(crate) origin: Option<u128>,
+    /// The same, if it has 64 bits.
+    pub(crate) near_origin: Option<u64>,
     /// The end of the last burst with moments, if nothing was missed since.
     pub(crate) quiet: Option<u64>,
     /// When the next summary is due.
@@ -61,7 +64,7 @@ pub struct Monitor {
 }
 
 impl Monitor {
-    ghost use Rattle.std.specs.Prelude.{◌≡◌, ◌≤◌, ◌||◌, nat_lt, [], true, IfSome, MatchOption, None};
+    ghost use Rattle.std.specs.Prelude.{◌≡◌, ◌<◌, ◌≤◌, ◌||◌, nat_lt, [], length, true, IfSome, MatchOption, None};
 
     /// A monitor of a bus with these parameters. Without parameters it decodes and counts, and judges nothing.
     ///
@@ -86,6 +89,7 @@ impl Monitor {
             place: 0,
             skipped: 0,
             origin: None,
+            near_origin: None,
             quiet: None,
             due: None,
             apart: None,
@@ -113,7 +117,7 @@ impl Monitor {
             },
             Form::Raw => self.end_octets(text)?,
             Form::Pcap => if let Some(item) = self.packets.end() {
-                self.hear_item(item, &mut Burst::none(), text)?;
+                self.hear_item(item, text)?;
             },
         }
         self.statistics.close();
@@ -192,20 +196,70 @@ impl Monitor {
 
     fn feed_lines(&mut self, bytes: &[u8], text: &mut Vec<u8>) -> Result<(), AllocError> {
         let mut room = [0; LONGEST_TELEGRAM];
-        let mut burst = Burst::none();
-        for piece in bytes.lines_with_terminator() {
-            match piece.strip_suffix(b"\n") {
-                Some(line) if self.lines.is_empty() => {
-                    self.hear_line(line, &mut room, &mut burst, text)?
-                }
+        let mut rooms = Rooms::new();
+        let is_kept = self.kept.is_wanted();
+        let mut left = bytes;
+        while !left.is_empty() {
+            let timed = if is_kept || !self.lines.is_empty() {
+                None
+            } else {
+                timed_line(left, &mut room)
+            };
+            let taken = match timed {
                 Some(line) => {
-                    self.lines.keep(line)?;
-                    self.end_line(text)?;
+                    self.hear_timed_line(line, &room, &mut rooms, text)?;
+                    line.taken
                 }
-                None => self.lines.keep(piece)?,
-            }
+                None => self.feed_line(left, &mut room, &mut rooms, text)?,
+            };
+            left = &left[taken..];
         }
         Ok(())
+    }
+
+    /// A line comes that gives both moments and spells these octets.
+    #[inline(always)]
+    fn hear_timed_line(
+        &mut self,
+        line: TimedLine,
+        room: &[u8; LONGEST_TELEGRAM],
+        rooms: &mut Rooms,
+        text: &mut Vec<u8>,
+    ) -> Result<(), AllocError>
+        requires { line.count ≤ 255 }
+    {
+        self.place = self.place.saturating_add(1);
+        let when = When::Within {
+            begin: line.begin,
+            end: line.end,
+        };
+        self.hear_octets(when, &room[..line.count], rooms, text)
+    }
+
+    /// Reads the next line, or what has come of it, and returns how many bytes it took.
+    #[inline(never)]
+    fn feed_line(
+        &mut self,
+        bytes: &[u8],
+        room: &mut [u8; LONGEST_TELEGRAM],
+        rooms: &mut Rooms,
+        text: &mut Vec<u8>,
+    ) -> Result<usize, AllocError>
+        requires { 0 < length bytes.now }
+        ensures some { IfOk result (λ taken. 0 < taken) }
+        ensures within { IfOk result (λ taken. taken ≤ length bytes.now) }
+    {
+        let Some(end) = bytes.find_byte(b'\n') else {
+            self.lines.keep(bytes)?;
+            return Ok(bytes.len());
+        };
+        if self.lines.is_empty() {
+            self.hear_line(&bytes[..end], room, rooms, text)?;
+        } else {
+            self.lines.keep(&bytes[..end])?;
+            self.end_line(text)?;
+        }
+        Ok(end + 1)
     }
 
     /// The line that came in pieces ends.
@@ -213,7 +267,7 @@ impl Monitor {
     fn end_line(&mut self, text: &mut Vec<u8>) -> Result<(), AllocError> {
         self.place = self.place.saturating_add(1);
         let mut room = [0; LONGEST_TELEGRAM];
-        let mut burst = Burst::none();
+        let mut rooms = Rooms::new();
         let line = match self.lines.line() {
             Some(line) => read_line(line),
             None => Line::Refused(LineFault::TooLong),
@@ -227,15 +281,15 @@ impl Monitor {
             text,
         )?;
         self.lines.restart();
-        self.hear_told(told, &room, &mut burst, text)
+        self.hear_told(told, &room, &mut rooms, text)
     }
 
-    /// A whole line comes. `room` and `burst` are overwritten.
+    /// A whole line comes. `room` and `rooms` are overwritten.
     fn hear_line(
         &mut self,
         line: &[u8],
         room: &mut [u8; LONGEST_TELEGRAM],
-        burst: &mut Burst,
+        rooms: &mut Rooms,
         text: &mut Vec<u8>,
     ) -> Result<(), AllocError> {
         self.place = self.place.saturating_add(1);
@@ -247,14 +301,14 @@ impl Monitor {
             &mut self.kept,
             text,
         )?;
-        self.hear_told(told, room, burst, text)
+        self.hear_told(told, room, rooms, text)
     }
 
     fn hear_told(
         &mut self,
         told: Told,
         room: &[u8; LONGEST_TELEGRAM],
-        burst: &mut Burst,
+        rooms: &mut Rooms,
         text: &mut Vec<u8>,
     ) -> Result<(), AllocError>
         requires { IsTold told }
@@ -270,39 +324,50 @@ impl Monitor {
                 Ok(())
             }
             Told::Burst(when, Characters::Octets(count)) => {
-                self.hear_octets(when, &room[..count], burst, text)
+                self.hear_rare_octets(when, &room[..count], rooms, text)
             }
-            Told::Burst(when, Characters::Fed) => self.hear_fed(when, burst, text),
+            Told::Burst(when, Characters::Fed) => self.hear_fed(when, text),
         }
     }
 
-    /// A burst of these octets has come. `burst` is overwritten.
+    /// A burst of these octets has come, outside of the loops in which most come.
+    #[inline(never)]
+    pub(crate) fn hear_rare_octets(
+        &mut self,
+        when: When,
+        octets: &[u8],
+        rooms: &mut Rooms,
+        text: &mut Vec<u8>,
+    ) -> Result<(), AllocError> {
+        self.hear_octets(when, octets, rooms, text)
+    }
+
+    /// A burst of these octets has come. `rooms` is overwritten.
+    #[inline(always)]
     pub(crate) fn hear_octets(
         &mut self,
         when: When,
         octets: &[u8],
-        burst: &mut Burst,
+        rooms: &mut Rooms,
         text: &mut Vec<u8>,
     ) -> Result<(), AllocError> {
+        let burst = rooms.room(octets);
         read_octets(octets, &mut self.receiver, &mut burst.telegram);
         self.hear_when(when, burst, octets, octets.len() as u64, text)
     }
 
-    /// A burst of the characters that the receiver was fed has come. `burst` is overwritten.
+    /// A burst of the characters that the receiver was fed has come.
     #[inline(never)]
-    pub(crate) fn hear_fed(
-        &mut self,
-        when: When,
-        burst: &mut Burst,
-        text: &mut Vec<u8>,
-    ) -> Result<(), AllocError> {
+    pub(crate) fn hear_fed(&mut self, when: When, text: &mut Vec<u8>) -> Result<(), AllocError> {
+        let mut burst = Burst::none();
         burst.telegram = self.receiver.answer();
         let octets = octets_of(&burst.telegram);
         let count = self.receiver.fed();
-        self.hear_when(when, burst, &octets, count, text)
+        self.hear_when(when, &mut burst, &octets, count, text)
     }
 
     /// A burst of so many characters has come. These are the octets of its telegram, if it has one.
+    #[inline(always)]
     fn hear_when(
         &mut self,
         when: When,
@@ -353,6 +418,7 @@ impl Monitor {
 
     /// A burst with moments, of so many characters. These are the octets of its telegram, if it has one. One that begins
     /// before the end of the last one is told, and heard as the first of all.
+    #[inline(always)]
     fn hear_timed(
         &mut self,
         burst: &Burst,
@@ -372,6 +438,23 @@ impl Monitor {
         if self.kept.is_wanted() {
             return self.keep_timed(burst, count, text);
         }
+        self.begin_judging(burst.begin);
+        if let Some(judge) = &mut self.judge {
+            let meaning = meaning_in(&burst.telegram);
+            if judge.alarm(burst, meaning).is_some() {
+                return self.hear_wrong(burst, text);
+            }
+            judge.keep(burst, meaning);
+        }
+        if self.is_told() {
+            self.push_burst(burst, text)?;
+        }
+        self.summarize(burst.end, text)
+    }
+
+    /// A burst that raises an alarm.
+    #[inline(never)]
+    fn hear_wrong(&mut self, burst: &Burst, text: &mut Vec<u8>) -> Result<(), AllocError> {
         let raised = self.judge(burst);
         if self.is_told() {
             self.push_burst(burst, text)?;
@@ -421,14 +504,19 @@ impl Monitor {
         self.summarize(burst.end, text)
     }
 
-    /// The alarm that a burst raises. The judge listens since the first burst that it hears.
-    fn judge(&mut self, burst: &Burst) -> Option<Raised> {
+    /// The judge listens since the first burst that it hears, which begins at a moment.
+    fn begin_judging(&mut self, begin: u64) {
         if self.judge.is_none()
             && let Some(params) = &self.params
         {
             let Options { classes, slack, .. } = self.options;
-            self.judge = Some(Judge::new(params, slack, classes, burst.begin));
+            self.judge = Some(Judge::new(params, slack, classes, begin));
         }
+    }
+
+    /// The alarm that a burst raises.
+    fn judge(&mut self, burst: &Burst) -> Option<Raised> {
+        self.begin_judging(burst.begin);
         let judge = self.judge.as_mut()?;
         let meaning = meaning_in(&burst.telegram);
         let raised = match judge.alarm(burst, meaning) {
@@ -505,10 +593,22 @@ impl Monitor {
     }
 
     /// Appends a summary if one is due.
+    #[inline(always)]
     fn summarize(&mut self, moment: u64, text: &mut Vec<u8>) -> Result<(), AllocError> {
-        let Some(every) = self.options.every else {
-            return Ok(());
-        };
+        match self.options.every {
+            Some(every) => self.summarize_every(every, moment, text),
+            None => Ok(()),
+        }
+    }
+
+    /// Appends a summary if so many bit times have passed.
+    #[inline(never)]
+    fn summarize_every(
+        &mut self,
+        every: u64,
+        moment: u64,
+        text: &mut Vec<u8>,
+    ) -> Result<(), AllocError> {
         let due = self.due.unwrap_or(moment.saturating_add(every));
         self.due = Some(due);
         if moment < due {

@@ -182,35 +182,26 @@ impl Packets {
         }
     }
 
-    /// The next packet of a pcap file, if its head and all its octets are the front of some octets.
-    #[inline(always)]
-    pub(crate) fn next_whole(&mut self, octets: &[u8]) -> Option<Whole>
-        ensures { IfSome result (λ whole. 16 + whole.count ≤ length octets.now) }
-    {
-        if self.part != Part::PacketHead || !self.head.is_empty() || octets.len() < PACKET_HEAD {
+    /// How the heads of the packets of a pcap file are read, if the next octet begins one.
+    pub(crate) fn heads(&self) -> Option<Heads> {
+        if self.part != Part::PacketHead || !self.head.is_empty() {
             return None;
         }
-        let count = self.long(octets, 8) as usize;
-        if octets.len() - PACKET_HEAD < count {
-            return None;
-        }
-        let stamp = self.stamp_in(octets);
-        self.stamp = Some(stamp);
-        self.offset = self.offset.saturating_add((PACKET_HEAD + count) as u64);
-        self.start = self.offset;
-        Some(Whole { stamp, count })
+        Some(self.file_heads())
     }
 
-    /// The time in the head of a packet of a pcap file.
-    #[inline(always)]
-    fn stamp_in(&self, head: &[u8]) -> Stamp {
-        let (seconds, parts) = (u64::from(self.long(head, 0)), u64::from(self.long(head, 4)));
-        Stamp {
-            ticks: seconds
-                .saturating_mul(self.per_second)
-                .saturating_add(parts),
-            per_second: self.per_second,
+    /// How the heads of the packets of a pcap file are read.
+    fn file_heads(&self) -> Heads {
+        Heads {
+            is_big: self.is_big,
+            is_nano: self.per_second == NANOS,
         }
+    }
+
+    /// Packets of so many octets, with their heads, were read by other means.
+    pub(crate) fn pass(&mut self, octets: usize) {
+        self.offset = self.offset.saturating_add(octets as u64);
+        self.start = self.offset;
     }
 
     /// Reads the front of some octets, at most until a packet or a head ends. There is at least one.
@@ -396,15 +387,7 @@ impl Packets {
     /// The number of four octets of a head, from an index on.
     #[inline(always)]
     pub(crate) fn long(&self, head: &[u8], place: usize) -> u32 {
-        let octets = match head.get(place..) {
-            Some([first, second, third, fourth, ..]) => [*first, *second, *third, *fourth],
-            _ => [0; 4],
-        };
-        if self.is_big {
-            u32::from_be_bytes(octets)
-        } else {
-            u32::from_le_bytes(octets)
-        }
+        long_in(head, place, self.is_big)
     }
 
     /// The number of two octets of a head, from an index on.
@@ -473,7 +456,7 @@ impl Packets {
 
     /// A packet of a pcap file comes.
     fn end_packet_head(&mut self, head: &[u8], receiver: &mut Receiver) -> Option<Item> {
-        self.stamp = Some(self.stamp_in(head));
+        self.stamp = Some(self.file_heads().stamp(head));
         let octets = u64::from(self.long(head, 8));
         self.begin_packet(octets, true, receiver)
     }
@@ -496,6 +479,65 @@ impl Packets {
             return None;
         }
         self.end_of_part()
+    }
+}
+
+/// How the heads of the packets of a pcap file are read.
+#[derive(Clone, Copy, Debug)]
+pub(crate) struct Heads {
+    is_big: bool,
+    /// Whether a timestamp counts nanoseconds, and no microseconds.
+    is_nano: bool,
+}
+
+impl Heads {
+    /// The packet whose head and octets are the front of some octets, if they are all there.
+    #[inline(always)]
+    pub(crate) fn whole(&self, octets: &[u8]) -> Option<Whole>
+        ensures { IfSome result (λ whole. 16 + whole.count ≤ length octets.now) }
+    {
+        if octets.len() < PACKET_HEAD {
+            return None;
+        }
+        let count = long_in(octets, 8, self.is_big) as usize;
+        if octets.len() - PACKET_HEAD < count {
+            return None;
+        }
+        Some(Whole {
+            stamp: self.stamp(octets),
+            count,
+        })
+    }
+
+    /// The time in a head.
+    #[inline(always)]
+    fn stamp(&self, head: &[u8]) -> Stamp {
+        let seconds = u64::from(long_in(head, 0, self.is_big));
+        let parts = u64::from(long_in(head, 4, self.is_big));
+        if self.is_nano {
+            return Stamp {
+                ticks: seconds * NANOS + parts,
+                per_second: NANOS,
+            };
+        }
+        Stamp {
+            ticks: seconds * MICROS + parts,
+            per_second: MICROS,
+        }
+    }
+}
+
+/// The number of four octets of a head, from an index on.
+#[inline(always)]
+fn long_in(head: &[u8], place: usize, is_big: bool) -> u32 {
+    let octets = match head.get(place..) {
+        Some([first, second, third, fourth, ..]) => [*first, *second, *third, *fourth],
+        _ => [0; 4],
+    };
+    if is_big {
+        u32::from_be_bytes(octets)
+    } else {
+        u32::from_le_bytes(octets)
     }
 }
 

@@ -38,7 +38,22 @@ impl Repeats {
         self.octets.clear();
     }
 
+    /// Hears a token. It is what `hear` does with its three octets, without a loop.
+    #[inline(always)]
+    pub(crate) fn hear_token(&mut self, octets: &[u8; 3]) -> bool
+        ensures result { result ≡ pointwise nat_eq self.old octets.now }
+        ensures last { self.new ≡ octets.now }
+    {
+        if let [first, second, third] = self.octets.as_slice() {
+            let is_last = *first == octets[0] && *second == octets[1] && *third == octets[2];
+            put_octets(&mut self.octets, octets);
+            return is_last;
+        }
+        self.hear(octets)
+    }
+
     /// Hears the octets of the next one, at most 255, and returns whether they are those of the last one, if that is known.
+    #[inline(always)]
     pub(crate) fn hear(&mut self, octets: &[u8]) -> bool
         requires { length octets.now ≤ 255 }
         ensures result { result ≡ pointwise nat_eq self.old octets.now }

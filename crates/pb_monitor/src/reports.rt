@@ -9,11 +9,11 @@ use crate::alarms::Alarm;
 use crate::holders::Holder;
 use crate::meanings::InitiatorTelegram;
 use crate::states::{LastHeard, State, live};
-use crate::texts::{LONGEST_PIECE, push_counted, push_number, put, put_number};
+use crate::texts::{LONGEST_PIECE, hex_of, push_counted, push_hex, push_number, put, put_number};
 use crate::words::Words;
 use arrayvec::ArrayVec;
 use pb_decode::{push_fault, push_telegram};
-use pb_telegram::{Telegram, TelegramFault};
+use pb_telegram::{Fc, Telegram, TelegramFault, VarTelegram};
 use pb_timers::BusParams;
 use std::alloc::AllocError;
 
@@ -43,6 +43,9 @@ pub(crate) fn put_content(
         put_token(piece, token.da, token.sa);
         return Ok(());
     }
+    if let Ok(Telegram::Var(var)) = telegram {
+        return push_var(piece, var, text);
+    }
     text.extend_from_slice(piece)?;
     piece.clear();
     push_content(text, telegram)
@@ -67,6 +70,31 @@ fn put_token(piece: &mut ArrayVec<u8, LONGEST_PIECE>, da: u8, sa: u8)
     }
     put(piece, b"token to ");
     put_number(piece, da);
+}
+
+/// Appends a telegram with data of variable length and what it says to the text, behind the piece, which is then empty. The
+/// text is that of `push_content`, in fewer steps.
+#[inline(never)]
+fn push_var(
+    piece: &mut ArrayVec<u8, LONGEST_PIECE>,
+    var: &VarTelegram,
+    text: &mut Vec<u8>,
+) -> Result<(), AllocError>
+    requires { length piece.old.items ≤ 42 }
+    ensures room { OnOk result (length piece.new.items ≤ 82) }
+{
+    put(piece, b"var da=");
+    put_address(piece, var.da);
+    put(piece, b" sa=");
+    put_address(piece, var.sa);
+    put(piece, b" fc=");
+    put(piece, &hex_of(var.fc));
+    put(piece, b" unit=");
+    text.extend_from_slice(piece)?;
+    piece.clear();
+    push_hex(text, &var.unit)?;
+    text.extend_from_slice(b" | ")?;
+    Words::by(Fc(var.fc), false).push(text)
 }
 
 /// Appends an address, and a plus sign if bit 7 of its octet is set, to the piece of a line.

@@ -1,17 +1,17 @@
 //! Reads the telegram that octets spell: from the octets directly, or by a receiver for the fault of those that spell none.
 
-ghost use Rattle.std.specs.Prelude.{◌≡◌, ◌+◌, ◌∷◌, ◌++◌, ℕ, List, [], length, map, IfOk, IfSome, OnErr};
-ghost use Rattle.pb_telegram.specs.Grammar.{sd1, sd2, sd3, ed, spelling};
+ghost use Rattle.std.specs.Prelude.{◌≡◌, ◌<◌, ◌≤◌, ◌%◌, ◌+◌, ◌∷◌, ◌++◌, ℕ, List, [], length, map, IfOk, IfSome, IsOkAnd, IsTrue, OnErr};
+ghost use Rattle.pb_telegram.specs.Grammar.{sd1, sd2, sd3, ed, fcs_of, spelling};
 ghost use Rattle.pb_telegram.specs.Receiving.{StandsFor};
 ghost use Rattle.pb_telegram.specs.declared.chars.RxChar.TheVariants.{Good};
-ghost use Rattle.pb_telegram.specs.declared.telegrams.Telegram.TheVariants.{Fixed8, Short, Var};
+ghost use Rattle.pb_telegram.specs.declared.telegrams.Telegram.TheVariants.{Fixed8, Short};
 ghost use Rattle.pb_telegram.specs.declared.telegrams.Telegram.{Telegram};
 
 use arrayvec::ArrayVec;
 use pb_telegram::{
     ACKNOWLEDGEMENT, END, FIXED_START, Fixed8Telegram, Receiver, RxChar, SHORT_START,
     ShortTelegram, TOKEN_START, Telegram, TelegramFault, TokenTelegram, VAR_START, VarTelegram,
-    copy_octets, fcs, write,
+    copy_octets, fcs, put_octets, write,
 };
 
 /// Replaces `telegram` by the telegram that octets spell, or by their first fault.
@@ -26,9 +26,16 @@ pub(crate) fn read_octets(
 {
     match octets {
         [TOKEN_START, da, sa] if *da < 127 && *sa < 127 => {
-            *telegram = Ok(Telegram::Token(TokenTelegram { da: *da, sa: *sa }))
+            let token = TokenTelegram { da: *da, sa: *sa };
+            match telegram {
+                Ok(Telegram::Token(room)) => *room = token,
+                _ => *telegram = Ok(Telegram::Token(token)),
+            }
         }
-        [ACKNOWLEDGEMENT] => *telegram = Ok(Telegram::Ack),
+        [ACKNOWLEDGEMENT] => match telegram {
+            Ok(Telegram::Ack) => {}
+            _ => *telegram = Ok(Telegram::Ack),
+        },
         _ => read_framed(octets, receiver, telegram),
     }
 }
@@ -53,9 +60,22 @@ fn read_framed(
     ensures whole { IfOk telegram.new (λ t. octets.now ≡ spelling t) }
     ensures none { OnErr telegram.new ((t : Telegram) → octets.now ≡ spelling t → ⊥) }
 {
-    if let Some(var) = var_in(octets) {
-        *telegram = Ok(Telegram::Var(var));
-    } else if let Some(short) = short_in(octets) {
+    if !put_var(octets, telegram) {
+        read_other(octets, receiver, telegram);
+    }
+}
+
+/// The same, of octets that are no telegram with data of variable length either.
+#[inline(never)]
+fn read_other(
+    octets: &[u8],
+    receiver: &mut Receiver,
+    telegram: &mut Result<Telegram, TelegramFault>,
+)
+    ensures whole { IfOk telegram.new (λ t. octets.now ≡ spelling t) }
+    ensures none { OnErr telegram.new ((t : Telegram) → octets.now ≡ spelling t → ⊥) }
+{
+    if let Some(short) = short_in(octets) {
         *telegram = Ok(Telegram::Short(short));
     } else if let Some(fixed) = fixed_in(octets) {
         *telegram = Ok(Telegram::Fixed8(fixed));
@@ -86,10 +106,10 @@ fn short_of(da: u8, sa: u8, fc: u8, check: u8) -> Option<ShortTelegram>
     Some(ShortTelegram { da, sa, fc })
 }
 
-/// The telegram with data of variable length that octets spell.
+/// Replaces `telegram` by the telegram with data of variable length that octets spell. Returns whether they spell one.
 #[inline(always)]
-fn var_in(octets: &[u8]) -> Option<VarTelegram>
-    ensures { IfSome result (λ t. octets.now ≡ spelling (Var t)) }
+fn put_var(octets: &[u8], telegram: &mut Result<Telegram, TelegramFault>) -> bool
+    ensures { IsTrue result → IsOkAnd telegram.new (λ t. octets.now ≡ spelling t) }
 {
     match octets {
         [
@@ -104,30 +124,66 @@ fn var_in(octets: &[u8]) -> Option<VarTelegram>
             check,
             END,
         ] if length == again && usize::from(*length) == unit.len() + 3 => {
-            var_of(*da, *sa, *fc, unit, *check)
+            put_var_of(*da, *sa, *fc, unit, *check, telegram)
         }
-        _ => None,
+        _ => false,
     }
 }
 
-/// The telegram with these octets and this unit between its delimiters, if they are valid.
+/// Replaces `telegram` by the one with these octets and this unit between its delimiters, if they are valid. Returns whether
+/// they are.
 #[inline(always)]
-fn var_of(da: u8, sa: u8, fc: u8, unit: &[u8], check: u8) -> Option<VarTelegram>
-    ensures { IfSome result (λ t. sd2 ∷ (length unit.now + 3) ∷ (length unit.now + 3) ∷ sd2 ∷ da ∷ sa ∷ fc
-        ∷ (unit.now ++ check ∷ ed ∷ []) ≡ spelling (Var t)) }
+fn put_var_of(
+    da: u8,
+    sa: u8,
+    fc: u8,
+    unit: &[u8],
+    check: u8,
+    telegram: &mut Result<Telegram, TelegramFault>,
+) -> bool
+    ensures { IsTrue result → IsOkAnd telegram.new (λ t. sd2 ∷ (length unit.now + 3) ∷ (length unit.now + 3)
+        ∷ sd2 ∷ da ∷ sa ∷ fc ∷ (unit.now ++ check ∷ ed ∷ []) ≡ spelling t) }
 {
     if sa % 128 == 127 || fc >= 128 || unit.is_empty() || unit.len() > 246 {
-        return None;
+        return false;
     }
     if check != fcs(da, sa, fc, unit) {
-        return None;
+        return false;
     }
-    Some(VarTelegram {
+    match telegram {
+        Ok(Telegram::Var(room)) => {
+            room.da = da;
+            room.sa = sa;
+            room.fc = fc;
+            put_octets(&mut room.unit, unit);
+        }
+        _ => replace_by_var(da, sa, fc, unit, telegram),
+    }
+    true
+}
+
+/// Replaces `telegram`, which is of another form.
+#[inline(never)]
+fn replace_by_var(
+    da: u8,
+    sa: u8,
+    fc: u8,
+    unit: &[u8],
+    telegram: &mut Result<Telegram, TelegramFault>,
+)
+    requires source { sa % 128 < 127 }
+    requires control { fc < 128 }
+    requires some { 0 < length unit.now }
+    requires fits { length unit.now ≤ 246 }
+    ensures { IsOkAnd telegram.new (λ t. sd2 ∷ (length unit.now + 3) ∷ (length unit.now + 3) ∷ sd2 ∷ da ∷ sa
+        ∷ fc ∷ (unit.now ++ fcs_of da sa fc unit.now ∷ ed ∷ []) ≡ spelling t) }
+{
+    *telegram = Ok(Telegram::Var(VarTelegram {
         da,
         sa,
         fc,
         unit: copy_octets(unit),
-    })
+    }));
 }
 
 /// The telegram with eight octets of data that octets spell.

@@ -49,26 +49,37 @@ impl State {
     }
 }
 
-/// The state after a burst from one moment to another.
-pub(crate) fn behind(
+/// Keeps what a burst from one moment to another tells.
+#[inline(always)]
+pub(crate) fn hear(
+    state: &mut State,
     params: &BusParams,
     slack: u32,
-    state: State,
     begin: u64,
     end: u64,
     meaning: Meaning,
-) -> State
-    ensures { result ≡ judge.behind_by params.now slack state begin end meaning }
+)
+    ensures { state.new ≡ judge.behind_by params.now slack state.old begin end meaning }
 {
-    let before = silence_before(params, state, begin);
-    State {
-        last: last_behind(params, slack, state, begin, end, meaning),
-        quiet: end,
-        silent_from: before.silent_from,
-        silent_to: before.silent_to,
-        lost: !is_initiator(meaning)
-            && (state.lost || is_past_live(params, slack, state.quiet, begin)),
+    if is_sooner(state.quiet, u64::from(params.tsl()), begin, 0) {
+        state.silent_from = state.quiet;
+        state.silent_to = begin;
     }
+    match meaning {
+        Meaning::Initiator(telegram) => {
+            state.last = Some(heard_at(end, telegram));
+            state.lost = false;
+        }
+        Meaning::Reply => {
+            touch(params, slack, begin, &mut state.last);
+            state.lost = state.lost || is_past_live(params, slack, state.quiet, begin);
+        }
+        Meaning::NoTelegram => {
+            state.last = None;
+            state.lost = state.lost || is_past_live(params, slack, state.quiet, begin);
+        }
+    }
+    state.quiet = end;
 }
 
 /// The state once a burst begins: it may end a silence of more than a slot.
@@ -91,7 +102,8 @@ pub(crate) fn silence_before(params: &BusParams, state: State, begin: u64) -> St
 pub(crate) fn is_past_live(params: &BusParams, slack: u32, from: u64, to: u64) -> bool
     ensures { result ≡ nat_lt (from + judge.live params.now slack) to }
 {
-    is_sooner(from, live(params, slack), to, 0)
+    // Most silences are no longer than a slot, which callers test too.
+    is_sooner(from, u64::from(params.tsl()), to, 0) && is_sooner(from, live(params, slack), to, 0)
 }
 
 /// The longest silence that a token in use leaves at a listener, in bit times.
@@ -112,34 +124,6 @@ pub(crate) fn is_sooner(moment: u64, bits: u64, other: u64, other_bits: u64) -> 
     u128::from(moment) + u128::from(bits) < u128::from(other) + u128::from(other_bits)
 }
 
-/// Whether it is a token or a request.
-fn is_initiator(meaning: Meaning) -> bool
-    ensures { result ≡ judge.initiates_by meaning }
-{
-    match meaning {
-        Meaning::Initiator(_) => true,
-        Meaning::Reply | Meaning::NoTelegram => false,
-    }
-}
-
-/// The last token or request after a burst.
-fn last_behind(
-    params: &BusParams,
-    slack: u32,
-    state: State,
-    begin: u64,
-    end: u64,
-    meaning: Meaning,
-) -> Option<LastHeard>
-    ensures { result ≡ judge.last_by params.now slack state begin end meaning }
-{
-    match meaning {
-        Meaning::Initiator(telegram) => Some(heard_at(end, telegram)),
-        Meaning::Reply => touch(params, slack, begin, state.last),
-        Meaning::NoTelegram => None,
-    }
-}
-
 /// A token or request that was heard until a moment.
 fn heard_at(end: u64, telegram: InitiatorTelegram) -> LastHeard
     ensures { result ≡ judge.heard_at end telegram }
@@ -152,17 +136,13 @@ fn heard_at(end: u64, telegram: InitiatorTelegram) -> LastHeard
     }
 }
 
-/// The last token or request after the begin of a reply.
-fn touch(params: &BusParams, slack: u32, begin: u64, last: Option<LastHeard>) -> Option<LastHeard>
-    ensures { result ≡ judge.touch params.now slack begin last }
+/// A reply begins at a moment, perhaps in the slot of the last token.
+fn touch(params: &BusParams, slack: u32, begin: u64, last: &mut Option<LastHeard>)
+    ensures { last.new ≡ judge.touch params.now slack begin last.old }
 {
-    let last = last?;
-    let margin = 2 * u64::from(params.ttd()) + u64::from(slack);
-    let is_in_slot = is_sooner(begin, margin, last.end, u64::from(params.tsl()));
-    Some(LastHeard {
-        source: last.source,
-        offered: last.offered,
-        end: last.end,
-        touched: last.touched || is_in_slot,
-    })
+    if let Some(last) = last {
+        let margin = 2 * u64::from(params.ttd()) + u64::from(slack);
+        let is_in_slot = is_sooner(begin, margin, last.end, u64::from(params.tsl()));
+        last.touched = last.touched || is_in_slot;
+    }
 }

@@ -6,7 +6,7 @@ ghost use Rattle.pb_telegram.specs.Heads.{head_of};
 ghost use Rattle.pb_monitor.specs.Known.{answers, damaged_open, is_awaited, is_in_slot, is_over, wants_answer};
 
 use crate::bursts::Burst;
-use crate::meanings::{InitiatorTelegram, Meaning, meaning_in};
+use crate::meanings::{InitiatorTelegram, Meaning, meaning_in, passed};
 use crate::repeats::Repeats;
 use crate::spelled::octets_of;
 use crate::states::live;
@@ -15,7 +15,7 @@ use crate::tallies::{ask, close, forget_receipts, initiate, reply, send_token, t
 use crate::traffic::Traffic;
 use pb_cycles::Asked;
 use pb_ring::Las;
-use pb_telegram::{Fc, Head, Telegram};
+use pb_telegram::{Fc, Head, TOKEN_START, Telegram, TokenTelegram};
 use pb_timers::BusParams;
 use std::alloc::{AllocError, Global};
 use std::marker::Model;
@@ -94,10 +94,11 @@ impl Model for Statistics {
 }
 
 impl Statistics {
-    ghost use Rattle.std.specs.Prelude.{◌≡◌, ◌<◌, ◌&&◌, IfOk, Some, None, slice_get};
+    ghost use Rattle.std.specs.Prelude.{◌≡◌, ◌<◌, ◌&&◌, IfOk, Ok, Some, None, slice_get};
     ghost use Rattle.pb_ring.specs.AddressSets.{is_member};
     ghost use Rattle.pb_ring.specs.Las.{is_complete, members_of};
-    ghost use Rattle.pb_monitor.specs.Known.{alarmed, answered, closed, comes_after_slot, forgotten, heard, heard_damage, heard_head, heard_initiator, heard_telegram, heard_untimed, new_known, refused, without_telegrams};
+    ghost use Rattle.pb_monitor.specs.Known.{alarmed, answered, changed_at, closed, comes_after_slot, forgotten, heard, heard_damage, heard_head, heard_sender, heard_telegram, heard_untimed, initiated, is_again, new_known, offer_to, refused, taken, without_telegrams};
+    ghost use Rattle.pb_telegram.specs.declared.telegrams.Telegram.TheVariants.{Token};
 
     /// No burst yet. Without parameters of the bus, no silence counts as long. `slack` is how wrong the difference of two
     /// moments may be, in bit times.
@@ -230,14 +231,55 @@ impl Statistics {
     {
         match &burst.telegram {
             Err(_) => self.hear_damage(burst.begin, before),
+            Ok(Telegram::Token(token)) => self.hear_token(burst.begin, burst.end, token, before),
             Ok(telegram) => match meaning_in(&burst.telegram) {
-                Meaning::Initiator(said) => {
-                    let is_claim = said.is_claim && self.comes_after_slot(burst.begin, before);
-                    self.hear_initiator(burst, telegram, octets, said, is_claim);
-                }
+                Meaning::Initiator(said) => self.hear_request(burst, telegram, octets, said),
                 Meaning::Reply | Meaning::NoTelegram => self.hear_reply(burst, telegram),
             },
         }
+    }
+
+    /// Hears a token from one moment to another.
+    fn hear_token(&mut self, begin: u64, end: u64, token: &TokenTelegram, before: Option<u64>)
+        ensures { self.new ≡ heard_telegram before begin end (Ok (Token token.now)) self.old }
+    {
+        let (said, is_timed) = (passed(token.da, token.sa), self.is_timed);
+        let is_claim = said.is_claim && self.comes_after_slot(begin, before);
+        self.close();
+        let is_again = self.repeats.hear_token(&[TOKEN_START, token.da, token.sa]);
+        self.ring.hear(token.sa, token.da);
+        self.send(begin, end, said, is_again && !said.is_claim);
+        if is_claim {
+            forget_receipts(&mut self.stations);
+        }
+        send_token(&mut self.stations, said, end, is_timed, is_claim);
+    }
+
+    /// Counts that a token or a request was sent, perhaps once more, and perhaps the token taken by it.
+    #[inline(always)]
+    fn send(&mut self, begin: u64, end: u64, said: InitiatorTelegram, is_repeat: bool)
+        ensures { self.new ≡ record self.old {
+          offer = offer_to end said.offered;
+          stations = changed_at said.source (initiated self.old.timed is_repeat end)
+              (taken self.old.offer begin said is_repeat self.old.timed self.old.stations);
+        } }
+    {
+        take_offer(
+            &mut self.stations,
+            self.offer,
+            begin,
+            said,
+            is_repeat,
+            self.is_timed,
+        );
+        self.offer = said.offered.map(|to| Offer { to, end });
+        initiate(
+            &mut self.stations,
+            said.source,
+            end,
+            self.is_timed,
+            is_repeat,
+        );
     }
 
     /// Whether a moment comes after a silence of more than a slot, or is the first that is known.
@@ -272,45 +314,24 @@ impl Statistics {
         self.forget_telegrams();
     }
 
-    /// Hears a token or a request, of these octets.
+    /// Hears a request, of these octets.
     #[tactic(auto, using(crate::proofs::Fronts::spelling_fits))]
-    fn hear_initiator(
+    fn hear_request(
         &mut self,
         burst: &Burst,
         telegram: &Telegram,
         octets: &[u8],
         said: InitiatorTelegram,
-        is_claim: bool,
     )
         requires { octets.now ≡ spelling telegram.now }
-        ensures { self.new
-            ≡ heard_initiator burst.now.begin burst.now.end telegram.now said is_claim self.old }
+        ensures { self.new ≡ heard_head (head_of telegram.now) burst.now.end
+            (heard_sender burst.now.begin burst.now.end telegram.now said
+            (is_again (closed self.old) telegram.now said) (closed self.old)) }
     {
         self.close();
         let is_repeat = self.repeats.hear(octets) && !said.is_claim;
-        let (begin, end, is_timed) = (burst.begin, burst.end, self.is_timed);
-        take_offer(
-            &mut self.stations,
-            self.offer,
-            begin,
-            said,
-            is_repeat,
-            is_timed,
-        );
-        self.offer = said.offered.map(|to| Offer { to, end });
-        initiate(&mut self.stations, said.source, end, is_timed, is_repeat);
-        match telegram {
-            Telegram::Token(token) => {
-                self.ring.hear(token.sa, token.da);
-                if is_claim {
-                    forget_receipts(&mut self.stations);
-                }
-                send_token(&mut self.stations, said, end, is_timed, is_claim);
-            }
-            Telegram::Short(_) | Telegram::Var(_) | Telegram::Fixed8(_) | Telegram::Ack => {
-                self.hear_head(telegram.head(), end)
-            }
-        }
+        self.send(burst.begin, burst.end, said, is_repeat);
+        self.hear_head(telegram.head(), burst.end);
     }
 
     /// Counts a request that ended at a moment.
@@ -338,25 +359,20 @@ impl Statistics {
         ensures { self.new
             ≡ answered burst.now.begin burst.now.end (head_of telegram.now) self.old.request self.old }
     {
-        let Some(request) = self.request else {
+        let Some(request) = &mut self.request else {
             return;
         };
         let head = telegram.head();
         if request.answer != Answer::Awaited || !answers(request, head) {
             return;
         }
-        self.request = Some(Open {
-            source: request.source,
-            to: request.to,
-            end: request.end,
-            answer: Answer::Good,
-        });
+        request.answer = Answer::Good;
         reply(
             &mut self.stations,
-            request,
-            burst.begin,
+            request.to,
             burst.end,
             self.is_timed,
+            burst.begin.saturating_sub(request.end),
             head,
         );
     }
@@ -365,8 +381,8 @@ impl Statistics {
     pub(crate) fn close(&mut self)
         ensures { self.new ≡ closed self.old }
     {
-        if self.request.is_some() {
-            close(&mut self.stations, self.request);
+        if let Some(request) = &self.request {
+            close(&mut self.stations, request.source, request.answer);
             self.request = None;
         }
     }
@@ -439,8 +455,8 @@ fn is_answered(asked: Asked) -> bool
 }
 
 /// Whether a telegram is an answer to a request.
-fn answers(request: Open, head: Option<Head>) -> bool
-    ensures { result ≡ answers request head }
+fn answers(request: &Open, head: Option<Head>) -> bool
+    ensures { result ≡ answers request.now head }
 {
     match head {
         Some(head) => head.sa % 128 == request.to && head.da % 128 == request.source,

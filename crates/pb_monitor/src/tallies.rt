@@ -1,11 +1,11 @@
 //! What telegrams count for all stations.
 
-ghost use Rattle.std.specs.Prelude.{◌≡◌, ◌-◌, map};
-ghost use Rattle.pb_monitor.specs.Known.{changed_at, closing, initiated, polled_by, asked, replied, sent_token, taken, without_receipt};
+ghost use Rattle.std.specs.Prelude.{◌≡◌, map};
+ghost use Rattle.pb_monitor.specs.Known.{changed_at, closed_by, initiated, polled_by, asked, replied, sent_token, taken, without_receipt};
 
 use crate::meanings::InitiatorTelegram;
 use crate::stations::{Station, one_more};
-use crate::statistics::{Answer, Offer, Open};
+use crate::statistics::{Answer, Offer};
 use pb_telegram::Head;
 
 /// Notes who took a token that was offered, or that it was sent again.
@@ -82,36 +82,32 @@ pub(crate) fn ask(stations: &mut [Station], source: u8, to: u8, is_poll: bool)
     }
 }
 
-/// Counts a reply.
+/// Counts a reply that ended at a moment, some bit times after the request.
 pub(crate) fn reply(
     stations: &mut [Station],
-    request: Open,
-    begin: u64,
+    to: u8,
     end: u64,
     is_timed: bool,
+    bits: u64,
     head: Option<Head>,
 )
-    ensures { stations.new
-        ≡ changed_at request.to (replied is_timed end (begin - request.end) head) stations.old }
+    ensures { stations.new ≡ changed_at to (replied is_timed end bits head) stations.old }
 {
-    let place = usize::from(request.to);
+    let place = usize::from(to);
     if place < stations.len() {
-        stations[place].reply(end, is_timed, begin.saturating_sub(request.end), head);
+        stations[place].reply(end, is_timed, bits, head);
     }
 }
 
 /// Counts what became of a request that gets no more answer.
-pub(crate) fn close(stations: &mut [Station], request: Option<Open>)
-    ensures { stations.new ≡ closing request stations.old }
+pub(crate) fn close(stations: &mut [Station], source: u8, answer: Answer)
+    ensures { stations.new ≡ closed_by answer source stations.old }
 {
-    let Some(request) = request else {
-        return;
-    };
-    let place = usize::from(request.source);
+    let place = usize::from(source);
     if place >= stations.len() {
         return;
     }
-    match request.answer {
+    match answer {
         Answer::Awaited => stations[place].unanswered = one_more(stations[place].unanswered),
         Answer::Damaged => {
             stations[place].damaged_answers = one_more(stations[place].damaged_answers)

@@ -1,6 +1,6 @@
 //! Numbers and words as text.
 
-ghost use Rattle.std.specs.Prelude.{◌≡◌, ◌≤◌, ◌+◌, ◌++◌, OnOk, decimal, length};
+ghost use Rattle.std.specs.Prelude.{◌≡◌, ◌<◌, ◌≤◌, ◌+◌, ◌++◌, OnOk, decimal, length};
 
 use arrayvec::ArrayVec;
 use itoa::{Buffer, Integer};
@@ -8,6 +8,9 @@ use std::alloc::AllocError;
 
 /// The most bytes of an input that a message repeats.
 const LONGEST_QUOTE: usize = 24;
+
+/// The most octets of a unit.
+const LONGEST_UNIT: usize = 246;
 
 /// The most bytes of a line that is made before it is appended.
 pub(crate) const LONGEST_PIECE: usize = 128;
@@ -44,6 +47,39 @@ pub(crate) fn push_counted(text: &mut Vec<u8>, words: &[u8], number: u64) -> Res
 {
     text.extend_from_slice(words)?;
     push_number(text, number)
+}
+
+/// Appends the octets of a unit, each as two lower-case hex digits.
+pub(crate) fn push_hex(text: &mut Vec<u8>, octets: &[u8]) -> Result<(), AllocError>
+    requires { length octets.now ≤ 246 }
+{
+    let mut room = [0; 2 * LONGEST_UNIT];
+    for place in 0..octets.len() {
+        let [high, low] = hex_of(octets[place]);
+        room[2 * place] = high;
+        room[2 * place + 1] = low;
+    }
+    text.extend_from_slice(&room[..2 * octets.len()])
+}
+
+/// An octet as two lower-case hex digits. There is no table, so that the compiler makes vectors of a loop over it.
+#[inline(always)]
+pub(crate) fn hex_of(octet: u8) -> [u8; 2]
+    ensures { length result ≡ 2 }
+{
+    [hex_digit(octet / 16), hex_digit(octet % 16)]
+}
+
+/// The lower-case hex digit of a value.
+#[inline(always)]
+fn hex_digit(value: u8) -> u8
+    requires { value < 16 }
+{
+    if value < 10 {
+        b'0' + value
+    } else {
+        b'a' - 10 + value
+    }
 }
 
 /// Appends some bytes of an input in quotes; `?` stands for a byte that is no visible ASCII character.

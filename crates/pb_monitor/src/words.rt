@@ -40,7 +40,7 @@ impl Words {
     }
 
     /// What a telegram with a control octet says, without data or with some.
-    fn by(fc: Fc, is_empty: bool) -> Words
+    pub(crate) fn by(fc: Fc, is_empty: bool) -> Words
         ensures { words_text result ≡ head_words fc.0 is_empty }
     {
         if fc.is_request() {

@@ -1,8 +1,8 @@
 use Rattle.std.proofs.Common.{◌≡◌, ◌<◌, [], length}
 use Rattle.pb_monitor.proofs.monitors.Monitor.cut_octets.Given as goal
 
-abbrev pub invariant-loop-front : goal.invariant-loop-front
-invariant-loop-front l = 0 < length l.left → l.self.cutter ≡ []
+abbrev pub invariant-loop-left : goal.invariant-loop-left
+invariant-loop-left l = 0 < length l.left → l.self.cutter ≡ []
 
-abbrev pub decreases-loop-front : goal.decreases-loop-front
-decreases-loop-front l = length l.left
+abbrev pub decreases-loop-left : goal.decreases-loop-left
+decreases-loop-left l = length l.left
