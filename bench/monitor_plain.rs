@@ -889,7 +889,7 @@ impl Statistics {
         match (&burst.telegram, burst.said) {
             (Err(_), _) => self.hear_damage(burst.begin, silence),
             (Ok(telegram), Some(said)) => {
-                let is_claim = said.is_claim && silence.map_or(self.is_timed, |bits| bits > self.tsl);
+                let is_claim = said.is_claim && silence.map_or(self.is_timed, |bits| bits > self.longest_live);
                 self.hear_initiation(burst, telegram, said, is_claim);
             }
             (Ok(telegram), None) => self.hear_reply(burst, telegram),

@@ -173,12 +173,12 @@ is_in_slot None offer begin = false
 is_in_slot (Some l) None begin = false
 is_in_slot (Some l) (Some o) begin = nat_lt (begin - o.end) l.tsl
 
--- A token to itself that begins at a moment is the first of a claim: after a silence of more than a slot, or as the first
--- burst that has moments.
-abbrev pub comes_after_slot : Option Limits → (timed : Bool) → (before : Option ℕ) → (begin : ℕ) → Bool
-comes_after_slot None timed before begin = false
-comes_after_slot (Some l) timed None begin = timed
-comes_after_slot (Some l) timed (Some end) begin = nat_lt l.tsl (begin - end)
+-- A token to itself that begins at a moment is the first of a claim: after a silence that no token in use leaves, or as
+-- the first burst that has moments.
+abbrev pub begins_claim : Option Limits → (timed : Bool) → (before : Option ℕ) → (begin : ℕ) → Bool
+begins_claim None timed before begin = false
+begins_claim (Some l) timed None begin = timed
+begins_claim (Some l) timed (Some end) begin = nat_lt l.live (begin - end)
 
 -- a request gets no more answer
 abbrev pub closed_by : Answer → (source : ℕ) → List Station → List Station
@@ -324,7 +324,7 @@ answered begin end head (Some o) k = answered_by begin end head o k
 
 abbrev pub heard_meaning : (before : Option ℕ) → (begin end : ℕ) → Telegram → Meaning → Known → Known
 heard_meaning before begin end t (meaning.Initiator said) k =
-    heard_initiator begin end t said (said.is_claim && comes_after_slot k.limits k.timed before begin) k
+    heard_initiator begin end t said (said.is_claim && begins_claim k.limits k.timed before begin) k
 heard_meaning before begin end t meaning.Reply k = answered begin end (head_of t) k.request k
 heard_meaning before begin end t meaning.NoTelegram k = answered begin end (head_of t) k.request k
 

@@ -97,7 +97,7 @@ impl Statistics {
     ghost use Rattle.std.specs.Prelude.{◌≡◌, ◌<◌, ◌&&◌, IfOk, Ok, Some, None, slice_get};
     ghost use Rattle.pb_ring.specs.AddressSets.{is_member};
     ghost use Rattle.pb_ring.specs.Las.{is_complete, members_of};
-    ghost use Rattle.pb_monitor.specs.Known.{alarmed, answered, changed_at, closed, comes_after_slot, forgotten, heard, heard_damage, heard_head, heard_sender, heard_telegram, heard_untimed, initiated, is_again, new_known, offer_to, refused, taken, without_telegrams};
+    ghost use Rattle.pb_monitor.specs.Known.{alarmed, answered, changed_at, closed, begins_claim, forgotten, heard, heard_damage, heard_head, heard_sender, heard_telegram, heard_untimed, initiated, is_again, new_known, offer_to, refused, taken, without_telegrams};
     ghost use Rattle.pb_telegram.specs.declared.telegrams.Telegram.TheVariants.{Token};
 
     /// No burst yet. Without parameters of the bus, no silence counts as long. `slack` is how wrong the difference of two
@@ -244,7 +244,7 @@ impl Statistics {
         ensures { self.new ≡ heard_telegram before begin end (Ok (Token token.now)) self.old }
     {
         let (said, is_timed) = (passed(token.da, token.sa), self.is_timed);
-        let is_claim = said.is_claim && self.comes_after_slot(begin, before);
+        let is_claim = said.is_claim && self.begins_claim(begin, before);
         self.close();
         let is_again = self.repeats.hear_token(&[TOKEN_START, token.da, token.sa]);
         self.ring.hear(token.sa, token.da);
@@ -282,15 +282,15 @@ impl Statistics {
         );
     }
 
-    /// Whether a moment comes after a silence of more than a slot, or is the first that is known.
-    fn comes_after_slot(&self, begin: u64, before: Option<u64>) -> bool
-        ensures { result ≡ comes_after_slot self.now.limits self.now.timed before begin }
+    /// Whether a moment comes after a silence that no token in use leaves, or is the first that is known.
+    fn begins_claim(&self, begin: u64, before: Option<u64>) -> bool
+        ensures { result ≡ begins_claim self.now.limits self.now.timed before begin }
     {
         let Some(limits) = self.limits else {
             return false;
         };
         match before {
-            Some(end) => begin.saturating_sub(end) > limits.tsl,
+            Some(end) => begin.saturating_sub(end) > limits.live,
             None => self.is_timed,
         }
     }
