@@ -40,8 +40,8 @@ TellsEntryAt code told (Some e) = (code ≡ 0) × TellsEntry told e
 -- what an audit finds
 abbrev pub TellsAudit : FdlAudit → Audit → Type 0
 TellsAudit told found =
-    MatchOption found.premise (told.premise ≡ 0) (λ p. (told.premise ≡ p.0) × (told.moment ≡ p.1))
-    × MatchOption found.illegal (told.illegal ≡ false) (λ place. (told.illegal ≡ true) × (told.entry ≡ place))
+    MatchOption found.premise ((told.premise ≡ 0) × (told.moment ≡ 0)) (λ p. (told.premise ≡ p.0) × (told.moment ≡ p.1))
+    × MatchOption found.illegal ((told.illegal ≡ false) × (told.entry ≡ 0)) (λ place. (told.illegal ≡ true) × (told.entry ≡ place))
 
 -- what an audit finds of all events; or memory is refused, and nothing is told
 abbrev pub AuditsAt : Driven → ℕ → (before told : FdlAudit) → Type 0

@@ -1,12 +1,12 @@
 //! Characters that a receiver takes off the line one by one.
 
-ghost use Rattle.std.specs.Prelude.{◌≡◌, ◌≢◌, ◌+◌, ◌<◌, ◌≤◌, ◌++◌, ◌∷◌, [], length, map, take};
+ghost use Rattle.std.specs.Prelude.{◌≡◌, ◌≢◌, ◌+◌, ◌<◌, ◌≤◌, ◌++◌, ◌∷◌, [], true, length, map, take};
 ghost use Rattle.pb_telegram.specs.declared.chars.RxChar.TheVariants.{Good};
 ghost use Rattle.pb_telegram.specs.Faults.{fault_of};
 ghost use Rattle.pbfdl.specs.Calls.{character_of};
 ghost use Rattle.pbfdl.specs.Codes.{code_unless, telegram_code};
 ghost use Rattle.pbfdl.specs.Receivers.{heard};
-ghost use Rattle.pbfdl.specs.Telegrams.{octets_of};
+ghost use Rattle.pbfdl.specs.Telegrams.{octets_of, others_are_zero};
 
 use crate::codes::{TOO_LONG, telegram_code};
 use crate::telegrams::{FdlTelegram, tell};
@@ -55,6 +55,7 @@ pub extern "C" fn fdl_received(receiver: &FdlReceiver, telegram: &mut FdlTelegra
     ensures code { receiver.now.count ≤ 255
         → result ≡ code_unless telegram_code (fault_of (heard receiver.now)) }
     ensures spelled { result ≡ 0 → map Good (octets_of telegram.new) ≡ heard receiver.now }
+    ensures others { result ≡ 0 → others_are_zero telegram.new ≡ true }
     ensures refused { result ≢ 0 → telegram.new ≡ telegram.old }
 {
     let count = usize::from(receiver.count);

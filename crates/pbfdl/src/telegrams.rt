@@ -6,7 +6,7 @@ ghost use Rattle.pb_telegram.specs.Faults.{fault_of};
 ghost use Rattle.pb_telegram.specs.Grammar.{spelling};
 ghost use Rattle.pb_telegram.specs.Receiving.{StandsFor};
 ghost use Rattle.pbfdl.specs.Codes.{code_unless, telegram_code};
-ghost use Rattle.pbfdl.specs.Telegrams.{unit_of, octets_of, is_no_kind};
+ghost use Rattle.pbfdl.specs.Telegrams.{unit_of, octets_of, others_are_zero, is_no_kind};
 
 use crate::codes::{BAD_KIND, NO_ROOM, telegram_code};
 use arrayvec::ArrayVec;
@@ -33,6 +33,7 @@ pub struct FdlTelegram {
 pub extern "C" fn fdl_parse(octets: &[u8], telegram: &mut FdlTelegram) -> u32
     ensures code { result ≡ code_unless telegram_code (fault_of (map Good octets.now)) }
     ensures spelled { result ≡ 0 → octets_of telegram.new ≡ octets.now }
+    ensures others { result ≡ 0 → others_are_zero telegram.new ≡ true }
     ensures refused { result ≢ 0 → telegram.new ≡ telegram.old }
 {
     match received(octets).end() {
@@ -86,9 +87,10 @@ fn received(octets: &[u8]) -> Receiver
     receiver
 }
 
-/// Tells C a telegram.
+/// Tells C a telegram. The fields that its kind doesn't have become 0.
 pub(crate) fn tell(found: &Telegram, telegram: &mut FdlTelegram)
-    ensures { octets_of telegram.new ≡ spelling found.now }
+    ensures octets { octets_of telegram.new ≡ spelling found.now }
+    ensures others { others_are_zero telegram.new ≡ true }
 {
     match found {
         Telegram::Short(short) => head(telegram, 1, short.da, short.sa, short.fc),
