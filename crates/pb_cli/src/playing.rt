@@ -152,4 +152,8 @@ impl Gate for OpenGate {
     fn between(&self, _tap: usize) -> bool {
         true
     }
+
+    fn is_open(&self) -> bool {
+        true
+    }
 }

@@ -40,8 +40,8 @@ const MOST_WORKERS: usize = 64;
 ///
 /// A conductor drives the steps of the scenario, and time from one instant to the next. In each instant it publishes
 /// the turns of all taps that are due and not withheld, together. Workers, including the conductor, draw these offers
-/// by tickets. A worker glances at the tap, asks the gate, decides the turn outside the lock, and commits it. There are
-/// no more workers than taps. At the end receipts and outlooks are compared with the history, and the history must be
+/// by tickets. A worker glances at the tap, asks the gate, decides the turn outside the lock, and commits it; where the
+/// gate is always open, it takes the turn at once, under the lock. There are no more workers than taps. At the end receipts and outlooks are compared with the history, and the history must be
 /// cut into the scenario's instants; with two or more workers both are done concurrently. No event is applied twice.
 ///
 /// Faults: `BadWorkers` for fewer than 1 or more than 64 workers; then `New` if the scenario's taps make no new world.

@@ -6,4 +6,10 @@ pub trait Gate: Sync {
     /// lock, between its glance and its commit. It may therefore wait for the turn of a later tap of the same instant,
     /// as long as fewer turns wait than there are workers. `false` ends the run. The caller ensures that it returns.
     fn between(&self, tap: usize) -> bool;
+
+    /// Whether [`between`](Gate::between) returns true at once for every tap. Then it need not be called, and a turn is
+    /// decided and taken while the lock is held, which takes less time.
+    fn is_open(&self) -> bool {
+        false
+    }
 }

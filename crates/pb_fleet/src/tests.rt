@@ -63,6 +63,20 @@ impl Gate for Open {
     }
 }
 
+/// Needs no question: its turns are taken at once.
+#[derive(Drop)]
+struct Wide;
+
+impl Gate for Wide {
+    fn between(&self, _tap: usize) -> bool {
+        false
+    }
+
+    fn is_open(&self) -> bool {
+        true
+    }
+}
+
 /// Stops one tap.
 #[derive(Drop)]
 struct Shut(usize);
@@ -138,6 +152,8 @@ fn plays_with_any_number_of_workers(rt: HostRuntime) {
     for workers in [1, 2, 8] {
         let report = run_fleet(&rt, alloc, &scenario, workers, &Open).expect(&rt, "a report");
         let begins = [800u64, 870, 940, 1017, 1120, 1190, 1356];
+        assert!(rt; report.trace().iter().map(begin_of).eq(begins), "{workers}");
+        let report = run_fleet(&rt, alloc, &scenario, workers, &Wide).expect(&rt, "a report");
         assert!(rt; report.trace().iter().map(begin_of).eq(begins), "{workers}");
     }
     for workers in [0, 65] {

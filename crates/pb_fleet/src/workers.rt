@@ -113,9 +113,20 @@ impl<'a, 't, L: Ledger, R: Wait, G: Gate> Worker<'a, 't, L, R, G> {
         }
     }
 
-    /// A tap takes its turn at a moment: the worker glances at it, asks the gate, decides, and commits. Only glance and
-    /// commit take the segment's lock.
+    /// A tap takes its turn at a moment.
     fn take_turn(&mut self, seat: &mut TapSeat<L>, now: u64) -> Result<(), PlayFault> {
+        if !self.gate.is_open() {
+            return self.decide_turn(seat, now);
+        }
+        let tap = seat.tap();
+        match self.segment.turn(self.rt, self.alloc, seat, &mut self.says) {
+            Ok(()) => Ok(()),
+            Err(fault) => Err(PlayFault::Commit { tap, now, fault }),
+        }
+    }
+
+    /// The worker glances at the tap, asks the gate, decides, and commits. Only glance and commit take the segment's lock.
+    fn decide_turn(&mut self, seat: &mut TapSeat<L>, now: u64) -> Result<(), PlayFault> {
         let tap = seat.tap();
         let refused = |fault: CommitFault| PlayFault::Commit { tap, now, fault };
         let glance = match self.segment.glance(self.rt, self.alloc, seat) {

@@ -6,3 +6,4 @@ pub mod Agreeing
 pub mod Noting
 pub mod Replies
 mod Placed
+mod Counting

@@ -110,6 +110,15 @@ RefusesDecision l s d (commit.Stale turns now) =
 RefusesDecision l s d (commit.World fault) = IsPresent l s d × RefusesToKeep l (Turn s.tap) (commit.World fault)
 RefusesDecision l s d commit.HistoryFull = IsPresent l s d × RefusesToKeep l (Turn s.tap) commit.HistoryFull
 
+-- Why a turn that is decided from the present state is refused. Memory may be refused before the world judges the turn.
+abbrev pub RefusesTurn : LockedView → SeatView → CommitFault → Type 0
+RefusesTurn l s commit.WrongTap = ⊥
+RefusesTurn l s commit.Disagree = KnowsTurns l s → ⊥
+RefusesTurn l s (commit.Stale turns now) = ⊥
+RefusesTurn l s (commit.World fault) =
+    KnowsTurns l s × (fault ≢ world.NoMemory → RefusesToKeep l (Turn s.tap) (commit.World fault))
+RefusesTurn l s commit.HistoryFull = KnowsTurns l s × RefusesToKeep l (Turn s.tap) commit.HistoryFull
+
 -- the conductor may have the event, and has the receipts of exactly its events
 abbrev pub IsAllowed : LockedView → ConductorView → Event → Type 0
 IsAllowed l s event = (is_turn event ≡ false) × KnowsDrives l s

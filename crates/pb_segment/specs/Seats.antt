@@ -41,6 +41,14 @@ CountsTurns turns (commit.Stale counted now) = counted ≡ turns
 CountsTurns turns (commit.World fault) = Unit {0}
 CountsTurns turns commit.HistoryFull = Unit {0}
 
+-- a turn that is decided from the present state is refused neither as another tap's nor as stale
+abbrev pub IsOfPresent : CommitFault → Type 0
+IsOfPresent commit.WrongTap = ⊥
+IsOfPresent commit.Disagree = Unit {0}
+IsOfPresent (commit.Stale counted now) = ⊥
+IsOfPresent (commit.World fault) = Unit {0}
+IsOfPresent commit.HistoryFull = Unit {0}
+
 -- the receipts of a seat are those of its turns in a history
 abbrev pub Agrees : List Happened → SeatView → Type 0
 Agrees history s = told (is_turn_of s.tap) history ≡ s.receipts

@@ -79,6 +79,14 @@ impl From<AllocError> for CommitFault {
     }
 }
 
+impl From<NoMemory> for CommitFault {
+    ghost from_gives = { λ _ fault. fault ≡ commit.World world.NoMemory };
+
+    fn from(_refused: NoMemory) -> CommitFault {
+        CommitFault::World(WorldFault::NoMemory)
+    }
+}
+
 /// Why a segment is not closed: the first fault that applies, in this order.
 #[derive(Clone, Copy, Debug, PartialEq, Eq, Error)]
 pub enum CloseFault {

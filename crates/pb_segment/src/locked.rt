@@ -14,7 +14,7 @@ use crate::origins::Origin;
 use crate::outlooks::Outlook;
 use crate::receipts::{KeptReceipt, is_turn};
 use crate::seats::{ConductorSeat, TapSeat};
-use pb_station::{Decided, Glance};
+use pb_station::{Decided, Glance, SendBuffer, decide_in};
 use pb_world::{Event, World};
 use std::alloc::Global;
 use std::marker::Model;
@@ -62,7 +62,7 @@ impl<L: Ledger> Locked<L> {
     ghost use Rattle.pb_world.specs.Glances.{CanBeDecided, Fits, IsGlance};
     ghost use Rattle.pb_segment.specs.Histories.{is_turn};
     ghost use Rattle.pb_segment.specs.Locked.{AppendsTo, IsAllowed, IsPresent, KnowsDrives, KnowsTurns};
-    ghost use Rattle.pb_segment.specs.Locked.{RefusesDecision, RefusesEvent, RefusesToKeep, RefusesToShow};
+    ghost use Rattle.pb_segment.specs.Locked.{RefusesDecision, RefusesEvent, RefusesToKeep, RefusesToShow, RefusesTurn};
     ghost use Rattle.pb_segment.specs.Outlooks.{ShowsWorld};
     ghost use Rattle.pb_segment.specs.Seats.{Answers, CountsTurns, IsSilent, IsTold};
 
@@ -110,6 +110,30 @@ impl<L: Ledger> Locked<L> {
             let now = self.world.now().get();
             return Err(CommitFault::Stale { turns, now });
         }
+        self.keep_turn(alloc, decided, &mut seat.receipts, &mut seat.share)
+    }
+
+    /// Takes the turn of a seat's tap, decided from the present state, which is not compared again. `out` is a buffer for
+    /// what the tap sends.
+    #[inline(always)]
+    pub(crate) fn turn(
+        &mut self,
+        alloc: Global,
+        seat: &mut TapSeat<L>,
+        out: &mut SendBuffer,
+    ) -> Result<(), CommitFault>
+        ensures ok { OnOk result
+            (AppendsTo self.old self.new (Turn seat.old.tap) seat.old.receipts seat.new.receipts) }
+        ensures known { OnOk result (KnowsTurns self.old seat.old) }
+        ensures told { OnOk result (seat.new ≡ record seat.old { receipts = seat.new.receipts }) }
+        ensures err { IfErr result (RefusesTurn self.old seat.old) }
+        ensures same { OnErr result ((self.new ≡ self.old) × (seat.new ≡ seat.old)) }
+    {
+        if self.turns[seat.tap] != seat.receipts.len() {
+            return Err(CommitFault::Disagree);
+        }
+        let glance = self.world.glance_in_room(alloc, seat.tap)?;
+        let decided = decide_in(alloc, glance, out)?;
         self.keep_turn(alloc, decided, &mut seat.receipts, &mut seat.share)
     }
 

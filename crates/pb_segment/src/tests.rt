@@ -189,6 +189,9 @@ fn full_history<L: Ledger, R: AllocGlobal + Abort + Wait>(rt: &R, blank: Blank, 
     let decision = decide(alloc, glance).expect(rt, "a decision");
     let fault = segment.commit(rt, alloc, &mut seat, decision).err();
     equal(rt, &fault, &Some(CommitFault::HistoryFull));
+    let mut out = SendBuffer::new();
+    let fault = segment.turn(rt, alloc, &mut seat, &mut out).err();
+    equal(rt, &fault, &Some(CommitFault::HistoryFull));
 }
 
 #[test]

@@ -8,7 +8,7 @@ use super::{equal, master, two_masters, usual};
 use crate::locked::Locked;
 use crate::receipts::KeptReceipt;
 use crate::{CommitFault, ConductorSeat, GlanceFault, Outlook, Receipt, SharedSegment, TapSeat};
-use pb_station::decide;
+use pb_station::{SendBuffer, decide};
 use pb_world::{Entry, Event, Reply, World, WorldFault};
 use std::marker::Brand;
 use std::process::Abort;
@@ -40,6 +40,8 @@ struct Used<L: Ledger> {
     conductor: ConductorSeat<L>,
     first: TapSeat<L>,
     last: TapSeat<L>,
+    /// Whether the turn is taken at once, or by a glance, a decision and a commit.
+    at_once: bool,
 }
 
 fn refused(rt: &impl Print) {
@@ -53,7 +55,9 @@ fn tried<L: Ledger, R: AllocGlobal + Abort + Wait>(
     place: usize,
 ) -> Option<Receipt> {
     let alloc = rt.alloc();
-    let answer = if place == TURN {
+    let answer = if place == TURN && used.at_once {
+        turned(rt, used)
+    } else if place == TURN {
         let glance = used.segment.glance(rt, alloc, &used.first).ok()?;
         let decision = decide(alloc, glance).ok()?;
         used.segment.commit(rt, alloc, &mut used.first, decision)
@@ -70,7 +74,19 @@ fn tried<L: Ledger, R: AllocGlobal + Abort + Wait>(
     }
 }
 
-/// Applies the event with this index, if not at once then the next time.
+/// The first tap takes its turn at once.
+fn turned<L: Ledger, R: AllocGlobal + Abort + Wait>(
+    rt: &R,
+    used: &mut Used<L>,
+) -> Result<Receipt, CommitFault> {
+    let mut out = SendBuffer::new();
+    used.segment
+        .turn(rt, rt.alloc(), &mut used.first, &mut out)?;
+    let receipt = used.first.receipts.last().expect(rt, "a receipt");
+    Ok(receipt.told())
+}
+
+/// Applies the event with this index, if it is refused then the next time.
 fn happens<L: Ledger, R: AllocGlobal + Abort + Print + Wait>(
     rt: &R,
     used: &mut Used<L>,
@@ -192,6 +208,7 @@ fn refused_once<L: Ledger, R: AllocGlobal + Abort + Print + Wait>(
     rt: &R,
     blank: Blank,
     world: World,
+    at_once: bool,
 )
     requires name { blank.name ≡ L.name }
     requires parts { blank.parts ≡ L.parts }
@@ -209,6 +226,7 @@ fn refused_once<L: Ledger, R: AllocGlobal + Abort + Print + Wait>(
         conductor,
         first,
         last,
+        at_once,
     };
     for place in 0..EVENTS {
         happens(rt, &mut used, place);
@@ -225,6 +243,7 @@ fn is_closed<L: Ledger>(rt: &(impl Abort + Print), used: Used<L>, mut seats: Vec
         conductor,
         first,
         last,
+        ..
     } = used;
     if seats.push(first).is_err() || seats.push(last).is_err() {
         return refused(rt);
@@ -239,10 +258,20 @@ fn is_closed<L: Ledger>(rt: &(impl Abort + Print), used: Used<L>, mut seats: Vec
 
 #[test]
 fn refused_memory_in_a_segment(rt: HostRuntime) {
+    refused_memory(&rt, false);
+}
+
+#[test]
+fn refused_memory_in_a_turn_at_once(rt: HostRuntime) {
+    refused_memory(&rt, true);
+}
+
+/// All events happen on a new segment of two masters.
+fn refused_memory<R: AllocGlobal + Abort + Print + Wait>(rt: &R, at_once: bool) {
     let specs = [master(1), master(2)];
-    let Ok(world) = World::new(rt.alloc(), usual(&rt), &specs) else {
-        return refused(&rt);
+    let Ok(world) = World::new(rt.alloc(), usual(rt), &specs) else {
+        return refused(rt);
     };
     let blank = Blank::new(world.taps() as u64 + 1);
-    refused_once::<Brand, HostRuntime>(&rt, blank, world);
+    refused_once::<Brand, R>(rt, blank, world, at_once);
 }
