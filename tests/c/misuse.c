@@ -235,6 +235,32 @@ static void on_telegrams(void)
     WANT(FDL_OK, fdl_params_fault(&usual));
 }
 
+/* Octets go into a telegram that had other ones, and each field of it is as expected. */
+static void parses(const char *octets, size_t count, struct fdl_telegram expected)
+{
+    struct fdl_telegram found;
+    memset(&found, 0x55, sizeof found);
+    WANT(FDL_OK, fdl_parse((const uint8_t *)octets, count, &found));
+    want(expected.kind, found.kind, "the kind");
+    want(1, found.da == expected.da && found.sa == expected.sa && found.fc == expected.fc, "the octets before the data");
+    want(expected.count, found.count, "how much data there is");
+    want(0, (uint32_t)memcmp(found.unit, expected.unit, expected.count), "the data");
+}
+
+static void on_fields(void)
+{
+    struct fdl_receiver receiver = {1, {0xe5}};
+    struct fdl_telegram found;
+    parses("\x10\2\1\x49\x4c\x16", 6, (struct fdl_telegram){FDL_SD1, 2, 1, 0x49, 0, {0}});
+    parses("\x68\4\4\x68\2\1\x4d\x41\x91\x16", 10, (struct fdl_telegram){FDL_SD2, 2, 1, 0x4d, 1, {0x41}});
+    parses("\xa2\2\1\x4d\1\2\3\4\5\6\7\x08\x74\x16", 14, (struct fdl_telegram){FDL_SD3, 2, 1, 0x4d, 8, {1, 2, 3, 4, 5, 6, 7, 8}});
+    parses("\xdc\2\1", 3, (struct fdl_telegram){FDL_SD4, 2, 1, 0, 0, {0}});
+    parses("\xe5", 1, (struct fdl_telegram){FDL_SC, 0, 0, 0, 0, {0}});
+    memset(&found, 0x55, sizeof found);
+    WANT(FDL_OK, fdl_received(&receiver, &found));
+    want(1, found.kind == FDL_SC && !found.da && !found.sa && !found.fc && !found.count, "an acknowledgement has no fields");
+}
+
 static void on_receivers(void)
 {
     struct fdl_receiver receiver = {0, {0}};
@@ -495,8 +521,10 @@ static void on_a_run(void)
     WANT(FDL_OK, fdl_bus_entry(&bus, 0, &entry));
     want(1, entry.begin == 800 && entry.end == 833 && !entry.noise && entry.tap == 0 && entry.count == 3, "the claim");
     want(1, entry.heard[0] == FDL_OWN && entry.heard[1] == FDL_WHOLE && entry.heard[3] == FDL_PENDING, "as each tap heard it");
+    audit = (struct fdl_audit){4, 7, true, 7};
     WANT(FDL_OK, fdl_bus_audit(&bus, &audit));
-    want(1, audit.premise == 0 && !audit.illegal, "no premise broke");
+    want(1, audit.premise == 0 && audit.moment == 0, "no premise broke");
+    want(1, !audit.illegal && audit.entry == 0, "no entry is illegal");
     WANT(FDL_OK, fdl_bus_pass(&bus, 1));
     fdl_bus_free(&bus);
 }
@@ -698,6 +726,7 @@ int main(void)
     on_a_port();
     on_data_in_and_out();
     on_telegrams();
+    on_fields();
     on_receivers();
     with_memory_refused(0);
     with_memory_refused(2);

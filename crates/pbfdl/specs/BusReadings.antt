@@ -37,7 +37,7 @@ abbrev pub TellsEntryAt : ℕ → FdlEntry → Option model.Entry → Type 0
 TellsEntryAt code told None = code ≡ 75
 TellsEntryAt code told (Some e) = (code ≡ 0) × TellsEntry told e
 
--- what an audit finds
+-- what an audit finds; the moment and the entry are 0 where it finds none
 abbrev pub TellsAudit : FdlAudit → Audit → Type 0
 TellsAudit told found =
     MatchOption found.premise ((told.premise ≡ 0) × (told.moment ≡ 0)) (λ p. (told.premise ≡ p.0) × (told.moment ≡ p.1))

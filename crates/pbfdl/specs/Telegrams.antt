@@ -1,6 +1,9 @@
 -- The telegram that C gives or gets, and its octets.
-use Rattle.std.specs.Prelude.{ℕ, Bool, true, nat_lt, ◌==◌, ◌||◌, ◌&&◌, if◌then◌else◌, List, [], ◌∷◌, ◌++◌, take}
-use Rattle.pb_telegram.specs.Grammar.{sd1, sd2, sd3, sd4, sc, ed, fcs_of, length_of}
+use Rattle.std.specs.Prelude.{◌≡◌, ℕ, Bool, nat_lt, ◌==◌, ◌||◌, if◌then◌else◌, List, [], ◌∷◌, ◌++◌, length, take}
+use Rattle.pb_telegram.specs.declared.chars.RxChar.{RxChar}
+use Rattle.pb_telegram.specs.declared.telegrams.Telegram.{Telegram}
+use Rattle.pb_telegram.specs.declared.telegrams.Telegram.TheVariants.{Short, Var, Fixed8, Token, Ack}
+use Rattle.pb_telegram.specs.Grammar.{sd1, sd2, sd3, sd4, sc, ed, fcs_of, length_of, Spells}
 use Rattle.pbfdl.specs.declared.telegrams.FdlTelegram.{FdlTelegram}
 
 -- the data of a telegram
@@ -21,11 +24,18 @@ octets_of t =
     else if t.kind == 4 then sd4 ∷ t.da ∷ t.sa ∷ []
     else sc ∷ []
 
--- the fields that its kind doesn't have are 0
-abbrev pub others_are_zero : FdlTelegram → Bool
-others_are_zero t =
-    if t.kind == 1 then t.count == 0
-    else if t.kind == 2 then true
-    else if t.kind == 3 then true
-    else if t.kind == 4 then t.fc == 0 && t.count == 0
-    else t.da == 0 && t.sa == 0 && t.fc == 0 && t.count == 0
+-- what is told of a telegram: the number of its kind, and its fields; 0 and no data where its kind has none
+abbrev pub TellsFields : FdlTelegram → (kind da sa fc : ℕ) (unit : List ℕ) → Type 0
+TellsFields told kind da sa fc unit = (told.kind ≡ kind) × (told.da ≡ da) × (told.sa ≡ sa) × (told.fc ≡ fc)
+    × (told.count ≡ length unit) × (unit_of told ≡ unit)
+
+abbrev pub TellsTelegram : FdlTelegram → Telegram → Type 0
+TellsTelegram told (Short t) = TellsFields told 1 t.da t.sa t.fc []
+TellsTelegram told (Var t) = TellsFields told 2 t.da t.sa t.fc t.unit.items
+TellsTelegram told (Fixed8 t) = TellsFields told 3 t.da t.sa t.fc t.unit
+TellsTelegram told (Token t) = TellsFields told 4 t.da t.sa 0 []
+TellsTelegram told Ack = TellsFields told 5 0 0 0 []
+
+-- the telegram that characters spell
+abbrev pub TellsSpelled : FdlTelegram → List RxChar → Type 0
+TellsSpelled told chars = (t : Telegram) × Spells chars t × TellsTelegram told t

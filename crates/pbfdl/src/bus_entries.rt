@@ -32,8 +32,8 @@ pub struct FdlEntry {
     pub heard: [u8; 127],
 }
 
-/// What an audit says: the first premise that broke, 1 to 4, with the clock after the event that broke it, or 0; and
-/// whether a telegram is illegal that only the holder of the token sends, with the index of the first.
+/// What an audit says: the first premise that broke, 1 to 4, with the clock after the event that broke it, or 0 and 0;
+/// and whether a telegram is illegal that only the holder of the token sends, with the index of the first, or 0.
 #[repr(C)]
 #[derive(Clone, Copy)]
 pub struct FdlAudit {

@@ -3,8 +3,8 @@
 //!
 //! Each call answers a code: 0, or the first fault that applies. A call with a fault changes nothing but what it says.
 //! Codes, lengths and ranges are checked here; what is proved of a call stands on the call of pb_port, pb_telegram,
-//! pb_timers or pb_world that it makes. What pb_monitor says of a capture and counts has no contract: of a monitor it is
-//! proved which of its text comes, and when.
+//! pb_timers or pb_world that it makes. Which lines pb_monitor says of a capture, and which of its counts are told, has no
+//! contract here: of a monitor it is proved which of its text comes, and when.
 #![tactic(auto)]
 
 mod bus_codes;

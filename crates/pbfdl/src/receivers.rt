@@ -1,12 +1,12 @@
 //! Characters that a receiver takes off the line one by one.
 
-ghost use Rattle.std.specs.Prelude.{◌≡◌, ◌≢◌, ◌+◌, ◌<◌, ◌≤◌, ◌++◌, ◌∷◌, [], true, length, map, take};
+ghost use Rattle.std.specs.Prelude.{◌≡◌, ◌≢◌, ◌+◌, ◌<◌, ◌≤◌, ◌++◌, ◌∷◌, [], length, map, take};
 ghost use Rattle.pb_telegram.specs.declared.chars.RxChar.TheVariants.{Good};
 ghost use Rattle.pb_telegram.specs.Faults.{fault_of};
 ghost use Rattle.pbfdl.specs.Calls.{character_of};
 ghost use Rattle.pbfdl.specs.Codes.{code_unless, telegram_code};
 ghost use Rattle.pbfdl.specs.Receivers.{heard};
-ghost use Rattle.pbfdl.specs.Telegrams.{octets_of, others_are_zero};
+ghost use Rattle.pbfdl.specs.Telegrams.{octets_of, TellsSpelled};
 
 use crate::codes::{TOO_LONG, telegram_code};
 use crate::telegrams::{FdlTelegram, tell};
@@ -47,15 +47,15 @@ pub extern "C" fn fdl_receive(receiver: &mut FdlReceiver, character: u16) -> u32
     }
 }
 
-/// The telegram that the characters spell. Codes: 44 where the receiver says that it has more than 255; 1 to 12, their
-/// first fault. The telegram is unchanged then.
+/// The telegram that the characters spell; fields that its kind doesn't have are 0. Codes: 44 where the receiver says that
+/// it has more than 255; 1 to 12, their first fault. The telegram is unchanged then.
 #[unsafe(no_mangle)]
 pub extern "C" fn fdl_received(receiver: &FdlReceiver, telegram: &mut FdlTelegram) -> u32
     ensures long { 255 < receiver.now.count → result ≡ 44 }
     ensures code { receiver.now.count ≤ 255
         → result ≡ code_unless telegram_code (fault_of (heard receiver.now)) }
     ensures spelled { result ≡ 0 → map Good (octets_of telegram.new) ≡ heard receiver.now }
-    ensures others { result ≡ 0 → others_are_zero telegram.new ≡ true }
+    ensures told { result ≡ 0 → TellsSpelled telegram.new (heard receiver.now) }
     ensures refused { result ≢ 0 → telegram.new ≡ telegram.old }
 {
     let count = usize::from(receiver.count);

@@ -6,7 +6,7 @@ ghost use Rattle.pb_telegram.specs.Faults.{fault_of};
 ghost use Rattle.pb_telegram.specs.Grammar.{spelling};
 ghost use Rattle.pb_telegram.specs.Receiving.{StandsFor};
 ghost use Rattle.pbfdl.specs.Codes.{code_unless, telegram_code};
-ghost use Rattle.pbfdl.specs.Telegrams.{unit_of, octets_of, others_are_zero, is_no_kind};
+ghost use Rattle.pbfdl.specs.Telegrams.{is_no_kind, octets_of, TellsSpelled, TellsTelegram, unit_of};
 
 use crate::codes::{BAD_KIND, NO_ROOM, telegram_code};
 use arrayvec::ArrayVec;
@@ -28,12 +28,13 @@ pub struct FdlTelegram {
     pub unit: [u8; 246],
 }
 
-/// The telegram that octets spell. Codes: 1 to 12, the first fault; the telegram is unchanged then.
+/// The telegram that octets spell; fields that its kind doesn't have are 0. Codes: 1 to 12, the first fault; the telegram
+/// is unchanged then.
 #[unsafe(no_mangle)]
 pub extern "C" fn fdl_parse(octets: &[u8], telegram: &mut FdlTelegram) -> u32
     ensures code { result ≡ code_unless telegram_code (fault_of (map Good octets.now)) }
     ensures spelled { result ≡ 0 → octets_of telegram.new ≡ octets.now }
-    ensures others { result ≡ 0 → others_are_zero telegram.new ≡ true }
+    ensures told { result ≡ 0 → TellsSpelled telegram.new (map Good octets.now) }
     ensures refused { result ≢ 0 → telegram.new ≡ telegram.old }
 {
     match received(octets).end() {
@@ -87,10 +88,10 @@ fn received(octets: &[u8]) -> Receiver
     receiver
 }
 
-/// Tells C a telegram. The fields that its kind doesn't have become 0.
+/// Tells C a telegram.
 pub(crate) fn tell(found: &Telegram, telegram: &mut FdlTelegram)
     ensures octets { octets_of telegram.new ≡ spelling found.now }
-    ensures others { others_are_zero telegram.new ≡ true }
+    ensures told { TellsTelegram telegram.new found.now }
 {
     match found {
         Telegram::Short(short) => head(telegram, 1, short.da, short.sa, short.fc),
