@@ -1,5 +1,5 @@
 -- A capture as a picture: a lane for each station that was heard, and a band of who may send tokens and requests.
-use Rattle.std.specs.Prelude.{ℕ, zero, suc, ◌+◌, ◌/◌, ◌*◌, ◌%◌, Bool, true, false, ◌==◌, nat_le, min, max, if◌then◌else◌, List, [], ◌∷◌, ◌++◌, length, position, codes, decimal, Option, Some, None}
+use Rattle.std.specs.Prelude.{ℕ, zero, suc, ◌+◌, ◌-◌, ◌/◌, ◌*◌, ◌%◌, Bool, true, false, ◌==◌, nat_le, min, max, if◌then◌else◌, List, [], ◌∷◌, ◌++◌, length, position, codes, decimal, Option, Some, None}
 use Rattle.std.specs.List.{flat_map, list_any}
 use Rattle.pb_decode.specs.Decoding.{output_of}
 use Rattle.law_turn.specs.Arrivals.{Arrival, Token, Framed, Acknowledgement, NoTelegram, arrival_of}
@@ -72,11 +72,16 @@ abbrev pub last_end : ℕ → List HeardBurst → ℕ
 last_end last [] = last
 last_end last (b ∷ bs) = last_end (max last b.end) bs
 
--- from a multiple of 100 bit times on; no clock of a picture goes further
+-- the multiple of 100 bit times up to which the first burst begins
+abbrev pub zero_of : List HeardBurst → ℕ
+zero_of bs = first_begin bs / 100 * 100
+
+-- its moments are counted from there; no clock of a picture goes further
 abbrev pub sheet_of : List HeardBurst → (lanes : List ℕ) → Sheet
 sheet_of bs lanes = record {
-  from = min 1000000000000 (first_begin bs) / 100 * 100;
-  last = min 2000000000000 (last_end 0 bs);
+  zero = zero_of bs;
+  from = 0;
+  last = min 2000000000000 (last_end 0 bs - zero_of bs);
   lanes = length lanes;
 }
 
@@ -240,7 +245,7 @@ burst_box sheet lane b =
 
 -- what begins within the clock of a picture has a box
 abbrev pub box_if : Sheet → Option ℕ → HeardBurst → List ℕ
-box_if sheet lane b = if nat_le b.begin 1000000000000 then burst_box sheet lane b else []
+box_if sheet lane b = if nat_le (b.begin - sheet.zero) 1000000000000 then burst_box sheet lane b else []
 
 abbrev pub boxes : Sheet → (lanes speakers : List ℕ) → List HeardBurst → List ℕ
 boxes sheet lanes [] bs = []

@@ -24,13 +24,13 @@ lines sheet =
 
 -- ---- a scale
 
--- the number and the line of a moment
+-- the number and the line of a moment of the sheet
 abbrev pub mark : Sheet → (strip moment : ℕ) → List ℕ
 mark sheet strip t =
     all_of (codes "<rect x=\"" ∷ decimal (across sheet t) ∷ codes "\" y=\"" ∷ decimal (top sheet strip + 4)
     ∷ codes "\" width=\"1\" height=\"" ∷ decimal (lane_top sheet.lanes - 4) ∷ codes "\"/>" ∷ [])
     ++ text_at sheet t 4 13
-    ++ all_of (decimal t ∷ codes "</text>\n" ∷ [])
+    ++ all_of (decimal (sheet.zero + t) ∷ codes "</text>\n" ∷ [])
 
 -- up to the last one of the sheet
 abbrev pub mark_if : Sheet → (strip moment : ℕ) → List ℕ

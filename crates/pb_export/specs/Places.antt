@@ -22,9 +22,9 @@ top sheet strip = 36 + strip * row_height sheet
 abbrev pub rows : Sheet → ℕ
 rows sheet = strip sheet (sheet.last - 1) + 1
 
--- a stretch as far as it is on the sheet
+-- a stretch as far as it is on the sheet, counted as there
 abbrev pub clip : Sheet → Stretch → Stretch
-clip sheet x = record { begin = max x.begin sheet.from; end = min x.end sheet.last }
+clip sheet x = record { begin = max (x.begin - sheet.zero) sheet.from; end = min (x.end - sheet.zero) sheet.last }
 
 abbrev pub lane_top : ℕ → ℕ
 lane_top lane = 44 + 28 * lane

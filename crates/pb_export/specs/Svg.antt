@@ -20,7 +20,7 @@ use Rattle.pb_export.specs.Styles.{light, dark, patterns, legend}
 
 -- from a multiple of 100 bit times on, with some lanes
 abbrev pub sheet_of : Window → (until : ℕ) → List Entry → (lanes : List ℕ) → Sheet
-sheet_of w until es lanes = record { from = w.from / 100 * 100; last = last_moment w until es; lanes = length lanes }
+sheet_of w until es lanes = record { zero = 0; from = w.from / 100 * 100; last = last_moment w until es; lanes = length lanes }
 
 abbrev pub head_with : Sheet → (legend : List ℕ) → List ℕ
 head_with sheet legend =

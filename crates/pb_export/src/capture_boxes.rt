@@ -1,6 +1,6 @@
 //! The boxes of the picture of a capture: bursts in the lanes of those who sent them.
 
-ghost use Rattle.std.specs.Prelude.{◌≡◌, ◌≤◌, ◌==◌, ◌++◌, OnOk, IfSome, length, position};
+ghost use Rattle.std.specs.Prelude.{◌≡◌, ◌≤◌, ◌==◌, ◌-◌, ◌++◌, OnOk, IfSome, length, position};
 ghost use Rattle.std.specs.List.{flat_map};
 ghost use Rattle.pb_transitions.specs.Arrivals.{brings};
 ghost use Rattle.law_turn.specs.Arrivals.{arrival_of};
@@ -48,7 +48,7 @@ fn lane_of(lanes: &[u8], speaker: u8) -> Option<usize>
     lanes.iter().position(|other| *other == speaker)
 }
 
-/// Appends the box of a burst, if it begins within the clock of a picture.
+/// Appends the box of a burst, if it begins within the clock of a picture after the first one.
 fn push_shown(
     text: &mut Vec<u8>,
     alloc: Global,
@@ -59,7 +59,7 @@ fn push_shown(
     requires { IfSome lane (λ lane. lane ≤ 127) }
     ensures { OnOk result (text.new.items ≡ text.old.items ++ svg.box_if sheet lane burst.now) }
 {
-    if burst.begin <= LATEST {
+    if sheet.since_zero(burst.begin) <= LATEST {
         push_box(text, alloc, sheet, lane, burst)
     } else {
         Ok(())
@@ -75,7 +75,7 @@ fn push_box(
     burst: &HeardBurst,
 ) -> Result<(), AllocError>
     requires lane { IfSome lane (λ lane. lane ≤ 127) }
-    requires begin { burst.now.begin ≤ 1000000000000 }
+    requires begin { burst.now.begin - sheet.zero ≤ 1000000000000 }
     ensures { OnOk result (text.new.items ≡ text.old.items ++ svg.burst_box sheet lane burst.now) }
 {
     let stretch = sheet.clip(Stretch {

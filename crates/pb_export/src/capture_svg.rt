@@ -7,7 +7,6 @@ ghost use Rattle.pb_export.specs.Places.{rows};
 use crate::capture_band::push_band;
 use crate::capture_boxes::push_boxes;
 use crate::lanes::{push_label, push_lines, push_scale};
-use crate::options::LATEST;
 use crate::pieces::{Piece, push_pieces};
 use crate::places::{Sheet, lane_top};
 use crate::speakers::{lanes_of, speakers_of};
@@ -19,7 +18,8 @@ use std::alloc::{AllocError, Global};
 
 /// Appends a capture as a picture (SVG): rows of 500 bit times from left to right, in each a scale, a band of who may send
 /// tokens and requests, and a lane for each station that was heard. Each burst is a box in the lane of who sent it; one
-/// whose sender is not known is a box across all lanes. What begins after 1,000,000,000,000 bit times has no box.
+/// whose sender is not known is a box across all lanes. What begins over 1,000,000,000,000 bit times after the first burst
+/// has no box.
 ///
 /// Fault: memory was refused.
 pub fn push_capture_svg(
@@ -40,11 +40,9 @@ fn sheet_of(bursts: &[HeardBurst], lanes: &[u8]) -> Sheet
     requires { length lanes.now ≤ 127 }
     ensures { result ≡ svg.sheet_of bursts.now lanes.now }
 {
-    Sheet::new(
-        first_begin(bursts).min(LATEST) / STEP * STEP,
-        last_end(bursts).min(END),
-        lanes.len() as u64,
-    )
+    let zero = first_begin(bursts) / STEP * STEP;
+    let last = last_end(bursts).saturating_sub(zero).min(END);
+    Sheet::new(zero, 0, last, lanes.len() as u64)
 }
 
 /// When the first burst begins; 0 if there is none.

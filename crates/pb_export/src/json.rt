@@ -22,7 +22,7 @@ use pb_world::{Heard, Reception, Record};
 use std::alloc::AllocError;
 
 /// Appends a trace as JSON, an object a line: the parameters of the bus and its stations, then each entry that is shown.
-/// All times are in bit times. A name needs no escape: it has letters and digits alone, where a file was read.
+/// All times are in bit times. A name needs no escape: where a file was read, it has letters, digits, `-` and `_` alone.
 ///
 /// Fault: memory was refused.
 pub fn push_json(

@@ -138,7 +138,7 @@ fn push_mark_if(text: &mut Vec<u8>, sheet: Sheet, strip: u64, moment: u64) -> Re
 /// Appends the number and the line of a moment.
 fn push_mark(text: &mut Vec<u8>, sheet: Sheet, strip: u64, moment: u64) -> Result<(), AllocError>
     requires strip { strip ≤ 4000000000 }
-    requires moment { moment ≤ 2000000000000 }
+    requires moment { moment ≤ sheet.last }
     ensures { OnOk result (text.new.items ≡ text.old.items ++ lanes.mark sheet strip moment) }
 {
     push_pieces(
@@ -154,7 +154,13 @@ fn push_mark(text: &mut Vec<u8>, sheet: Sheet, strip: u64, moment: u64) -> Resul
         ],
     )?;
     push_text_at(text, sheet, moment, 4, 13)?;
-    push_pieces(text, &[Piece::Number(moment), Piece::Text(b"</text>\n")])
+    push_pieces(
+        text,
+        &[
+            Piece::Number(sheet.number(moment)),
+            Piece::Text(b"</text>\n"),
+        ],
+    )
 }
 
 /// Appends the names and the addresses of the stations at some taps, left of a strip.

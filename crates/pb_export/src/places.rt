@@ -34,9 +34,11 @@ pub(crate) const WIDTH: u64 = 1170;
 /// The moments and the lanes of a picture.
 #[derive(Clone, Copy, Debug)]
 pub(crate) struct Sheet {
-    /// The first moment, in bit times (0 to 1,000,000,000,000).
+    /// The moment from which those of the sheet are counted, in bit times.
+    zero: u64,
+    /// The first moment of the sheet, in bit times (0 to 1,000,000,000,000).
     from: u64,
-    /// The last moment, in bit times (0 to 2,000,000,000,000).
+    /// The last moment of the sheet, in bit times (0 to 2,000,000,000,000).
     last: u64,
     /// How many lanes there are (0 to 127).
     lanes: u64,
@@ -47,11 +49,11 @@ impl Model for Sheet {
 
     ghost Value = { sheets.Sheet };
 
-    ghost view = { λ s. record { from = s.from; last = s.last; lanes = s.lanes } };
+    ghost view = { λ s. record { zero = s.zero; from = s.from; last = s.last; lanes = s.lanes } };
 
-    ghost invariant = { λ s. sheets.IsSheet (record { from = s.from; last = s.last; lanes = s.lanes }) };
+    ghost invariant = { λ s. sheets.IsSheet (record { zero = s.zero; from = s.from; last = s.last; lanes = s.lanes }) };
 
-    ghost inverse = { λ v. record { from = v.from; last = v.last; lanes = v.lanes } };
+    ghost inverse = { λ v. record { zero = v.zero; from = v.from; last = v.last; lanes = v.lanes } };
 }
 
 /// A bar in each strip: how far below the strip's top, and how high.
@@ -82,16 +84,36 @@ impl Stretch {
 }
 
 impl Sheet {
-    ghost use Rattle.std.specs.Prelude.{◌≡◌, ◌≤◌, ◌<◌};
+    ghost use Rattle.std.specs.Prelude.{◌≡◌, ◌≤◌, ◌<◌, ◌+◌, ◌-◌};
     ghost use Rattle.pb_export.specs.Places as places;
     ghost use Rattle.pb_export.specs.Sheets.{IsSheet};
 
-    /// A sheet of these moments and so many lanes.
-    pub(crate) fn new(from: u64, last: u64, lanes: u64) -> Sheet
-        requires { IsSheet (record { from = from; last = last; lanes = lanes }) }
-        ensures { result ≡ record { from = from; last = last; lanes = lanes } }
+    /// A sheet of these moments, counted from another one, and so many lanes.
+    pub(crate) fn new(zero: u64, from: u64, last: u64, lanes: u64) -> Sheet
+        requires { IsSheet (record { zero = zero; from = from; last = last; lanes = lanes }) }
+        ensures { result ≡ record { zero = zero; from = from; last = last; lanes = lanes } }
     {
-        Sheet { from, last, lanes }
+        Sheet {
+            zero,
+            from,
+            last,
+            lanes,
+        }
+    }
+
+    /// How far a moment is behind the one from which those of the sheet are counted, in bit times.
+    pub(crate) fn since_zero(self, moment: u64) -> u64
+        ensures { result ≡ moment - self.zero }
+    {
+        moment.saturating_sub(self.zero)
+    }
+
+    /// The number of a moment of the sheet on a scale, in bit times.
+    pub(crate) fn number(self, moment: u64) -> u64
+        requires { moment ≤ self.last }
+        ensures { result ≡ self.zero + moment }
+    {
+        self.zero + moment
     }
 
     /// The first moment, in bit times.
@@ -188,14 +210,14 @@ impl Sheet {
         }
     }
 
-    /// A stretch as far as it is on the sheet.
+    /// A stretch as far as it is on the sheet, counted as there.
     pub(crate) fn clip(self, stretch: Stretch) -> Stretch
         ensures value { result ≡ places.clip self stretch }
         ensures end { result.end ≤ 2000000000000 }
     {
         Stretch {
-            begin: stretch.begin.max(self.from),
-            end: stretch.end.min(self.last),
+            begin: self.since_zero(stretch.begin).max(self.from),
+            end: self.since_zero(stretch.end).min(self.last),
         }
     }
 }

@@ -91,6 +91,7 @@ fn push_run(
 {
     let lanes = lanes_of(alloc, scenario, entries)?;
     let sheet = Sheet::new(
+        0,
         window.from / STEP * STEP,
         last_moment(window, steps.until, entries),
         lanes.len() as u64,

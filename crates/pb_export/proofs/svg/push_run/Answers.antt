@@ -23,8 +23,8 @@ returns c =
     let found-2 : c.deref-2.result.now ≡ lanes = c.deref-2.ensures.value ∙ c.in_ok-lanes.ensures.lanes in
     let count = c.len.ensures ∙ sym c.deref.ensures.len in
     let is : c.new-sheet.result ≡ sheet =
-    c.new-sheet.ensures ∙ ap (λ (m : ℕ). record { from = w.from / 100 * 100; last = m; lanes = c.len.result }) c.last_moment.ensures.value
-    ∙ ap (λ (n : ℕ). record { from = w.from / 100 * 100; last = last_moment w until es; lanes = n }) count
+    c.new-sheet.ensures ∙ ap (λ (m : ℕ). record { zero = 0; from = w.from / 100 * 100; last = m; lanes = c.len.result }) c.last_moment.ensures.value
+    ∙ ap (λ (n : ℕ). record { zero = 0; from = w.from / 100 * 100; last = last_moment w until es; lanes = n }) count
     ∙ ap (sheet_of w until es) found in
     let p0 : List ℕ = traced w s es sheet lanes in
     let p1 : List ℕ = marks_text s sheet lanes steps in
