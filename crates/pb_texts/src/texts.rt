@@ -223,12 +223,12 @@ fn push_warning(text: &mut Vec<u8>, applies: bool, words: &[u8]) -> Result<(), A
     text.extend_from_slice(b"\n")
 }
 
-/// The warning that nobody joins.
+/// The warning that a ring of all masters asks no address.
 #[tactic(auto, unfolding(crate::specs::Texts::asks_words))]
 pub(crate) fn asks_words() -> &'static [u8]
     ensures { result.now ≡ texts.asks_words }
 {
-    b"ttr is at most the shortest rotation: after a first receipt no GAP request is sent, and no master joins"
+    b"ttr is at most the shortest rotation: after a first receipt a ring of all masters sends no GAP request"
 }
 
 /// The warning that a GAP round is long.

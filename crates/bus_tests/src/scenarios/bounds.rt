@@ -55,7 +55,7 @@ kind = \"master\"
 address = 0
 ";
 
-/// Four masters, whose shortest rotation of 264 is longer than the target rotation time: no GAP request is sent.
+/// Four masters, whose shortest rotation of 264 is longer than the target rotation time: their ring sends no GAP request.
 const FOUR: &str = "version = 1
 until = 20000
 [bus]
@@ -120,7 +120,7 @@ fn bounds_are_an_object(rt: HostRuntime) {
 fn a_short_rotation_is_warned_of(rt: HostRuntime) {
     let text = bounds_text(rt.alloc(), &scenario(&rt, FOUR), 1_500_000).expect(&rt, "text");
     let warning =
-        "warning: ttr is at most the shortest rotation: after a first receipt no GAP request is sent, and no master joins\n";
+        "warning: ttr is at most the shortest rotation: after a first receipt a ring of all masters sends no GAP request\n";
     assert!(rt; text.as_slice().ends_with(warning.as_bytes()));
 }
 
