@@ -95,7 +95,7 @@ faults! {
     ZeroTime = 85, "the time is 0 bit times";
     TooFar = 86, "the time leads past the next end on the bus (Bus::next_change), or noise lasts over 4,294,967,295 bit times";
     ClockFull = 87, "the clock would be over 1,000,000,000,000";
-    TraceFull = 90, "the trace has 100,000 entries, and holds no more";
+    TraceFull = 90, "the trace has as many entries as the bus was made for";
     NoMonitor = 91, "the monitor is empty";
     MonitorInUse = 92, "the monitor is not empty";
     BadForm = 93, "there is no such form of a capture or of a summary";

@@ -392,7 +392,7 @@ class ClockFull(Fault):
 
 
 class TraceFull(Fault):
-    """The trace has 100,000 entries, and holds no more."""
+    """The trace has as many entries as the bus was made for, and holds no more."""
 
     code = 90
 
