@@ -258,20 +258,20 @@ fn is_closed<L: Ledger>(rt: &(impl Abort + Print), used: Used<L>, mut seats: Vec
 
 #[test]
 fn refused_memory_in_a_segment(rt: HostRuntime) {
-    refused_memory(&rt, false);
+    let specs = [master(1), master(2)];
+    let Ok(world) = World::new(rt.alloc(), usual(&rt), &specs) else {
+        return refused(&rt);
+    };
+    let blank = Blank::new(world.taps() as u64 + 1);
+    refused_once::<Brand, HostRuntime>(&rt, blank, world, false);
 }
 
 #[test]
 fn refused_memory_in_a_turn_at_once(rt: HostRuntime) {
-    refused_memory(&rt, true);
-}
-
-/// All events happen on a new segment of two masters.
-fn refused_memory<R: AllocGlobal + Abort + Print + Wait>(rt: &R, at_once: bool) {
     let specs = [master(1), master(2)];
-    let Ok(world) = World::new(rt.alloc(), usual(rt), &specs) else {
-        return refused(rt);
+    let Ok(world) = World::new(rt.alloc(), usual(&rt), &specs) else {
+        return refused(&rt);
     };
     let blank = Blank::new(world.taps() as u64 + 1);
-    refused_once::<Brand, R>(rt, blank, world, at_once);
+    refused_once::<Brand, HostRuntime>(&rt, blank, world, true);
 }
