@@ -13,7 +13,7 @@ use crate::frames::Frame;
 use crate::messages::Message;
 use crate::outcomes::{Outcome, reply_outcome};
 use crate::requests::Request;
-use pb_telegram::Telegram;
+use pb_telegram::{Fc, Telegram};
 use std::marker::Model;
 
 /// A request that waits for its reply.
@@ -98,10 +98,12 @@ impl Initiator {
         let code = service.code(request.high());
         if !service.is_answered() {
             self.pending = None;
-            return Frame::new(da, ts, 0x40 + code, request.into_unit()).telegram();
+            let fc = Fc::request(0, code);
+            return Frame::new(da, ts, fc.0, request.into_unit()).telegram();
         }
         let count = self.counts.at(da);
-        let sent = Frame::new(da, ts, 0x40 + count.bits() + code, request.into_unit());
+        let fc = Fc::request(count.bits(), code);
+        let sent = Frame::new(da, ts, fc.0, request.into_unit());
         let telegram = sent.telegram();
         self.counts.put(da, count.next());
         self.pending = Some(OpenRequest {

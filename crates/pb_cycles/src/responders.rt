@@ -264,8 +264,8 @@ fn reply_frame(ts: u8, station_type: u8, request: &Frame, code: u8, unit: &[u8])
     requires unit_fits { length unit.now ≤ 246 }
     ensures { result ≡ reply_frame ts station_type request.now code unit.now }
 {
-    let fc = 16 * station_type + code;
-    Reply::Answer(Frame::new(request.sa() % 128, ts, fc, copy_octets(unit)))
+    let fc = Fc::reply(station_type, code);
+    Reply::Answer(Frame::new(request.sa() % 128, ts, fc.0, copy_octets(unit)))
 }
 
 /// The reply to an SRD: the reply data with the priority of the request, or NR if there is none.

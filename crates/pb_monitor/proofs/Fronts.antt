@@ -1,6 +1,6 @@
 -- What the first octets of a stream say of the telegram that begins it.
 use Rattle.std.proofs.Common.{◌≡◌, ℕ, ◌+◌, ◌≤◌, false, if◌then◌else◌, ◌==◌, ◌&&◌, List, [], ◌∷◌, ◌++◌, length, take, drop, map, refl, sym, ap, ◌∙◌, subst, arith, Option, Some, None}
-use Rattle.std.specs.Prelude.{nat_le, slice_index, Result, Ok, Err, IfOk, OnErr}
+use Rattle.std.specs.Prelude.{nat_le, slice_index}
 use Rattle.std.proofs.lemmas.Bool.{le-leb}
 use Rattle.std.proofs.lemmas.List.{length-append, take-append-le, take-append-drop}
 use Rattle.std.proofs.Math.Seq.{take-append_seam}
@@ -10,26 +10,12 @@ use Rattle.pb_telegram.specs.declared.chars.RxChar.TheVariants.{Good}
 use Rattle.pb_telegram.specs.declared.faults.TelegramFault.{TelegramFault}
 use Rattle.pb_telegram.specs.declared.telegrams.Telegram.{Telegram}
 use Rattle.pb_telegram.specs.declared.telegrams.Telegram.TheVariants.{Short, Var, Fixed8, Token, Ack}
-use Rattle.pb_telegram.proofs.Spelled.{octets-map}
+use Rattle.pb_telegram.proofs.Spelled.{same_octets}
 use Rattle.pb_monitor.specs.Cutting.{NoneBegins, need_by, need_of_data, needs}
 
 abbrev value : Option ℕ → ℕ
 value None = 0
 value (Some n) = n
-
--- the same octets, as good characters
-pub same_octets : (xs ys : List ℕ) → map Good xs ≡ map Good ys → xs ≡ ys
-same_octets xs ys e = sym (octets-map xs) ∙ ap octets e ∙ octets-map ys
-
--- an answer, for octets
-pub spelled_ok : (xs : List ℕ) (r : Result Telegram TelegramFault) → IfOk r (Spells (map Good xs)) → IfOk r (λ t. xs ≡ spelling t)
-spelled_ok xs (Ok t) s = same_octets xs (spelling t) s
-spelled_ok xs (Err fault) s = tt
-
-pub none_spelled : (xs : List ℕ) (r : Result Telegram TelegramFault) → ((t : Telegram) → Spells (map Good xs) t → r ≡ Ok t)
-    → OnErr r ((t : Telegram) → xs ≡ spelling t → ⊥)
-none_spelled xs (Ok t) h = tt
-none_spelled xs (Err fault) h = λ t same. let e : Err fault ≡ Ok t = h t (ap (map Good) same) in cc
 
 framed_length : (unit : List ℕ) (check : ℕ) → length (unit ++ check ∷ ed ∷ []) ≡ length unit + 2
 framed_length unit check = length-append unit (check ∷ ed ∷ [])

@@ -1,6 +1,10 @@
 //! What was on the bus from one moment to another.
 
-use pb_telegram::{ACKNOWLEDGEMENT, TOKEN_START, Telegram, TelegramFault};
+ghost use Rattle.std.specs.Prelude.{◌≡◌, IfOk};
+ghost use Rattle.pb_telegram.specs.Grammar.{spelling};
+
+use arrayvec::ArrayVec;
+use pb_telegram::{ACKNOWLEDGEMENT, TOKEN_START, Telegram, TelegramFault, write};
 
 /// Activity on the bus from one moment to another, with nothing before or after it.
 #[derive(Debug, PartialEq, Eq, Drop)]
@@ -51,5 +55,15 @@ impl Rooms {
             [ACKNOWLEDGEMENT, ..] => &mut self.acknowledgements,
             _ => &mut self.others,
         }
+    }
+}
+
+/// The octets of a telegram; none where there is none.
+pub(crate) fn octets_of(telegram: &Result<Telegram, TelegramFault>) -> ArrayVec<u8, 255>
+    ensures { IfOk telegram.now (λ t. result.items ≡ spelling t) }
+{
+    match telegram {
+        Ok(telegram) => write(telegram),
+        Err(_) => ArrayVec::new(),
     }
 }

@@ -3,11 +3,10 @@
 ghost use Rattle.std.specs.Prelude.{◌≡◌, ◌↔◌, ◌==◌, ◌+◌, ◌<◌, ◌≤◌, ◌++◌, ◌∷◌, [], IsTrue, IsFalse, drop, take, length, None, IfSome, OnSome};
 ghost use Rattle.pb_monitor.specs.Cutting.{IsCutAs, IsSpelledBy, is_decided, need_by, need_of_data, needs};
 
-use crate::spelled::read_octets;
 use arrayvec::ArrayVec;
 use pb_telegram::{
     FIXED_START, Receiver, SHORT_START, TOKEN_START, Telegram, TelegramFault, VAR_START,
-    copy_octets,
+    copy_octets, read_octets,
 };
 use std::marker::Model;
 

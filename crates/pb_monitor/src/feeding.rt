@@ -3,14 +3,13 @@
 ghost use Rattle.std.specs.Prelude.{◌≡◌, ◌<◌, ◌≤◌, [], length, IfOk};
 ghost use Rattle.pb_telegram.specs.Grammar.{spelling};
 
-use crate::bursts::{Burst, Rooms};
+use crate::bursts::{Burst, Rooms, octets_of};
 use crate::cutting::{Cut, cut_front};
 use crate::heard_bursts::Known;
 use crate::lines::When;
 use crate::monitors::Monitor;
 use crate::pcap::{Heads, Item, PACKET_HEAD, Part, PcapFault, Stamp};
 use crate::reports::{push_refused, put_content};
-use crate::spelled::octets_of;
 use crate::texts::{push_number, put, put_number};
 use arrayvec::ArrayVec;
 use pb_telegram::RxChar;

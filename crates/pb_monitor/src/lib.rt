@@ -24,7 +24,6 @@ mod pcap;
 mod pcapng;
 mod repeats;
 mod reports;
-mod spelled;
 mod spreads;
 mod states;
 mod stations;

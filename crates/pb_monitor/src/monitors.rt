@@ -6,7 +6,7 @@ ghost use Rattle.pb_monitor.specs.Lines.{IsTold};
 
 use crate::alarms::Alarm;
 use crate::buffers::LineBuffer;
-use crate::bursts::{Burst, Rooms};
+use crate::bursts::{Burst, Rooms, octets_of};
 use crate::cutting::Cutter;
 use crate::formats::{Form, Options};
 use crate::heard_bursts::{HeardBurst, Kept, Known, Named, bits, named_before};
@@ -21,14 +21,13 @@ use crate::pcap::Packets;
 use crate::reports::{
     Raised, push_alarm, push_refused, push_untimed_alarm, put_content, put_holder,
 };
-use crate::spelled::{octets_of, read_octets};
 use crate::states::State;
 use crate::statistics::Statistics;
 use crate::summaries::push_summary;
 use crate::texts::{push_number, put, put_number};
 use arrayvec::ArrayVec;
 use bstr::ByteSlice;
-use pb_telegram::Receiver;
+use pb_telegram::{Receiver, read_octets};
 use pb_timers::BusParams;
 use std::alloc::{AllocError, Global};
 

@@ -5,10 +5,9 @@ ghost use Rattle.pb_telegram.specs.Grammar.{spelling};
 ghost use Rattle.pb_telegram.specs.Heads.{head_of};
 ghost use Rattle.pb_monitor.specs.Known.{answers, damaged_open, is_awaited, is_in_slot, is_over, wants_answer};
 
-use crate::bursts::Burst;
+use crate::bursts::{Burst, octets_of};
 use crate::meanings::{InitiatorTelegram, Meaning, meaning_in, passed};
 use crate::repeats::Repeats;
-use crate::spelled::octets_of;
 use crate::states::live;
 use crate::stations::{Station, one_more};
 use crate::tallies::{ask, close, forget_receipts, initiate, reply, send_token, take_offer};

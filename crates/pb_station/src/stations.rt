@@ -23,9 +23,7 @@ use pb_rotation::Rotation;
 use pb_telegram::{copy_octets, put_octets};
 use pb_timers::{BusParams, Moment};
 use pb_tokenfsm::{Listening, Offline, PassiveIdle, Phase};
-use pb_transitions::{
-    Address, Core, Cycles, Kept, Past, SendBuffer, Waiting, beginning, copy_outcome,
-};
+use pb_transitions::{Address, Core, Cycles, Kept, Past, SendBuffer, Waiting, copy_outcome};
 use std::alloc::Global;
 use std::marker::Model;
 
@@ -113,7 +111,7 @@ impl Station {
         let data = copy_octets(&reply);
         let core = Core {
             phase: Phase::Offline(Offline),
-            kept: new_kept(Address::new(address), &params, data, beginning()),
+            kept: new_kept(Address::new(address), &params, data, Moment::at(0)),
             waiting,
         };
         let parts = Parts {

@@ -20,7 +20,7 @@ use crate::reading::{after_marks, after_notes};
 use pb_timers::{BusParams, Moment};
 use pb_tokenfsm::Phase;
 use pb_transitions::{
-    Core, Kept, SendBuffer, Waiting, after, after_timer, earlier, is_past, speak, speaks_at, timer,
+    Core, Kept, SendBuffer, Waiting, after_timer, earlier, is_past, speak, speaks_at, timer,
     would_say,
 };
 
@@ -210,7 +210,7 @@ fn settle(phase: &mut Phase, kept: &mut Kept, params: &BusParams, inbox: &Inbox,
         octets,
     } = inbox.unread();
     after_notes(phase, kept, params, notes, chars, octets, now);
-    after_timer(phase, kept, params, after(now, 1));
+    after_timer(phase, kept, params, now.after(1));
 }
 
 /// The same with the unread marks of a mailbox, which then has the requests that the station executes.
@@ -229,7 +229,7 @@ fn settle_with(
         → mail.new ≡ read_mail params.now (station_with kept.old queue (phase_of phase.old)) mail.old }
 {
     mail.read(phase, kept, params, now);
-    after_timer(phase, kept, params, after(now, 1));
+    after_timer(phase, kept, params, now.after(1));
 }
 
 /// The same with a list of marks.
@@ -240,7 +240,7 @@ fn settle_on(phase: &mut Phase, kept: &mut Kept, params: &BusParams, marks: &[Ma
         kept.old (phase_of phase.old) kept.new (phase_of phase.new) }
 {
     after_marks(phase, kept, params, marks, now);
-    after_timer(phase, kept, params, after(now, 1));
+    after_timer(phase, kept, params, now.after(1));
 }
 
 /// Whether a moment has come; `None` never does.

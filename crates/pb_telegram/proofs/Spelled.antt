@@ -1,16 +1,18 @@
 -- Characters, their octets, and what they spell.
 use Rattle.std.proofs.Common.{◌≡◌, ℕ, ◌+◌, ◌%◌, ◌<◌, ◌≤◌, List, [], ◌∷◌, ◌++◌, length, map, refl, ap, sym, ◌∙◌, arith, None}
-use Rattle.std.specs.Prelude.{slice_index, slice_range}
+use Rattle.std.specs.Prelude.{slice_index, slice_range, Option, Some, IfNone, Result, Ok, Err, IfOk, OnErr}
 use Rattle.std.specs.List.{position_from}
 use Rattle.std.proofs.lemmas.Bool.Decides.{nat_tests}
 use Rattle.std.proofs.lemmas.Grind.{common_steps}
 use Rattle.pb_faults.specs.FirstFault.{first_fault}
-use Rattle.pb_telegram.specs.Grammar.{sd2, sd3, ed, fcs_of, length_of, spelling}
+use Rattle.pb_telegram.specs.Grammar.{sd2, sd3, ed, fcs_of, length_of, spelling, Spells}
 use Rattle.pb_telegram.specs.Faults.{octets, is_bad, place_of_bad, octet_faults, end_faults, fault_of}
 use Rattle.pb_telegram.specs.declared.chars.RxChar.{RxChar}
 use Rattle.pb_telegram.specs.declared.chars.RxChar.TheVariants.{Good, Bad}
+use Rattle.pb_telegram.specs.declared.faults.TelegramFault.{TelegramFault}
 use Rattle.pb_telegram.specs.declared.telegrams.Telegram.{Telegram}
 use Rattle.pb_telegram.specs.declared.telegrams.Telegram.TheVariants.{Short, Var, Fixed8, Token, Ack}
+use Rattle.pb_telegram.specs.declared.telegrams.TokenTelegram.{TokenTelegram}
 use Rattle.pb_telegram.proofs.Frames.{frame_parts, four_first, seven_first, frame_length, frame_unit, frame_check, frame_last}
 
 -- characters of which none is damaged are their octets, each good
@@ -120,3 +122,30 @@ some_octet Ack = omega arith
 
 pub one_fault_free : (t : Telegram) → fault_of (map Good (spelling t)) ≡ None
 one_fault_free t = good_fault_free (spelling t) (some_octet t) (octets_fault_free t)
+
+-- the same octets, as good characters
+pub same_octets : (xs ys : List ℕ) → map Good xs ≡ map Good ys → xs ≡ ys
+same_octets xs ys e = sym (octets-map xs) ∙ ap octets e ∙ octets-map ys
+
+-- an answer, for octets
+pub spelled_ok : (xs : List ℕ) (r : Result Telegram TelegramFault) → IfOk r (Spells (map Good xs)) → IfOk r (λ t. xs ≡ spelling t)
+spelled_ok xs (Ok t) s = same_octets xs (spelling t) s
+spelled_ok xs (Err fault) s = tt
+
+pub none_spelled : (xs : List ℕ) (r : Result Telegram TelegramFault) → ((t : Telegram) → Spells (map Good xs) t → r ≡ Ok t)
+    → OnErr r ((t : Telegram) → xs ≡ spelling t → ⊥)
+none_spelled xs (Ok t) h = tt
+none_spelled xs (Err fault) h = λ t same. let e : Err fault ≡ Ok t = h t (ap (map Good) same) in cc
+
+-- two addresses of which no token is made: octets with these spell none
+pub no_token : (xs : List ℕ) (da sa : ℕ) (r : Option TokenTelegram) → da ≡ slice_index xs 1 → sa ≡ slice_index xs 2
+    → IfNone r ((t : TokenTelegram) → t.da ≡ da → t.sa ≡ sa → ⊥) → IfNone r ((t : TokenTelegram) → xs ≡ spelling (Token t) → ⊥)
+no_token xs da sa (Some t) first second none = tt
+no_token xs da sa None first second none =
+    λ t e. none t (sym (ap (λ (l : List ℕ). slice_index l 1) e) ∙ sym first) (sym (ap (λ (l : List ℕ). slice_index l 2) e) ∙ sym second)
+
+pub no_token_in : (chars : List RxChar) (da sa : ℕ) (r : Option TokenTelegram) → da ≡ slice_index (octets chars) 1 → sa ≡ slice_index (octets chars) 2
+    → IfNone r ((t : TokenTelegram) → t.da ≡ da → t.sa ≡ sa → ⊥) → IfNone r ((t : TokenTelegram) → Spells chars (Token t) → ⊥)
+no_token_in chars da sa (Some t) first second none = tt
+no_token_in chars da sa None first second none =
+    λ t e. no_token (octets chars) da sa None first second none t (ap octets e ∙ octets-map (spelling (Token t)))

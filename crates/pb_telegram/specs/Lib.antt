@@ -1,3 +1,4 @@
+pub mod Control
 pub mod FaultWords
 pub mod Faults
 pub mod Grammar

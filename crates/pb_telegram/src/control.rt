@@ -1,6 +1,7 @@
 //! The frame control octet (FC) and the check octet (FCS).
 
-ghost use Rattle.std.specs.Prelude.{◌≡◌, ◌↔◌, ◌+◌, ◌*◌, ◌/◌, ◌%◌, IsTrue, IsBitSet};
+ghost use Rattle.std.specs.Prelude.{◌≡◌, ◌≤◌, ◌<◌, ◌↔◌, ◌+◌, ◌*◌, ◌/◌, ◌%◌, IsTrue, IsBitSet};
+ghost use Rattle.pb_telegram.specs.Control.{type_bits};
 ghost use Rattle.pb_telegram.specs.Grammar.{fcs_of};
 
 /// A frame control octet (IEC 61158-4-3, frame control field).
@@ -10,7 +11,57 @@ ghost use Rattle.pb_telegram.specs.Grammar.{fcs_of};
 #[derive(Clone, Copy, Debug, PartialEq, Eq)]
 pub struct Fc(pub u8);
 
+/// The station type in a reply (IEC 61158-4-3, frame control field).
+#[derive(Clone, Copy, Debug, PartialEq, Eq)]
+pub enum StationType {
+    /// A passive station.
+    Passive,
+    /// A master that is not ready to enter the ring.
+    NotReady,
+    /// A master that is ready to enter the ring.
+    Ready,
+    /// A master in the ring.
+    InRing,
+}
+
+impl StationType {
+    /// Its two bits, as a number from 0 to 3.
+    pub fn bits(self) -> u8
+        ensures value { result ≡ type_bits self }
+        ensures bound { result ≤ 3 }
+    {
+        match self {
+            StationType::Passive => 0,
+            StationType::NotReady => 1,
+            StationType::Ready => 2,
+            StationType::InRing => 3,
+        }
+    }
+}
+
 impl Fc {
+    /// Request FDL Status: function code 9, without a frame count bit.
+    pub const STATUS_REQUEST: Fc = Fc(0x49);
+
+    /// The control octet of a request with a function code, 0 to 15. `count` is bits 5 and 4 where they stand: 0 without
+    /// a frame count bit, else 0x10 or 0x30 for a valid one that is 0 or 1, and 0x20 for the first request.
+    pub fn request(count: u8, code: u8) -> Fc
+        requires count_bits { count ≤ 0x30 }
+        requires code_bits { code < 16 }
+        ensures { result.0 ≡ 0x40 + count + code }
+    {
+        Fc(0x40 + count + code)
+    }
+
+    /// The control octet of a reply with a station type, as [`StationType::bits`] has it, and a function code, 0 to 15.
+    pub fn reply(station_type: u8, code: u8) -> Fc
+        requires type_bits { station_type ≤ 3 }
+        requires code_bits { code < 16 }
+        ensures { result.0 ≡ 16 * station_type + code }
+    {
+        Fc(16 * station_type + code)
+    }
+
     /// Whether the telegram is a request: bit 6 is set. If it is clear, the telegram is a reply.
     pub fn is_request(self) -> bool
         ensures { IsTrue result ↔ IsBitSet self.0 6 }
@@ -39,8 +90,7 @@ impl Fc {
         self.0 % 16
     }
 
-    /// The station type of a reply, bits 5 and 4: 0 passive, 1 master not ready, 2 master ready to enter the ring, 3
-    /// master in the ring.
+    /// The station type of a reply, bits 5 and 4, as [`StationType::bits`] has it: 0 to 3.
     pub fn station_type(self) -> u8
         ensures { result ≡ self.0 / 16 % 4 }
     {

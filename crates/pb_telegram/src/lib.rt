@@ -13,12 +13,13 @@ mod faults;
 mod heads;
 mod laws;
 mod parsing;
+mod reading;
 mod receiving;
 mod telegrams;
 mod writing;
 
 pub use chars::RxChar;
-pub use control::{Fc, fcs};
+pub use control::{Fc, StationType, fcs};
 pub use copying::{copy_octets, put_octets};
 pub use faults::TelegramFault;
 pub use heads::Head;
@@ -27,6 +28,7 @@ pub use laws::{
     spelled_unit_is_the_telegrams, what_is_spelled_has_no_fault,
 };
 pub use parsing::parse;
+pub use reading::{read_octets, spelled_by, spelled_telegram, spelled_token, token_in};
 pub use receiving::Receiver;
 pub use telegrams::{
     ACKNOWLEDGEMENT, END, FIXED_START, Fixed8Telegram, SHORT_START, ShortTelegram, TOKEN_START,

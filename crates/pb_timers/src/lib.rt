@@ -9,4 +9,4 @@ mod params;
 
 pub use durations::{CHARACTER_BITS, bits};
 pub use moments::{ClockFull, Moment};
-pub use params::{BusParams, ParamFault};
+pub use params::{BusParams, NamedParams, ParamFault};

@@ -32,7 +32,7 @@ impl Model for Moment {
 }
 
 impl Moment {
-    ghost use Rattle.std.specs.Prelude.{◌≡◌, ◌+◌, ◌≤◌, ◌<◌, MatchOption, MatchResult};
+    ghost use Rattle.std.specs.Prelude.{◌≡◌, ◌+◌, ◌≤◌, ◌<◌, max, MatchOption, MatchResult};
     ghost use Rattle.pb_timers.specs.Timers.{last_moment};
 
     /// The moment `bits` bit times after the clock started; `None` if that is past 2^62.
@@ -72,5 +72,23 @@ impl Moment {
             .checked_add(bits)
             .and_then(Moment::new)
             .ok_or(ClockFull)
+    }
+    /// The moment `bits` bit times later. The caller ensures that it is at most 2^62; [`Moment::add`] tests it.
+    pub fn after(self, bits: u64) -> Moment
+        requires { self + bits ≤ last_moment }
+        ensures { result ≡ self + bits }
+    {
+        Moment::at(self.get() + bits)
+    }
+
+    /// The later of two moments.
+    pub fn later(self, other: Moment) -> Moment
+        ensures { result ≡ max self other }
+    {
+        if self.get() < other.get() {
+            other
+        } else {
+            self
+        }
     }
 }

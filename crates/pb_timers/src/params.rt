@@ -90,6 +90,49 @@ pub struct BusParams {
     ttd: u32,
 }
 
+/// Bus parameters by name, not tested yet: [`BusParams::of`] tests them.
+///
+/// ```
+/// let named = NamedParams {
+///     tsl: 100,
+///     tid1: 37,
+///     tid2: 60,
+///     tsdr: 11,
+///     lag: 0,
+///     ttr: 10_000,
+///     gap: 10,
+///     hsa: 5,
+///     retries: 1,
+///     ttd: 0,
+/// };
+/// assert!(rt; BusParams::of(named).is_ok());
+/// let short = NamedParams { tsl: 99, ..named };
+/// assert_eq!(rt; BusParams::of(short).err(), Some(ParamFault::Slot));
+/// ```
+#[derive(Clone, Copy, Debug, PartialEq, Eq)]
+pub struct NamedParams {
+    /// The slot time, in bit times, 100 to 16383.
+    pub tsl: u32,
+    /// Idle time 1, in bit times, at least 33: after a reply, an acknowledgement or a token.
+    pub tid1: u32,
+    /// Idle time 2, in bit times, at least idle time 1: after a request that nobody answers.
+    pub tid2: u32,
+    /// The reply delay of a responder, in bit times, at least 11.
+    pub tsdr: u32,
+    /// How late a station may take its turn, in bit times.
+    pub lag: u32,
+    /// The target rotation time, in bit times, 256 to 16777215.
+    pub ttr: u32,
+    /// The GAP factor, 1 to 100.
+    pub gap: u32,
+    /// The highest station address, 2 to 126.
+    pub hsa: u32,
+    /// How many times a request is sent again, 0 to 7.
+    pub retries: u32,
+    /// The cable delay, in bit times.
+    pub ttd: u32,
+}
+
 impl Model for BusParams {
     ghost use Rattle.pb_timers.specs.Timers.{Params};
 
@@ -107,6 +150,7 @@ impl Model for BusParams {
 
 impl BusParams {
     ghost use Rattle.pb_timers.specs.ParamRules.{param_faults, IsValid};
+    ghost use Rattle.pb_timers.specs.ParamViews.{params_named};
 
     /// Checks parameters against all ten rules.
     ///
@@ -202,6 +246,26 @@ impl BusParams {
             retries,
             ttd,
         })
+    }
+
+    /// [`BusParams::new`] with named parameters, with the same faults in the same order.
+    pub fn of(named: NamedParams) -> Result<BusParams, ParamFault>
+        ensures value { IfOk result (λ p. p ≡ params_named named) }
+        ensures valid { OnOk result (first_fault (param_faults (params_named named)) ≡ None) }
+        ensures fault { IfErr result (λ fault. first_fault (param_faults (params_named named)) ≡ Some fault) }
+    {
+        BusParams::new(
+            named.tsl,
+            named.tid1,
+            named.tid2,
+            named.tsdr,
+            named.lag,
+            named.ttr,
+            named.gap,
+            named.hsa,
+            named.retries,
+            named.ttd,
+        )
     }
 
     /// Whether all ten parameters are equal.

@@ -2,6 +2,9 @@
 use Rattle.std.specs.Option.{option_map, option_or}
 use Rattle.std.specs.Prelude.{ℕ, ◌+◌, ◌==◌, ◌||◌, Bool, true, false, not, if◌then◌else◌, [], Option, Some, None}
 use Rattle.pb_timers.specs.Timers.{Params}
+use Rattle.pb_telegram.specs.Control.{type_bits}
+use Rattle.pb_telegram.specs.declared.control.StationType.{StationType}
+use Rattle.pb_telegram.specs.declared.control.StationType.TheVariants.{Passive, NotReady, Ready, InRing}
 use Rattle.pb_telegram.specs.declared.heads.Head.{Head}
 use Rattle.pb_telegram.specs.declared.telegrams.Telegram.{Telegram}
 use Rattle.pb_telegram.specs.declared.telegrams.Telegram.TheVariants as telegram
@@ -11,19 +14,11 @@ use Rattle.pb_cycles.specs.declared.messages.Message.{Message}
 use Rattle.pb_cycles.specs.Responding.{reply_frame, reply_to_message, after_message}
 use Rattle.law_turn.specs.Arrivals.{Arrival, Token, Framed, Acknowledgement, NoTelegram}
 use Rattle.law_turn.specs.Stations as turn
-use Rattle.law_turn.specs.Hearing.{asks_status, passive, not_ready, ready_for_ring, in_ring}
+use Rattle.law_turn.specs.Hearing.{asks_status}
 use Rattle.pb_transitions.specs.declared.replies.Reply.{Reply}
-use Rattle.pb_transitions.specs.declared.replies.StationType.{StationType}
-use Rattle.pb_transitions.specs.declared.replies.StationType.TheVariants.{Passive, NotReady, Ready, InRing}
 
 abbrev pub reply_of : Reply → turn.Reply
 reply_of r = record { ready = r.ready; octets = r.octets.items; joins = r.joins }
-
-abbrev pub code_of : StationType → ℕ
-code_of Passive = passive
-code_of NotReady = not_ready
-code_of Ready = ready_for_ring
-code_of InRing = in_ring
 
 -- a station that replies that it is ready joins the ring
 abbrev pub joins : StationType → Bool
@@ -40,7 +35,7 @@ fields_of h = record { da = h.da; sa = h.sa; fc = h.fc; unit = [] }
 abbrev pub answer_to : Params → (ts at : ℕ) → Fields → StationType → Option turn.Reply
 answer_to p ts at f station_type =
     if asks_status ts f
-    then Some (record { ready = at + p.tsdr; octets = reply_octets (reply_frame ts (code_of station_type) f 0 []); joins = joins station_type })
+    then Some (record { ready = at + p.tsdr; octets = reply_octets (reply_frame ts (type_bits station_type) f 0 []); joins = joins station_type })
     else None
 
 -- an address octet is that of a station, or of all

@@ -12,7 +12,7 @@ ghost use Rattle.law_turn.specs.Hearing.{doubled_by, listening_hears, is_taken_f
 ghost use Rattle.pb_tokenfsm.specs.Phases.{phase_of, is_doubled, refused_by, asked_station, was_asked, has_data_slot};
 ghost use Rattle.pb_transitions.specs.Arrivals.{brings, telegram_brings, is_framed, is_token};
 ghost use Rattle.pb_transitions.specs.Replies.{reply_of, fields_of, answer_to, is_for_others};
-ghost use Rattle.pb_transitions.specs.declared.replies.StationType.TheVariants.{Ready, NotReady};
+ghost use Rattle.pb_telegram.specs.declared.control.StationType.TheVariants.{Ready, NotReady};
 ghost use Rattle.pb_transitions.specs.Clocks.{last_turn};
 ghost use Rattle.pb_transitions.specs.Cores.{Becomes};
 ghost use Rattle.pb_transitions.specs.Others.{only_answers};
@@ -20,13 +20,12 @@ ghost use Rattle.pb_transitions.specs.Others.{only_answers};
 use crate::cores::Kept;
 use crate::cycles;
 use crate::lists::{entered, hear};
-use crate::moments::after;
-use crate::replies::{Reply, StationType, answer, is_request, status_answer};
+use crate::replies::{Reply, answer, is_request, status_answer};
 use crate::rotations::received_if;
 use crate::timers::given_up;
 use pb_cycles::status_reply;
 use pb_ring::Las;
-use pb_telegram::{Fc, Head, Telegram, TokenTelegram};
+use pb_telegram::{Fc, Head, StationType, Telegram, TokenTelegram};
 use pb_timers::{BusParams, Moment};
 use pb_tokenfsm::{AwaitData, AwaitStatus, Holding, Idle, Listening, Phase};
 
@@ -269,7 +268,7 @@ fn own_token(
         (λ s. own_token params.now s (is_taken_from (refused_by idle) ps token.now.sa) token.now.sa at)
         kept.old (phase_of (Phase.Idle idle)) kept.new (phase_of result) }
 {
-    let ready = after(at, u64::from(params.tid1()));
+    let ready = at.after(u64::from(params.tid1()));
     let phase = idle.hear_token(token, kept.address.get(), ps, ready);
     kept.rotation = received_if(kept.rotation, phase.may_initiate(), at);
     phase
@@ -432,15 +431,8 @@ fn ready_after(kept: &Kept, params: &BusParams, at: Moment) -> Moment
     requires { at ≤ last_turn }
     ensures { result ≡ max at kept.now.past.end + params.now.tid1 }
 {
-    let end = later(at, kept.own_end());
-    after(end, u64::from(params.tid1()))
-}
-
-/// The later of two moments.
-fn later(a: Moment, b: Moment) -> Moment
-    ensures { result ≡ max a b }
-{
-    if a < b { b } else { a }
+    let end = at.later(kept.own_end());
+    end.after(u64::from(params.tid1()))
 }
 
 // ---- AwaitStatus
@@ -504,14 +496,14 @@ fn status_replied(
     if tells_ready(fc) {
         kept.las = entered(kept.las, holder.of());
     }
-    Phase::Use(holder.on_outcome(after(at, u64::from(params.tid1()))))
+    Phase::Use(holder.on_outcome(at.after(u64::from(params.tid1()))))
 }
 
-/// Whether the reply says that the station is ready for the ring: station type 2 with code 0.
+/// Whether the reply says that the station is ready for the ring, with function code 0.
 fn tells_ready(fc: Fc) -> bool
     ensures { result ≡ tells_ready fc.0 }
 {
-    fc.station_type() == 2 && fc.code() == 0
+    fc.station_type() == StationType::Ready.bits() && fc.code() == 0
 }
 
 /// The phase after activity that is no reply to the request for a status.
@@ -587,7 +579,7 @@ fn data_told(
     if !cycles::hear(&mut kept.cycles, came) {
         return no_reply(holder, kept, params, at);
     }
-    Phase::Use(holder.on_outcome(after(at, u64::from(params.tid1()))))
+    Phase::Use(holder.on_outcome(at.after(u64::from(params.tid1()))))
 }
 
 /// No reply was heard: the request is sent again if a retry is left.

@@ -1,7 +1,6 @@
-//! Moments of the past, and sums of moments that cannot overflow.
+//! Moments of the past, and questions about them.
 
 ghost use Rattle.std.specs.Prelude.{◌≡◌, ◌≤◌, ◌+◌, max};
-ghost use Rattle.pb_timers.specs.Timers.{last_moment};
 ghost use Rattle.law_turn.specs.Stations.{earlier};
 ghost use Rattle.pb_transitions.specs.Clocks.{is_past};
 
@@ -48,7 +47,7 @@ impl PastMoment {
         ensures { result ≡ now + timers.bits octets }
     {
         PastMoment {
-            moment: after(now, bits(octets)),
+            moment: now.after(bits(octets)),
         }
     }
 
@@ -64,19 +63,10 @@ impl PastMoment {
     pub fn later(self, other: PastMoment) -> PastMoment
         ensures { result ≡ max self other }
     {
-        if self.moment < other.moment {
-            other
-        } else {
-            self
+        PastMoment {
+            moment: self.moment.later(other.moment),
         }
     }
-}
-
-/// The moment at which a clock starts.
-pub fn beginning() -> Moment
-    ensures { result ≡ 0 }
-{
-    Moment::at(0)
 }
 
 /// The earlier of two moments; if one is `None`, the other.
@@ -100,12 +90,4 @@ pub fn is_past(moment: Option<Moment>, lag: u32, now: Moment, bits: u64) -> bool
     };
     let to = now.get().saturating_add(bits);
     moment.get() < to.saturating_sub(u64::from(lag))
-}
-
-/// The moment `bits` bit times later. The caller ensures that it is not past the last moment.
-pub fn after(moment: Moment, bits: u64) -> Moment
-    requires { moment + bits ≤ last_moment }
-    ensures { result ≡ moment + bits }
-{
-    Moment::at(moment.get() + bits)
 }

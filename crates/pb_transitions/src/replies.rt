@@ -2,6 +2,7 @@
 
 ghost use Rattle.std.specs.Prelude.{◌≡◌, ◌≤◌, [], ◌+◌, ◌*◌, false};
 ghost use Rattle.std.specs.Option.{option_map};
+ghost use Rattle.pb_telegram.specs.Control.{type_bits};
 ghost use Rattle.pb_telegram.specs.Grammar.{spelling};
 ghost use Rattle.pb_cycles.specs.Messages.{frame_octets, address_in, message_of};
 ghost use Rattle.law_turn.specs.Hearing.{asks_status};
@@ -9,12 +10,11 @@ ghost use Rattle.pb_transitions.specs.Arrivals.{is_request};
 ghost use Rattle.pb_transitions.specs.Clocks.{last_turn};
 ghost use Rattle.law_turn.specs.Phases.{Phase};
 ghost use Rattle.pb_transitions.specs.Cores.{Becomes};
-ghost use Rattle.pb_transitions.specs.Replies.{reply_of, code_of, joins, fields_of, answer_to, answers, is_for, goes_to};
+ghost use Rattle.pb_transitions.specs.Replies.{reply_of, joins, fields_of, answer_to, answers, is_for, goes_to};
 
 use crate::cores::Kept;
-use crate::moments::after;
 use arrayvec::ArrayVec;
-use pb_telegram::{Fc, Head, ShortTelegram, Telegram, write};
+use pb_telegram::{Fc, Head, ShortTelegram, StationType, Telegram, write};
 use pb_timers::{BusParams, Moment};
 
 /// A reply that is not sent yet.
@@ -25,42 +25,6 @@ pub struct Reply {
     pub octets: ArrayVec<u8, 255>,
     /// Whether it says that the station is ready. The station then joins the ring by this reply.
     pub joins: bool,
-}
-
-/// The station type in a reply (IEC 61158-4-3, frame control field).
-#[derive(Clone, Copy, Debug, PartialEq, Eq)]
-pub enum StationType {
-    /// A passive station.
-    Passive,
-    /// A master that is not ready to enter the ring.
-    NotReady,
-    /// A master that is ready to enter the ring.
-    Ready,
-    /// A master in the ring.
-    InRing,
-}
-
-impl StationType {
-    fn code(self) -> u8
-        ensures value { result ≡ code_of self }
-        ensures bound { result ≤ 3 }
-    {
-        match self {
-            StationType::Passive => 0,
-            StationType::NotReady => 1,
-            StationType::Ready => 2,
-            StationType::InRing => 3,
-        }
-    }
-
-    fn joins(self) -> bool
-        ensures { result ≡ joins self }
-    {
-        match self {
-            StationType::Ready => true,
-            StationType::Passive | StationType::NotReady | StationType::InRing => false,
-        }
-    }
 }
 
 /// The function code of Request FDL Status.
@@ -88,7 +52,7 @@ pub fn status_answer(
     Some(Reply {
         ready: reply_moment(params, at),
         octets: status_octets(ts, head, station_type),
-        joins: station_type.joins(),
+        joins: station_type == StationType::Ready,
     })
 }
 
@@ -103,7 +67,7 @@ pub fn answer(
 )
     requires { at ≤ last_turn }
     ensures { (phase : Phase)
-        → Becomes (λ s. answers params.now s at (code_of station_type) (message_of telegram.now))
+        → Becomes (λ s. answers params.now s at (type_bits station_type) (message_of telegram.now))
         kept.old phase kept.new phase }
 {
     let ts = kept.address.get();
@@ -111,8 +75,8 @@ pub fn answer(
         return;
     }
     let ready = reply_moment(params, at);
-    let code = station_type.code();
-    if let Some(answer) = kept.cycles.responder.answer(ts, code, telegram) {
+    let bits = station_type.bits();
+    if let Some(answer) = kept.cycles.responder.answer(ts, bits, telegram) {
         kept.reply = Some(Reply {
             ready,
             octets: write(&answer),
@@ -158,7 +122,7 @@ fn reply_moment(params: &BusParams, at: Moment) -> Moment
     requires { at ≤ last_turn }
     ensures { result ≡ at + params.now.tsdr }
 {
-    after(at, u64::from(params.tsdr()))
+    at.after(u64::from(params.tsdr()))
 }
 
 /// The octets of the reply of the station `ts` to a request for its status.
@@ -166,11 +130,11 @@ fn status_octets(ts: u8, head: Head, station_type: StationType) -> ArrayVec<u8, 
     requires { ts ≤ 126 }
     ensures { result.items
         ≡ frame_octets (record
-        { da = address_in head.sa; sa = ts; fc = 16 * code_of station_type + 0; unit = [] }) }
+        { da = address_in head.sa; sa = ts; fc = 16 * type_bits station_type + 0; unit = [] }) }
 {
     write(&Telegram::Short(ShortTelegram {
         da: head.sa % 128,
         sa: ts,
-        fc: 16 * station_type.code(),
+        fc: Fc::reply(station_type.bits(), 0).0,
     }))
 }

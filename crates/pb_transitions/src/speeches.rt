@@ -22,7 +22,6 @@ ghost use Rattle.pb_transitions.specs.Speeches.{spoken_with, Says, after_taking}
 
 use crate::cores::Kept;
 use crate::lists::readied;
-use crate::moments::after;
 use crate::replies::Reply;
 use crate::rotations::received_if;
 use crate::sending::SendBuffer;
@@ -30,12 +29,9 @@ use crate::waiting::Waiting;
 use pb_cycles::Request;
 use pb_ring::Gap;
 use pb_rotation::Rotation;
-use pb_telegram::{ShortTelegram, Telegram, TokenTelegram};
+use pb_telegram::{Fc, ShortTelegram, Telegram, TokenTelegram};
 use pb_timers::{BusParams, Moment};
 use pb_tokenfsm::{AwaitData, Claim, Holding, Listening, Pass, Phase, Use};
-
-/// The control octet of Request FDL Status: a request whose frame count bit is not valid.
-const STATUS_REQUEST: u8 = 0x49;
 
 /// The station speaks at `now`, if its moment has come.
 pub fn speak(
@@ -182,7 +178,7 @@ fn says_claim(
     let count = out.initiate(&holder, &token(ts, ts));
     kept.past = kept.past.said(now, count);
     let end = kept.past.end.get();
-    let phase = holder.on_sent(after(end, u64::from(params.tid1())));
+    let phase = holder.on_sent(end.after(u64::from(params.tid1())));
     let receipt = match &phase {
         Phase::Claim(_) => false,
         _ => true,
@@ -252,7 +248,7 @@ fn says_token(
     kept.past = kept.past.said(now, count);
     let end = kept.past.end.get();
     kept.rotation = received_if(kept.rotation, ns == ts, end);
-    holder.on_sent(ns, ts, after(end, u64::from(params.tid1())))
+    holder.on_sent(ns, ts, end.after(u64::from(params.tid1())))
 }
 
 /// Sends nothing, and leaves the phase.
@@ -379,7 +375,7 @@ fn says_request(
     let telegram = kept.cycles.initiator.request(kept.address.get(), request);
     let count = out.initiate(&holder, &telegram);
     kept.past = kept.past.said(now, count);
-    let ready = after(kept.past.end.get(), u64::from(params.tid2()));
+    let ready = kept.past.end.get().after(u64::from(params.tid2()));
     asked(holder, answered, ready)
 }
 
@@ -526,6 +522,6 @@ fn status_request(da: u8, sa: u8) -> Telegram
     Telegram::Short(ShortTelegram {
         da,
         sa,
-        fc: STATUS_REQUEST,
+        fc: Fc::STATUS_REQUEST.0,
     })
 }

@@ -15,7 +15,6 @@ ghost use Rattle.pb_transitions.specs.Cores.{station_with, Becomes};
 use crate::cores::Kept;
 use crate::cycles::give_up;
 use crate::lists::removed;
-use crate::moments::after;
 use pb_ring::{Gap, Las};
 use pb_rotation::Rotation;
 use pb_timers::{BusParams, Moment};
@@ -95,14 +94,14 @@ fn timed_out(phase: Phase, kept: &mut Kept, moment: Moment) -> Phase
 fn silence_timer(kept: &Kept, params: &BusParams) -> Moment
     ensures { result ≡ kept.now.past.quiet + tto params.now kept.now.address }
 {
-    after(kept.past.quiet.get(), time_out(kept, params))
+    kept.past.quiet.get().after(time_out(kept, params))
 }
 
 /// When the slot after the station's own telegram ends.
 fn slot_timer(kept: &Kept, params: &BusParams) -> Moment
     ensures { result ≡ kept.now.past.end + params.now.tsl }
 {
-    after(kept.past.end.get(), u64::from(params.tsl()))
+    kept.past.end.get().after(u64::from(params.tsl()))
 }
 
 /// A station that claims the token is alone in its ring, and knows no other station.

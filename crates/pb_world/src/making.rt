@@ -12,8 +12,7 @@ use crate::buses::Bus;
 use pb_medium::{TRACE_LIMIT, Trace};
 use pb_station::{SendBuffer, Spares};
 use pb_taps::{NewFault, TapSpec, check_taps, new_taps};
-use pb_timers::BusParams;
-use pb_transitions::beginning;
+use pb_timers::{BusParams, Moment};
 use std::alloc::Global;
 
 /// A bus at clock 0. No tap runs yet.
@@ -33,7 +32,7 @@ pub fn new_bus(alloc: Global, params: BusParams, specs: &[TapSpec]) -> Result<Bu
     let taps = new_taps(alloc, &params, specs)?;
     Ok(Bus {
         params,
-        now: beginning(),
+        now: Moment::at(0),
         trace: Trace::new(alloc, TRACE_LIMIT),
         taps,
         sent: SendBuffer::new(),

@@ -3,8 +3,9 @@
 use super::equal;
 use arrayvec::ArrayVec;
 use pb_telegram::{
-    Fc, Fixed8Telegram, Head, Receiver, RxChar, ShortTelegram, Telegram, TelegramFault,
-    TokenTelegram, VarTelegram, fcs, parse, write,
+    Fc, Fixed8Telegram, Head, Receiver, RxChar, ShortTelegram, StationType, Telegram,
+    TelegramFault, TokenTelegram, VarTelegram, fcs, parse, read_octets, spelled_by,
+    spelled_telegram, spelled_token, token_in, write,
 };
 use std::alloc::{AllocError, Global};
 use std::process::Abort;
@@ -88,6 +89,44 @@ fn telegrams_are_read_and_written(rt: HostRuntime) -> Result<(), Fail> {
             &Ok(telegram),
         );
     }
+    Ok(())
+}
+
+#[test]
+fn telegrams_are_read_where_they_stand(rt: HostRuntime) -> Result<(), Fail> {
+    let token = TokenTelegram { da: 3, sa: 2 };
+    let spellings = [
+        [0xdc, 3, 2].as_slice(),
+        &[0xdc, 127, 2],
+        &[0xdc, 3, 2, 1],
+        &[0x10, 3, 2, 0x49, 0x4e, 0x16],
+        &[0x10, 3, 2, 0x49, 0x4f, 0x16],
+        &[0x10, 3, 0xff, 0x49, 0x4b, 0x16],
+        &[0x68, 4, 4, 0x68, 127, 2, 0x44, 0xff, 0xc4, 0x16],
+        &[0x68, 5, 5, 0x68, 5, 2, 0x7d, 1, 2, 0x87, 0x16],
+        &[0x68, 5, 4, 0x68, 5, 2, 0x7d, 1, 2, 0x87, 0x16],
+        &[0xa2, 5, 2, 0x7d, 1, 2, 3, 4, 5, 6, 7, 8, 0xa8, 0x16],
+        &[0xa2, 5, 2, 0x7d, 1, 2, 3, 4, 5, 6, 7, 8, 0xa9, 0x16],
+        &[0xe5],
+        &[],
+    ];
+    let mut receiver = Receiver::new();
+    let mut telegram = Err(TelegramFault::Empty);
+    for octets in &spellings {
+        let chars = good(rt.alloc(), octets)?;
+        read_octets(octets, &mut receiver, &mut telegram);
+        equal(&rt, &telegram, &parse(&chars));
+        equal(&rt, &spelled_telegram(octets), &parse(&chars).ok());
+        equal(&rt, &spelled_by(&chars), &parse(&chars).ok());
+    }
+    equal(&rt, &spelled_token(&[0xdc, 3, 2]), &Some(token));
+    equal(&rt, &spelled_token(&[0xdc, 3, 127]), &None);
+    equal(
+        &rt,
+        &token_in(&good(rt.alloc(), &[0xdc, 3, 2])?),
+        &Some(token),
+    );
+    equal(&rt, &token_in(&[RxChar::Good(0xdc), RxChar::Bad]), &None);
     Ok(())
 }
 
@@ -246,6 +285,18 @@ fn a_control_octet_is_read(rt: HostRuntime) {
     assert!(rt; !reply.is_request());
     equal(&rt, &reply.station_type(), &2);
     equal(&rt, &Fc(0x3a).station_type(), &3);
+}
+
+#[test]
+fn a_control_octet_is_made(rt: HostRuntime) {
+    equal(&rt, &Fc::STATUS_REQUEST, &Fc(0x49));
+    equal(&rt, &Fc::request(0, 9), &Fc::STATUS_REQUEST);
+    equal(&rt, &Fc::request(0x20, 13), &Fc(0x6d));
+    equal(&rt, &Fc::request(0x30, 12), &Fc(0x7c));
+    equal(&rt, &Fc::reply(StationType::Passive.bits(), 8), &Fc(0x08));
+    equal(&rt, &Fc::reply(StationType::NotReady.bits(), 0), &Fc(0x10));
+    equal(&rt, &Fc::reply(StationType::Ready.bits(), 0), &Fc(0x20));
+    equal(&rt, &Fc::reply(StationType::InRing.bits(), 10), &Fc(0x3a));
 }
 
 #[test]

@@ -121,5 +121,8 @@ fn a_moment_ends_at_its_limit(rt: HostRuntime) -> Result<(), Fail> {
     equal(&rt, &first.add(833)?.get(), &833);
     equal(&rt, &first.add(limit), &Ok(last));
     assert!(rt; first < last);
+    equal(&rt, &first.after(limit), &last);
+    equal(&rt, &first.later(last), &last);
+    equal(&rt, &last.later(first), &last);
     Ok(())
 }

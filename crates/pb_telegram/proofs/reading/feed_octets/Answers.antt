@@ -2,7 +2,7 @@ use Rattle.std.proofs.Common.{◌≡◌, map, take, subst, arith}
 use Rattle.std.proofs.lemmas.Grind.{common_steps}
 use Rattle.pb_telegram.specs.Receiving.{StandsFor}
 use Rattle.pb_telegram.specs.declared.chars.RxChar.TheVariants.{Good}
-use Rattle.pb_monitor.proofs.spelled.received.Goals as goal
+use Rattle.pb_telegram.proofs.reading.feed_octets.Goals as goal
 
 pub loop-octet-preserved : goal.loop-octet-preserved
 loop-octet-preserved c =
@@ -11,14 +11,8 @@ loop-octet-preserved c =
     let stands = c.feed.ensures.stands (map Good (take i octets)) c.loop-octet.invariant in
     subst (λ l. StandsFor c.feed.new.self l) (grind (arith, common_steps)) stands
 
-pub returns-clause-whole : goal.returns-clause-whole
-returns-clause-whole c =
+pub returns : goal.returns
+returns c =
     let octets = c.args.octets.now in
     let whole : map Good (take c.loop-octet.octet-index octets) ≡ map Good octets = grind (arith, common_steps) in
-    c.told.ensures.whole octets (subst (λ l. StandsFor c.loop-octet.receiver l) whole c.loop-octet.invariant)
-
-pub returns-clause-none : goal.returns-clause-none
-returns-clause-none c =
-    let octets = c.args.octets.now in
-    let whole : map Good (take c.loop-octet.octet-index octets) ≡ map Good octets = grind (arith, common_steps) in
-    c.told.ensures.none octets (subst (λ l. StandsFor c.loop-octet.receiver l) whole c.loop-octet.invariant)
+    subst (λ l. StandsFor c.loop-octet.receiver l) whole c.loop-octet.invariant

@@ -1,6 +1,6 @@
 use Rattle.std.proofs.Common.{◌≡◌, ◌+◌, ◌++◌, drop, length, map}
 use Rattle.pb_telegram.specs.declared.chars.RxChar.TheVariants.{Good}
-use Rattle.pb_transitions.proofs.arrivals.octets_of.Given as goal
+use Rattle.pb_telegram.proofs.reading.octets_of.Given as goal
 
 abbrev pub invariant-loop-left : goal.invariant-loop-left
 invariant-loop-left l = (l.chars ≡ map Good l.octets.items ++ l.left) × (length l.octets.items + length l.left ≡ length l.chars)

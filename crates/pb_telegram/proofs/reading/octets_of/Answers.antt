@@ -2,7 +2,7 @@ use Rattle.std.proofs.Common.{◌≡◌, ◌≤◌, ◌-◌, ◌∷◌, ◌++◌
 use Rattle.std.proofs.lemmas.Grind.{common_steps}
 use Rattle.pb_telegram.specs.declared.chars.RxChar.TheVariants.{Good, Bad}
 use Rattle.pb_telegram.specs.declared.chars.RxChar.{RxChar}
-use Rattle.pb_transitions.proofs.arrivals.octets_of.Goals as goal
+use Rattle.pb_telegram.proofs.reading.octets_of.Goals as goal
 
 -- a list of which the first four are known
 four_first : (left : List RxChar) (a b c d : RxChar) → 4 ≤ length left → get_or left 0 Bad ≡ a → get_or left 1 Bad ≡ b → get_or left 2 Bad ≡ c → get_or left 3 Bad ≡ d
