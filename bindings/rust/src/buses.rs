@@ -261,8 +261,8 @@ impl Bus {
 
     /// Whether the ring is settled: its masters agree on who belongs to it and have had the token, one of them has it, no reply waits
     /// and nothing is on its way, so only between telegrams. If no premise breaks ([`Bus::audit`]), each of them then gets the token
-    /// again and again within the bound of a rotation (`ringplay bounds`), while there is no damage, noise, start or stop. That is
-    /// proved of a bus without [`Bus::set_reply`], before and after.
+    /// again and again within the bound of a rotation (`ringplay bounds`), while there is no damage, noise, start or stop,
+    /// whatever [`Bus::set_reply`] changes meanwhile.
     pub fn is_settled(&self) -> bool {
         let mut settled = false;
         let _ = unsafe { sys::fdl_bus_is_settled(self.at(), &mut settled) };

@@ -90,7 +90,7 @@ pub leads_join : (xs ys : List Action) (w between next : World) → LeadsTo w xs
 leads_join [] ys w between next a b = subst (λ z. LeadsTo z ys next) (sym a) b
 leads_join (x ∷ xs) ys w between next a b = (a.0, a.1, leads_join xs ys a.0 between next a.2 b)
 
-actions_join : (xs ys : List Action) → AreActions xs → AreActions ys → AreActions (xs ++ ys)
+pub actions_join : (xs ys : List Action) → AreActions xs → AreActions ys → AreActions (xs ++ ys)
 actions_join [] ys a b = b
 actions_join (x ∷ xs) ys a b = (a.0, actions_join xs ys a.1 b)
 

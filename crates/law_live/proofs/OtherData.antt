@@ -29,8 +29,8 @@ tap_data p now tr k t unit f =
     record {
       spends = λ q calm. let o = f.spends q calm in
           subst (λ (s : Station). Spends p (q + p.ttd) (q + p.ttd) s) (sym a.is) (record { target = o.target; received = o.received; retries = o.retries; short = o.short; spends = o.spends });
-      waits = subst (λ (s : Station). DueBy (now + p.tsdr) s) (sym a.is) (due_alike (now + p.tsdr) z v.reply a.reply a.alike f.waits);
-      prompt = λ y ends. subst (λ (s : Station). DueBy (y + p.ttd + p.tsdr) s) (sym a.is) (due_alike (y + p.ttd + p.tsdr) z v.reply a.reply a.alike (f.prompt y ends));
+      waits = subst (λ (s : Station). DueBy (now + p.tsdr) s) (sym a.is) (due_alike (now + p.tsdr) z v.reply a.reply a.differ.replies f.waits);
+      prompt = λ y ends. subst (λ (s : Station). DueBy (y + p.ttd + p.tsdr) s) (sym a.is) (due_alike (y + p.ttd + p.tsdr) z v.reply a.reply a.differ.replies (f.prompt y ends));
     }
 
 pub data_flow : (w next : World) (tap : ℕ) (unit : List ℕ) → set_data w tap unit ≡ Ok next → Flow w → Flow next

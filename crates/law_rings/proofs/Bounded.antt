@@ -1,7 +1,9 @@
 -- A settled ring stays as it is, and its rotation is bounded.
-use Rattle.std.proofs.Common.{◌≡◌, ℕ, ◌+◌, ◌*◌, ◌<◌, Bool, true, false, not, ◌==◌, ◌&&◌, List, [], length, refl, sym, ap, subst, ◌∙◌, arith, Option, Some, None}
+use Rattle.std.proofs.Common.{◌≡◌, ℕ, ◌+◌, ◌*◌, ◌<◌, Bool, true, false, not, ◌==◌, ◌&&◌, List, [], ◌∷◌, ◌++◌, length, refl, sym, ap, subst, ◌∙◌, arith, Option, Some, None}
 use Rattle.std.specs.Prelude.{max, slice_get}
+use Rattle.std.specs.List.{list_all}
 use Rattle.std.proofs.lemmas.Bool.{and_parts, and_from, eq-eqb}
+use Rattle.std.proofs.lemmas.List.{map-append}
 use Rattle.std.proofs.lemmas.Option.{none-some, same_Some}
 use Rattle.pb_timers.specs.Timers.{Params, bits}
 use Rattle.pb_ring.specs.AddressSets.{is_member, is_same}
@@ -9,20 +11,22 @@ use Rattle.pb_ring.proofs.SetLemmas.{is_same-refl}
 use Rattle.pb_rotation.specs.Rotation.{Receipt}
 use Rattle.law_turn.specs.Phases.{Phase, Offline, PassiveIdle, Listening, Idle, Claim, Use, AwaitData, AwaitStatus, Pass, Checking, is_offline}
 use Rattle.law_model.specs.Medium.{Tap}
-use Rattle.law_model.specs.World.{World}
+use Rattle.law_model.specs.World.{World, Event}
+use Rattle.law_token.specs.Actions.{Happens, first_broken_by}
 use Rattle.law_token.specs.Views.{view}
 use Rattle.law_token.proofs.bus.NewWorlds.{new_invariant}
+use Rattle.law_token.proofs.replies.Actions.{same_stations, params_by}
+use Rattle.law_token.proofs.replies.Happen.{happen, are_happen, leads_happen, acted_happen, kept_happen}
 use Rattle.law_token.proofs.whole.Keeping.{fits_valid}
-use Rattle.law_token.proofs.whole.JoinedRuns.{runs_same}
 use Rattle.law_live.specs.NeverDead.{cycle}
 use Rattle.law_live.proofs.Events.{new_flow}
-use Rattle.law_live.proofs.Runs.{params_of}
 use Rattle.law_rings.specs.Receipts.{Log, times, Rotates}
 use Rattle.law_rings.specs.Ring.{IsUndisturbed, TakesPart, RingTap, MemberAt}
-use Rattle.law_rings.specs.Rotation.{rotation_time, CalmSince, EachStation, ReceivesWithin, RingStays, BoundedRotation}
+use Rattle.law_rings.specs.Actions.{is_calm_action, CalmActionsSince, RingStaysByActions, BoundedRotationByActions}
+use Rattle.law_rings.specs.Rotation.{is_calm, rotation_time, CalmSince, EachStation, ReceivesWithin, RingStays, BoundedRotation}
 use Rattle.law_rings.specs.Settled.{is_active, ring_of, lists}
 use Rattle.law_rings.proofs.Beginnings.{part_active, settled_rotating}
-use Rattle.law_rings.proofs.CalmRuns.{Sound, runs_before, CalmLeft, calm_runs}
+use Rattle.law_rings.proofs.CalmRuns.{Sound, acts_before, CalmLeft, calm_acts}
 use Rattle.law_rings.proofs.FromSettled.{active_member, ActiveAt, member_active}
 use Rattle.law_rings.proofs.HoldsInTime.{last_in_time}
 use Rattle.law_rings.proofs.Reaching.{Undisturbed}
@@ -133,22 +137,51 @@ stays w base members c = (λ a. same_test (is_member (ring_of p w.taps) a) (is_m
 
 -- ---- the theorem
 
--- calm events from a settled ring
-calm_left : (w next : World) → CalmSince w next → CalmLeft next w.now (ring_of w.params w.taps)
+-- calm actions from a settled ring
+calm_left : (w next : World) → CalmActionsSince w next → CalmLeft next w.now (ring_of w.params w.taps)
 calm_left w next c =
+    let has = c.acted in
     let fits = fits_valid c.p c.valid in
-    let start : Sound c.start [] = record { invariant = new_invariant c.p c.specs c.start fits c.run.fit c.run.made; flow = new_flow c.p c.specs c.start c.valid.reply_in_time c.run.made } in
-    let left = runs_before c.before c.events c.start w [] c.run.are c.are c.run.runs c.kept start in
-    calm_runs c.events w next left.all w.now (ring_of w.params w.taps) c.are c.runs c.calm left.kept left.sound (settled_rotating w left.all left.sound.invariant left.sound.flow c.settled)
+    let start : Sound c.start [] = record { invariant = new_invariant c.p c.specs c.start fits has.fit has.made; flow = new_flow c.p c.specs c.start c.valid.reply_in_time has.made } in
+    let left = acts_before c.before c.actions c.start w [] has.are c.are has.leads c.kept start in
+    calm_acts c.actions w next left.all w.now (ring_of w.params w.taps) c.are c.leads c.calm left.kept left.sound (settled_rotating w left.all left.sound.invariant left.sound.flow c.settled)
 
 -- a settled ring stays
-pub ring_stays : RingStays
-ring_stays w next c = stays next w.now (ring_of w.params w.taps) (calm_left w next c)
+pub ring_stays_by : RingStaysByActions
+ring_stays_by w next c = stays next w.now (ring_of w.params w.taps) (calm_left w next c)
 
 -- and its rotation is bounded
-pub bounded_rotation : BoundedRotation
-bounded_rotation w next c =
-    let same : next.params ≡ c.p = (runs_same c.events w next c.runs).params ∙ params_of c.p c.specs c.before c.start w c.run in
+pub bounded_by : BoundedRotationByActions
+bounded_by w next c =
+    let same : next.params ≡ c.p = (same_stations c.actions w next c.leads).params ∙ params_by c.p c.specs c.before c.start w c.acted in
     let long = c.valid.rotation_long in
     let some : 0 < next.params.ttr = subst (λ (z : Params). 0 < z.ttr) (sym same) (omega (arith, long)) in
     bounded next w.now (ring_of w.params w.taps) some (calm_left w next c)
+
+-- ---- events are actions
+
+calm_happen : (events : List Event) → list_all is_calm events ≡ true → list_all is_calm_action (happen events) ≡ true
+calm_happen [] calm = calm
+calm_happen (e ∷ es) calm = let b = and_parts (is_calm e) (list_all is_calm es) calm in and_from (is_calm e) (list_all is_calm_action (happen es)) b.0 (calm_happen es b.1)
+
+since_happen : (w next : World) → CalmSince w next → CalmActionsSince w next
+since_happen w next c = record {
+  p = c.p;
+  specs = c.specs;
+  before = happen c.before;
+  actions = happen c.events;
+  start = c.start;
+  valid = c.valid;
+  acted = acted_happen c.p c.specs c.before c.start w c.run;
+  settled = c.settled;
+  are = are_happen c.events c.are;
+  leads = leads_happen c.events w next c.runs;
+  calm = calm_happen c.events c.calm;
+  kept = subst (λ actions. first_broken_by c.start actions ≡ None) (map-append Happens c.before c.events) (kept_happen c.start (c.before ++ c.events) c.kept);
+}
+
+pub ring_stays : RingStays
+ring_stays w next c = ring_stays_by w next (since_happen w next c)
+
+pub bounded_rotation : BoundedRotation
+bounded_rotation w next c = bounded_by w next (since_happen w next c)

@@ -1,10 +1,8 @@
 -- Each event that disturbs nothing keeps a ring undisturbed, and its receipts in order.
-use Rattle.std.proofs.Common.{◌≡◌, ℕ, zero, suc, map, ◌+◌, ◌<◌, Bool, true, false, ◌==◌, not, ◌&&◌, List, [], ◌∷◌, length, refl, sym, ap, ◌∙◌, subst, arith, Option, Some, None, Ok}
-use Rattle.std.specs.Prelude.{slice_get, slice_set, nat_le, is_some, IfSome}
+use Rattle.std.proofs.Common.{◌≡◌, ℕ, map, ◌+◌, true, false, not, ◌&&◌, List, [], ◌∷◌, length, refl, sym, ap, ◌∙◌, subst, arith, Option, Some, None, Ok}
+use Rattle.std.specs.Prelude.{slice_get, slice_set, nat_le, is_some}
 use Rattle.pb_timers.specs.Timers.{Params}
 use Rattle.pb_cycles.specs.RequestFields.{RequestFields}
-use Rattle.pb_cycles.specs.declared.initiators.OpenRequest.{OpenRequest}
-use Rattle.law_turn.specs.Laws.{IsOpenRequest}
 use Rattle.law_turn.specs.Stations.{Station, queued, pushed, list_for}
 use Rattle.law_turn.specs.Turns.{turn_of}
 use Rattle.law_turn.proofs.Initiating.{reply-after_marks}
@@ -26,7 +24,6 @@ use Rattle.pb_telegram.specs.Faults.{fault_of}
 use Rattle.pb_telegram.specs.declared.chars.RxChar.TheVariants.{Good}
 use Rattle.law_model.specs.Trace.{Sent}
 use Rattle.law_token.proofs.air.Waiting.{marks_queue}
-use Rattle.law_token.proofs.turn.Actions.{Asks}
 use Rattle.law_token.proofs.turn.Kept.{turned}
 use Rattle.law_rings.specs.Rotation.{is_calm}
 use Rattle.law_rings.specs.Receipts.{Rotates, Rotating}
@@ -34,7 +31,7 @@ use Rattle.law_rings.proofs.ActInRing.{Does, DoesRest, DoesReply, DoesSpeak, Doe
 use Rattle.law_rings.proofs.NotInRing.{never_repeats, never_claims}
 use Rattle.law_rings.proofs.PassKeeps.{ring_passed, ring_passed_call}
 use Rattle.law_rings.proofs.Reaching.{Undisturbed}
-use Rattle.law_rings.proofs.SameLooks.{set_looks, ring_looks, ring_looks_call}
+use Rattle.law_rings.proofs.SameLooks.{as_same, set_looks, ring_looks, ring_looks_call}
 use Rattle.law_rings.proofs.SpeechKeeps.{SpeaksAt, speech_keeps, speech_keeps_call}
 use Rattle.law_rings.proofs.RotatesPass.{rotates_pass}
 use Rattle.law_rings.proofs.RotatesTurn.{SameTimes, rotates_set, rotates_speech}
@@ -65,7 +62,7 @@ tap_does w base members u k t at =
 rest_times : (p : Params) (t : Tap) (s' : Station) → s' ≡ view p t → SameTimes p t (record t { station = s'; marks = [] })
 rest_times p t s' e = record {
   running = refl;
-  spec = refl;
+  address = refl;
   phase = ap (λ (z : Station). z.phase) e;
   rotation = ap (λ (z : Station). z.rotation) e;
   spends = λ _ recent d o. subst (Spends p recent d) (sym e) o;
@@ -102,7 +99,7 @@ turn_rotating w base members u k t waited' r at said is i' f' = by (tap_does w b
         let replies : RepliesAt w k t a turn.0 = record { at = at; keeps = keeps; waits = waits; ready = ready; after = after } in
         let times : SameTimes w.params t x = record {
           running = refl;
-          spec = refl;
+          address = refl;
           phase = after.phase;
           rotation = after.rotation;
           spends = λ may recent d o. absurd (let wrong : false ≡ true = sym (waits_not (view w.params t).phase waits) ∙ may in cc);
@@ -167,7 +164,7 @@ queue_times p t r =
     let e = marks_queue (queued t.station.cycles.queue r) p t.station t.marks in
     record {
       running = refl;
-      spec = refl;
+      address = refl;
       phase = ap (λ (z : Station). z.phase) e;
       rotation = ap (λ (z : Station). z.rotation) e;
       spends = λ _ recent d o. subst (Spends p recent d) (sym e) (record { target = o.target; received = o.received; retries = o.retries; short = o.short; spends = o.spends });
@@ -186,7 +183,7 @@ queue_keeps_rotating w k r base members waited' next reply ok u rotates i' f' = 
         let same : made ≡ next = ap (λ (z : World × Reply). z.0) both.1 in
         let e = marks_queue (queued t.station.cycles.queue r) w.params t.station t.marks in
         let looks = set_looks w.params w.taps k t x here
-        (record { running = refl; spec = refl; since = refl; phase = ap (λ (z : Station). z.phase) e; busy = ap (λ (z : Station). z.busy) e; las = ap (λ (z : Station). z.las) e; reply = ap (λ (z : Station). z.reply) e }) in
+        (record { running = refl; address = refl; master = refl; since = refl; phase = ap (λ (z : Station). z.phase) e; busy = ap (λ (z : Station). z.busy) e; las = ap (λ (z : Station). z.las) e; reply = as_same (view w.params t).reply (view w.params x).reply (ap (λ (z : Station). z.reply) e) }) in
         subst (λ z. Rotating z base members) same
         (record {
           ring = ring_looks w base members (slice_set w.taps k x) looks u.ring;

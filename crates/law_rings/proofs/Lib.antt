@@ -26,5 +26,6 @@ pub mod RotatesTurn
 pub mod FromSettled
 pub mod Beginnings
 pub mod HoldsInTime
+pub mod OtherData
 pub mod CalmRuns
 pub mod Bounded

@@ -56,7 +56,7 @@ use Rattle.law_token.proofs.turn.Last.{set_here}
 -- a tap that has its receipts as before, and its time if it holds the token
 pub record SameTimes (p : Params) (t x : Tap) : Type 0 where
   pub running : x.running ≡ t.running
-  pub spec : x.spec ≡ t.spec
+  pub address : x.spec.address ≡ t.spec.address
   pub phase : (view p x).phase ≡ (view p t).phase
   pub rotation : (view p x).rotation ≡ (view p t).rotation
   pub spends : may_initiate (view p t).phase ≡ true → (recent d : ℕ) → Spends p recent d (view p t) → Spends p recent d (view p x)
@@ -74,16 +74,16 @@ rotates_set w base answered members call k t x trace' here s r = ⊎_elim mine o
 
     has' : HasLog p base (slice_set w.taps k x) r.log
     has' = at_set (λ j y. y.running ≡ true → TakesPart (view p y).phase → times base (view p y).rotation.last ≡ Some (r.log.previous y.spec.address, r.log.at y.spec.address)) w.taps k x
-        (λ run part. ap (λ (z : Rotation). times base z.last) s.rotation ∙ r.has k t here (sym s.running ∙ run) (subst TakesPart s.phase part) ∙ ap (λ q. Some (r.log.previous q.address, r.log.at q.address)) (sym s.spec))
+        (λ run part. ap (λ (z : Rotation). times base z.last) s.rotation ∙ r.has k t here (sym s.running ∙ run) (subst TakesPart s.phase part) ∙ ap (λ n. Some (r.log.previous n, r.log.at n)) (sym s.address))
         (λ j y ne at. r.has j y at)
 
     tenure_moved : (u y : Tap) → SameTimes p u y → Tenure p base w.now members call r.log r.tap u → Tenure p base w.now members call' r.log r.tap y
     tenure_moved u y m (Holding may recent spends) =
-        Holding (ap may_initiate m.phase ∙ may) (subst (λ n. (r.log.at n ≤ max base w.now) ⊎ ((call.tap ≡ r.tap) × (r.log.at n ≤ call.end))) (ap (λ q. q.address) (sym m.spec)) recent)
-        (subst (λ n. Spends p (r.log.at n) (r.log.previous n) (view p y)) (ap (λ q. q.address) (sym m.spec)) (m.spends may (r.log.at u.spec.address) (r.log.previous u.spec.address) spends))
+        Holding (ap may_initiate m.phase ∙ may) (subst (λ n. (r.log.at n ≤ max base w.now) ⊎ ((call.tap ≡ r.tap) × (r.log.at n ≤ call.end))) (sym m.address) recent)
+        (subst (λ n. Spends p (r.log.at n) (r.log.previous n) (view p y)) (sym m.address) (m.spends may (r.log.at u.spec.address) (r.log.previous u.spec.address) spends))
     tenure_moved u y m (Passing mine apart offers air full recent time) =
         subst (λ n. (next_address n members ≡ n → ⊥) → offered_by (brought_by call.octets) ≡ Some (next_address n members) → r.log.at n ≤ max base call.begin → call.begin ≤ limit p (r.log.at n) (r.log.previous n) true → Tenure p base w.now members call' r.log r.tap y)
-        (ap (λ q. q.address) m.spec) (λ apart offers recent time. Passing mine apart offers air full recent time) apart offers recent time
+        m.address (λ apart offers recent time. Passing mine apart offers air full recent time) apart offers recent time
 
     mine : k ≡ r.tap → Rotates (record w { taps = slice_set w.taps k x; trace = trace' }) base members call'
     mine e =
@@ -97,7 +97,7 @@ rotates_set w base answered members call k t x trace' here s r = ⊎_elim mine o
           here = subst (λ i. slice_get (slice_set w.taps k x) i ≡ Some x) e (set_here w.taps k t x here);
           running = m.running ∙ r.running;
           part = subst TakesPart (sym m.phase) r.part;
-          in_order = subst (λ n. InOrder p members n r.log) (ap (λ q. q.address) (sym m.spec)) r.in_order;
+          in_order = subst (λ n. InOrder p members n r.log) (sym m.address) r.in_order;
           tenure = tenure_moved r.t x m r.tenure;
         }
 
@@ -111,7 +111,7 @@ rotates_set w base answered members call k t x trace' here s r = ⊎_elim mine o
       running = r.running;
       part = r.part;
       in_order = r.in_order;
-      tenure = tenure_moved r.t r.t (record { running = refl; spec = refl; phase = refl; rotation = refl; spends = λ _ recent d o. o }) r.tenure;
+      tenure = tenure_moved r.t r.t (record { running = refl; address = refl; phase = refl; rotation = refl; spends = λ _ recent d o. o }) r.tenure;
     }
 
 -- ---- who speaks had the token last

@@ -33,7 +33,7 @@ use Rattle.law_rings.specs.Ring.{Call, IsCall, OnItsWay, InRing, IsPastReply, Is
 use Rattle.law_rings.proofs.ActInRing.{HasReplied}
 use Rattle.law_rings.proofs.NotInRing.{reply_late}
 use Rattle.law_rings.proofs.Reaching.{Undisturbed, Known, known}
-use Rattle.law_rings.proofs.SameLooks.{set_looks, ring_looks, ring_looks_call}
+use Rattle.law_rings.proofs.SameLooks.{as_same, set_looks, ring_looks, ring_looks_call}
 use Rattle.law_rings.proofs.TapsPass.{RunsAt, ring_at}
 use Rattle.law_token.proofs.turn.Last.{set_here}
 
@@ -45,7 +45,7 @@ rest_keeps w base members u k t s' at same =
     let x : Tap = record t { station = s'; marks = [] } in
     ring_looks w base members (slice_set w.taps k x)
     (set_looks w.params w.taps k t x at.here
-    (record { running = refl; spec = refl; since = refl; phase = ap (λ (z : Station). z.phase) same; busy = ap (λ (z : Station). z.busy) same; las = ap (λ (z : Station). z.las) same; reply = ap (λ (z : Station). z.reply) same })) u.ring
+    (record { running = refl; address = refl; master = refl; since = refl; phase = ap (λ (z : Station). z.phase) same; busy = ap (λ (z : Station). z.busy) same; las = ap (λ (z : Station). z.las) same; reply = as_same (view w.params t).reply (view w.params x).reply (ap (λ (z : Station). z.reply) same) })) u.ring
 
 -- its call is the same
 pub rest_keeps_call : (w : World) (base : ℕ) (members : List ℕ) (u : Undisturbed w base members) (k : ℕ) (t : Tap) (s' : Station) (at : RunsAt w k t) (same : s' ≡ view w.params t) → (rest_keeps w base members u k t s' at same).call ≡ u.ring.call

@@ -3,3 +3,4 @@ pub mod Rotation
 pub mod Ring
 pub mod Receipts
 pub mod Examples
+pub mod Actions

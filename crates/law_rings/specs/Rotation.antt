@@ -65,12 +65,20 @@ EachStation w P = (k : ℕ) (t : Tap) → slice_get w.taps k ≡ Some t → is_a
 abbrev pub ReceivesWithin : World → (m time : ℕ) → Tap → Type 0
 ReceivesWithin w m time t = (r : Receipt) × ((view w.params t).rotation.last ≡ Some r) × (w.now < max m r.at + time)
 
--- a ring stays: its stations are the same ones, and each of them lists them
-abbrev pub RingStays : Type 0
-RingStays = (w next : World) → CalmSince w next
-    → ((a : ℕ) → is_member (ring_of next.params next.taps) a ≡ is_member (ring_of w.params w.taps) a)
+-- The next world has the ring of a world: its stations are the same ones, and each of them lists them.
+abbrev pub HasRingOf : (w next : World) → Type 0
+HasRingOf w next =
+    ((a : ℕ) → is_member (ring_of next.params next.taps) a ≡ is_member (ring_of w.params w.taps) a)
     × EachStation next (λ t. lists (ring_of w.params w.taps) t.spec.address (view next.params t).las.stage ≡ true)
+
+-- the token has gone round since the clock of a world, within the time for its ring
+abbrev pub RotatesFrom : (w next : World) → Type 0
+RotatesFrom w next = EachStation next (ReceivesWithin next w.now (rotation_time next.params (length (ring_of w.params w.taps))))
+
+-- a ring stays
+abbrev pub RingStays : Type 0
+RingStays = (w next : World) → CalmSince w next → HasRingOf w next
 
 -- bounded rotation
 abbrev pub BoundedRotation : Type 0
-BoundedRotation = (w next : World) → CalmSince w next → EachStation next (ReceivesWithin next w.now (rotation_time next.params (length (ring_of w.params w.taps))))
+BoundedRotation = (w next : World) → CalmSince w next → RotatesFrom w next

@@ -10,8 +10,8 @@ ghost use Rattle.law_rings.specs.Examples.{
   holder_stops,
 };
 
-/// The premises can be met, and the bound is almost reached: of two stations the first waits for 66357 bit times from one
-/// receipt to the next, and may wait for 66613.
+/// The premises can be met, and the bound is almost reached: of two stations the first still waits 66356 bit times after it
+/// received the token, and may wait for less than 66613.
 pub fn the_bound_is_almost_reached()
     ensures { wait_on slow_replies two_and_a_replier to_the_ring token_is_passed 0
         ≡ Some (record { broken = []; settled = true; calm = true; waits = Some 66356; bound = 66613 }) }

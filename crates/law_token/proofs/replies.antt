@@ -5,3 +5,4 @@ pub mod Addresses
 pub mod Kept
 pub mod Silence
 pub mod Actions
+pub mod Happen

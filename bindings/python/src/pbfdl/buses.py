@@ -308,8 +308,8 @@ class Bus(Handle):
     def is_settled(self) -> bool:
         """Whether the ring is settled: its masters agree on who belongs to it and have had the token, one of them has it, no reply waits
         and nothing is on its way, so only between telegrams. If no premise breaks (`audit`), each of them then gets the token again
-        and again within the bound of a rotation (`ringplay bounds`), while there is no damage, noise, start or stop. That is proved of a
-        bus without `set_reply`, before and after."""
+        and again within the bound of a rotation (`ringplay bounds`), while there is no damage, noise, start or stop, whatever
+        `set_reply` changes meanwhile."""
         return bool(self._number("fdl_bus_is_settled", c_bool))
 
     def phase(self, tap: int) -> Phase:

@@ -1,20 +1,26 @@
 -- The theorem and the silence bound along lists of actions.
-use Rattle.std.proofs.Common.{◌≡◌, ℕ, List, [], ◌∷◌, ◌++◌, refl, sym, ◌∙◌, subst, Option, Some, None, Result, Ok, Err}
+use Rattle.std.proofs.Common.{◌≡◌, ℕ, List, [], ◌∷◌, ◌++◌, refl, sym, ap, ◌∙◌, subst, Option, Some, None, Result, Ok, Err}
 use Rattle.std.proofs.lemmas.Option.{none-some}
 use Rattle.pb_timers.specs.Timers.{Params}
+use Rattle.std.specs.Prelude.{slice_get, slice_set}
+use Rattle.law_model.specs.Medium.{TapSpec, Tap}
 use Rattle.law_model.specs.World.{World, Fault}
 use Rattle.law_model.specs.Step.{step}
+use Rattle.law_runs.specs.Headline.{specs_of}
+use Rattle.law_runs.specs.Legality.{address_at}
 use Rattle.law_runs.specs.Premises.{Waited, Broken, Course, waited_by, broken_by, broken_or, followed}
-use Rattle.law_token.specs.Actions.{Action, Happens, Sets, AreActions, LeadsTo, with_world, acted, course_by, NoneActsLate, TokenTheoremOfActions, OneTokenOfActions, NoneInSilenceOfActions}
-use Rattle.law_token.specs.Data.{set_data}
+use Rattle.law_token.specs.Actions.{Action, Happens, Sets, AreActions, ActsTo, LeadsTo, HasActed, with_world, acted, course_by, NoneActsLate, TokenTheoremOfActions, OneTokenOfActions, NoneInSilenceOfActions}
+use Rattle.law_token.specs.Data.{tap_with, set_data_at, set_data}
 use Rattle.law_token.specs.Invariant.{Invariant}
 use Rattle.law_token.proofs.bus.NewWorlds.{new_invariant}
 use Rattle.law_token.proofs.quiet.Watched.{Watch, event_watches, new_watches}
+use Rattle.law_token.proofs.replies.Addresses.{SameAddresses, set_addresses}
 use Rattle.law_token.proofs.replies.Kept.{data_invariant}
 use Rattle.law_token.proofs.replies.Silence.{data_watches, watched_silence}
 use Rattle.law_token.proofs.whole.Induction.{event_invariant, holds_once}
 use Rattle.law_token.proofs.whole.Keeping.{fits_valid, follow_stays}
 use Rattle.law_token.proofs.whole.Readers.{in_readers_words}
+use Rattle.law_token.proofs.whole.Stays.{same_bus, new_params}
 
 -- ---- a premise that is broken stays so
 
@@ -35,6 +41,43 @@ unbroken_by w all clock actions None h = refl
 unbroken_by w all clock actions (Some n) h =
     let b : Broken = record { number = n; clock = clock } in
     absurd (none-some b (sym h ∙ stays_broken_by actions (record { world = w; waited = all; broken = Some b }) b refl))
+
+-- ---- the bus
+
+-- its parameters and the addresses of its taps stay
+pub record SameStations (w next : World) : Type 0 where
+  pub params : next.params ≡ w.params
+  pub addresses : SameAddresses (specs_of next) (specs_of w)
+
+same_specs : (a b : List TapSpec) → a ≡ b → SameAddresses a b
+same_specs a b e tap = ap (λ specs. address_at specs tap) e
+
+data_stations : (w next : World) (tap : ℕ) (unit : List ℕ) → set_data w tap unit ≡ Ok next → SameStations w next
+data_stations w next tap unit ok = by (slice_get w.taps tap) refl ok
+  where
+    by : (o : Option Tap) → slice_get w.taps tap ≡ o → set_data_at w tap unit o ≡ Ok next → SameStations w next
+    by None at ok = absurd cc
+    by (Some t) at ok =
+        let y = tap_with t unit in
+        let made : World = record w { taps = slice_set w.taps tap y } in
+        let same : made ≡ next = cc in
+        subst (SameStations w) same (record { params = refl; addresses = set_addresses w.taps tap t y at refl })
+
+act_stations : (a : Action) (w next : World) → ActsTo w a next → SameStations w next
+act_stations (Happens e) w next acts =
+    let one = same_bus w next e acts.0 acts.1 in record { params = one.params; addresses = same_specs (specs_of next) (specs_of w) one.specs }
+act_stations (Sets tap unit) w next acts = data_stations w next tap unit acts
+
+pub same_stations : (actions : List Action) (w next : World) → LeadsTo w actions next → SameStations w next
+same_stations [] w next leads = subst (SameStations w) leads (record { params = refl; addresses = λ tap. refl })
+same_stations (a ∷ more) w next leads =
+    let one = act_stations a w leads.0 leads.1 in
+    let rest = same_stations more leads.0 next leads.2 in
+    record { params = rest.params ∙ one.params; addresses = λ tap. rest.addresses tap ∙ one.addresses tap }
+
+-- so they are those of the new bus
+pub params_by : (p : Params) (specs : List TapSpec) (actions : List Action) (new w : World) → HasActed p specs actions new w → w.params ≡ p
+params_by p specs actions new w has = (same_stations actions new w has.leads).params ∙ new_params p specs new has.made
 
 -- ---- along a list
 

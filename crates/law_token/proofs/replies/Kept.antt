@@ -20,7 +20,7 @@ use Rattle.law_token.specs.Stations.{TapStays}
 use Rattle.law_token.specs.Views.{Waits, KnowsIn, ViewOf, view, place, TapHolds}
 use Rattle.law_token.proofs.bus.Lists.{each_map, at_set}
 use Rattle.law_token.proofs.replies.Addresses.{set_addresses, illegal_same, namesakes_same}
-use Rattle.law_token.proofs.replies.Alike.{AlikeReplies, alike_self, Alike, marks_alike}
+use Rattle.law_token.proofs.replies.Alike.{AlikeReplies, differ_by_data, Alike, marks_alike}
 use Rattle.law_token.proofs.replies.Turned.{speaks_alike}
 use Rattle.law_token.proofs.replies.Unasked.{stands_data}
 
@@ -86,8 +86,8 @@ fresh_alike (Checking tries) table o r h f = absurd f
 -- ---- a tap
 
 -- its view, with other data
-pub viewed : (p : Params) (t : Tap) (unit : List ℕ) → Alike (view p t) (view p (tap_with t unit))
-viewed p t unit = marks_alike (record t.station.cycles.responder { reply = unit }) t.station.reply p t.station t.marks (alike_self t.station.reply)
+pub viewed : (p : Params) (t : Tap) (unit : List ℕ) → Alike (Unit {0}) (view p t) (view p (tap_with t unit))
+viewed p t unit = marks_alike (Unit {0}) (record t.station.cycles.responder { reply = unit }) t.station.reply p t.station t.marks (differ_by_data t.station.reply t.station.cycles.responder.kept)
 
 pub stays_data : (p : Params) (t : Tap) (unit : List ℕ) → Fits unit → TapStays p t → TapStays p (tap_with t unit)
 stays_data p t unit fits h = record {
@@ -113,11 +113,11 @@ holds_data p now trace last k t unit o =
       in_time = o.in_time;
       seen = o.seen;
       knows = subst (λ (z : Station). KnowsIn c trace z.phase z.busy z.quiet z.own) (sym a.is) o.knows;
-      view_ok = subst (λ (z : Station). ViewOf c trace last z.phase z.busy z.quiet z.own z.reply) (sym a.is) (view_alike c trace last v.phase v.busy v.quiet v.own v.reply a.reply a.alike o.view_ok);
+      view_ok = subst (λ (z : Station). ViewOf c trace last z.phase z.busy z.quiet z.own z.reply) (sym a.is) (view_alike c trace last v.phase v.busy v.quiet v.own v.reply a.reply a.differ.replies o.view_ok);
       grip = o.grip;
       silent = subst IsSilentWhileBusy (sym a.is) (record {
-        silent = λ busy. sym (speaks_alike v.reply a.reply v.phase a.alike) ∙ o.silent.silent busy;
-        in_place = in_place v.phase v.reply a.reply a.alike o.silent.in_place;
+        silent = λ busy. sym (speaks_alike v.reply a.reply v.phase a.differ.replies) ∙ o.silent.silent busy;
+        in_place = in_place v.phase v.reply a.reply a.differ.replies o.silent.in_place;
       });
     }
 
@@ -125,7 +125,7 @@ fresh_data : (p : Params) (t : Tap) (unit : List ℕ) → IsFresh (view p t) →
 fresh_data p t unit f =
     let v = view p t in
     let a = viewed p t unit in
-    subst IsFresh (sym a.is) (fresh_alike v.phase v.las v.reply a.reply a.alike f)
+    subst IsFresh (sym a.is) (fresh_alike v.phase v.las v.reply a.reply a.differ.replies f)
 
 -- ---- the taps
 

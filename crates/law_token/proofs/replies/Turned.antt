@@ -14,7 +14,7 @@ use Rattle.law_turn.specs.Stations.{Station, Reply, next_station, reply_moment, 
 use Rattle.law_turn.specs.Hearing.{after_timer}
 use Rattle.law_turn.specs.Turns.{after_marks, settled, says_token, says_claim, looks_at_gap, says_look, says_no_request, high_request, low_request, high_taken, low_taken, says_request, says_low, says_high, says_again, replying, joining, says_reply, says_ready, phase_says, speech, turn_of}
 use Rattle.law_turn.proofs.Cases.{by_one_test}
-use Rattle.law_token.proofs.replies.Alike.{AlikeReplies, with_replies, Alike, timer_alike, marks_alike}
+use Rattle.law_token.proofs.replies.Alike.{AlikeReplies, differ_by_table, with_replies, Alike, timer_alike, marks_alike}
 
 -- ---- a station without what it replies, and without the moments that depend on how long that is
 
@@ -26,11 +26,11 @@ KnowAlike a b = bare a ≡ bare b
 
 -- ---- the station at the clock
 
-pub settled_alike : (t : ResponderTable) (r : Option Reply) (p : Params) (s : Station) (ms : List Mark) (now : ℕ) → AlikeReplies s.reply r → Alike (settled p s ms now) (settled p (with_replies t r s) ms now)
+pub settled_alike : (t : ResponderTable) (r : Option Reply) (p : Params) (s : Station) (ms : List Mark) (now : ℕ) → AlikeReplies s.reply r → Alike ⊥ (settled p s ms now) (settled p (with_replies t r s) ms now)
 settled_alike t r p s ms now h =
     let x = after_marks p s ms in
-    let a = marks_alike t r p s ms h in
-    subst (λ z. Alike (after_timer p (now + 1) x) (after_timer p (now + 1) z)) (sym a.is) (timer_alike a.table a.reply p (now + 1) x a.alike)
+    let a = marks_alike ⊥ t r p s ms (differ_by_table s.reply r s.cycles.responder.kept t.kept h) in
+    subst (λ z. Alike ⊥ (after_timer p (now + 1) x) (after_timer p (now + 1) z)) (sym a.is) (timer_alike ⊥ a.table a.reply p (now + 1) x a.differ)
 
 -- ---- speech
 
@@ -125,6 +125,6 @@ turn_alike t p s ms now r h =
     let x = settled p s ms now in
     let a = settled_alike t r p s ms now h in
     let said : KnowAlike (speech p x (speaks_at x) now).0 (speech p (with_replies a.table a.reply x) (speaks_at (with_replies a.table a.reply x)) now).0 =
-    subst (λ o. KnowAlike (speech p x (speaks_at x) now).0 (speech p (with_replies a.table a.reply x) o now).0) (speaks_alike x.reply a.reply x.phase a.alike)
-    (speech_alike a.table a.reply p x (speaks_at x) now a.alike) in
+    subst (λ o. KnowAlike (speech p x (speaks_at x) now).0 (speech p (with_replies a.table a.reply x) o now).0) (speaks_alike x.reply a.reply x.phase a.differ.replies)
+    (speech_alike a.table a.reply p x (speaks_at x) now a.differ.replies) in
     subst (λ z. KnowAlike (speech p x (speaks_at x) now).0 (speech p z (speaks_at z) now).0) (sym a.is) said
