@@ -1,6 +1,6 @@
 -- Where a token, and a request, that ends at a tap come from.
 use Rattle.std.proofs.Common.{◌≡◌, ℕ, zero, suc, ◌+◌, ◌<◌, ◌≤◌, Bool, true, false, if◌then◌else◌, not, ◌==◌, ◌&&◌, ◌||◌, List, [], ◌∷◌, length, map, refl, sym, ap, ◌∙◌, subst, arith, Option, Some, None}
-use Rattle.std.specs.Prelude.{slice_index, nat_le, is_some, take, find, ◌-◌, ◌/◌}
+use Rattle.std.specs.Prelude.{slice_index, nat_le, take, find, ◌-◌, ◌/◌}
 use Rattle.std.specs.List.{list_any, position_from}
 use Rattle.std.proofs.lemmas.Bool.{ltb-false, eqb-true, leb-true, leb-false, and_parts}
 use Rattle.pb_faults.specs.FirstFault.{NoneHolds}

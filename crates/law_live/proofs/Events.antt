@@ -8,8 +8,6 @@ use Rattle.pb_timers.specs.Timers.{Params}
 use Rattle.pb_telegram.specs.Faults.{fault_of}
 use Rattle.pb_telegram.specs.declared.chars.RxChar.TheVariants.{Good}
 use Rattle.pb_cycles.specs.RequestFields.{RequestFields}
-use Rattle.pb_cycles.specs.declared.initiators.OpenRequest.{OpenRequest}
-use Rattle.law_turn.specs.Laws.{IsOpenRequest}
 use Rattle.law_turn.specs.Stations.{Station, list_for, queued, pushed}
 use Rattle.law_turn.specs.Turns.{turn_of}
 use Rattle.law_turn.proofs.Initiating.{reply-after_marks}
@@ -30,7 +28,6 @@ use Rattle.law_token.proofs.bus.Lists.{each_map, each_with, each_without, at_set
 use Rattle.law_token.proofs.pass.Brings.{HasLength, solid_sensed}
 use Rattle.law_token.proofs.pass.AllTaps.{told_at}
 use Rattle.law_token.proofs.air.Waiting.{marks_queue}
-use Rattle.law_token.proofs.turn.Actions.{Asks}
 use Rattle.law_live.specs.NeverDead.{attempt}
 use Rattle.law_live.specs.Holding.{limit, Spends}
 use Rattle.law_live.proofs.HoldersRead.{started-spends}

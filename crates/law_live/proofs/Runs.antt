@@ -1,5 +1,5 @@
 -- The bus is never dead.
-use Rattle.std.proofs.Common.{◌≡◌, ℕ, ◌+◌, ◌-◌, ◌<◌, ◌≤◌, Bool, true, false, List, [], ◌∷◌, ◌++◌, map, refl, sym, ap, ◌∙◌, subst, arith, None, Result, Ok}
+use Rattle.std.proofs.Common.{◌≡◌, ℕ, ◌+◌, ◌-◌, ◌<◌, ◌≤◌, Bool, true, false, List, [], ◌∷◌, ◌++◌, refl, sym, ap, ◌∙◌, subst, arith, None, Result, Ok}
 use Rattle.std.proofs.lemmas.Option.{none-some}
 use Rattle.pb_timers.specs.Timers.{Params}
 use Rattle.pb_timers.specs.ParamRules.{IsValid}

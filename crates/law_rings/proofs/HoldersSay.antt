@@ -14,7 +14,6 @@ use Rattle.pb_cycles.specs.Counts.{count_bits, count_at}
 use Rattle.pb_cycles.specs.declared.services.Service.{Service}
 use Rattle.pb_cycles.specs.declared.services.Service.TheVariants.{Sda, Sdn, Srd}
 use Rattle.pb_cycles.specs.declared.counts.FrameCount.{FrameCount}
-use Rattle.pb_cycles.specs.declared.counts.FrameCount.TheVariants.{First, Clear, Set}
 use Rattle.pb_cycles.specs.Initiating.{first_sending, after_request}
 use Rattle.law_turn.specs.Arrivals.{Framed, telegram_arrival}
 use Rattle.law_turn.specs.Phases.{Use, AwaitData, Checking}

@@ -16,10 +16,10 @@ use Rattle.law_model.proofs.Cases.{by_test}
 use Rattle.law_runs.specs.Initiators.{is_initiator, telegram_of, offered_by}
 use Rattle.law_token.proofs.pass.Brings.{one_sending}
 use Rattle.law_token.specs.Lists.{Each}
-use Rattle.law_token.specs.Places.{LeavesTime, heard_span, IsOver, Place, Spares}
+use Rattle.law_token.specs.Places.{LeavesTime, heard_span, IsOver, Place}
 use Rattle.law_token.specs.Tokens.{Held, Offers, Doomed}
 use Rattle.law_token.specs.Views.{ViewOf, Knows, view, place, IsOn}
-use Rattle.law_token.proofs.bus.Lists.{each_in, each_map, each_all}
+use Rattle.law_token.proofs.bus.Lists.{each_in, each_map}
 use Rattle.law_token.proofs.bus.Pairs.{Public, HasOrigin, Old, Claims, none_new, claims_alone, Holding, Keeps, Has, hears_other}
 use Rattle.law_token.proofs.bus.Hearers.{IsChecking}
 use Rattle.law_turn.specs.Laws.{WaitsInPlace}

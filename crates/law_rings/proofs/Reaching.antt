@@ -7,7 +7,7 @@ use Rattle.std.proofs.lemmas.Bool.{eq-eqb, or_parts}
 use Rattle.pb_timers.specs.Timers.{Params}
 use Rattle.law_turn.specs.Spans.{Span}
 use Rattle.law_model.specs.Trace.{Record, Entry, Sent, Noise}
-use Rattle.law_model.specs.Medium.{Tap, part_after, reaches, is_unheard}
+use Rattle.law_model.specs.Medium.{part_after, reaches, is_unheard}
 use Rattle.law_model.specs.World.{World}
 use Rattle.law_model.proofs.Cases.{by_test}
 use Rattle.law_runs.specs.Initiators.{is_initiator}

@@ -2,16 +2,16 @@
 -- every other tap.
 use Rattle.std.proofs.Common.{◌≡◌, ℕ, zero, suc, ◌+◌, ◌<◌, ◌≤◌, ◌⊎◌, inl, inr, ⊎_elim, Bool, true, false, if◌then◌else◌, cond, not, ◌==◌, ◌&&◌, ◌||◌, List, [], ◌∷◌, length, map, refl, sym, ap, ◌∙◌, subst, arith, Option, Some, None}
 use Rattle.std.specs.Prelude.{◌-◌, ◌/◌, slice_get, find, max, nat_lt, take, count_by}
-use Rattle.std.specs.List.{list_any, cons_option}
+use Rattle.std.specs.List.{cons_option}
 use Rattle.std.specs.Option.{option_and_then}
 use Rattle.std.proofs.lemmas.List.Sums.{sum_by-cons}
-use Rattle.std.proofs.lemmas.Bool.{cases_eq, eq-eqb, eqb-true, lt-ltb, le-ltb, and_parts}
+use Rattle.std.proofs.lemmas.Bool.{cases_eq, eq-eqb, eqb-true, lt-ltb, le-ltb}
 use Rattle.pb_telegram.specs.declared.chars.RxChar.TheVariants.{Good}
 use Rattle.pb_timers.specs.Timers.{bits}
 use Rattle.law_turn.specs.Spans.{Span}
 use Rattle.law_turn.specs.Arrivals.{Arrival, NoTelegram, arrival_of}
 use Rattle.law_model.specs.Trace.{Record, Entry, Sent, Noise, characters_from, characters_at}
-use Rattle.law_model.specs.Medium.{Tap, part_after, reaches, is_unheard, overlaps, sensed, hears_from, sends_during, fills_burst, fills_burst_to, entry_characters, burst_characters}
+use Rattle.law_model.specs.Medium.{Tap, part_after, reaches, is_unheard, overlaps, sensed, sends_during, fills_burst, fills_burst_to, entry_characters, burst_characters}
 use Rattle.law_model.specs.World.{World}
 use Rattle.law_model.proofs.Cases.{by_test}
 use Rattle.law_model.proofs.WholeTelegrams.{fills_burst-alone}

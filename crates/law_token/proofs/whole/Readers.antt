@@ -1,22 +1,16 @@
 -- The theorem in the words of a world's readers.
-use Rattle.std.proofs.Common.{◌≡◌, ℕ, ◌+◌, ◌<◌, ◌≤◌, zero, suc, Bool, true, false, ◌&&◌, List, [], ◌∷◌, ◌++◌, map, refl, sym, ap, ◌∙◌, subst, Some, None, Ok}
-use Rattle.std.specs.Prelude.{slice_get}
-use Rattle.std.proofs.lemmas.Option.{none-some, same_Some}
+use Rattle.std.proofs.Common.{◌≡◌, ℕ, ◌+◌, ◌≤◌, Bool, true, false, ◌&&◌, refl, sym, ap, ◌∙◌, subst}
 use Rattle.pb_timers.specs.Timers.{Params, tto}
-use Rattle.pb_timers.specs.ParamRules.{IsValid}
 use Rattle.law_turn.specs.Phases.{may_initiate, Offline}
-use Rattle.law_model.specs.Medium.{TapSpec, Tap}
-use Rattle.law_model.specs.World.{trace_limit, World, Event, stopped_tap, new_faults, new_world}
-use Rattle.law_model.specs.Step.{RunsTo}
-use Rattle.law_model.proofs.Worlds.{unless-Ok}
+use Rattle.law_model.specs.Medium.{Tap}
+use Rattle.law_model.specs.World.{World}
 use Rattle.law_runs.specs.Activity.{is_silent}
-use Rattle.law_runs.specs.Headline.{MayInitiate, HasAtMostOneHolder, NoneLosesOrComesLate}
-use Rattle.law_runs.specs.Premises.{first_broken}
+use Rattle.law_runs.specs.Headline.{MayInitiate, HasAtMostOneHolder}
 use Rattle.law_token.specs.Invariant.{Settled}
 use Rattle.law_token.specs.Promises.{StationMayInitiate, HasOneToken, OneToken, NoneInSilence}
 use Rattle.law_token.proofs.whole.Keeping.{fits_valid}
 use Rattle.law_token.proofs.quiet.Bound.{silence_at_speakers, silence_at_tap}
-use Rattle.law_token.proofs.whole.JoinedRuns.{runs_join, runs_same, events_join, settled_after}
+use Rattle.law_token.proofs.whole.JoinedRuns.{runs_same, settled_after}
 use Rattle.law_token.proofs.whole.Stays.{new_params}
 use Rattle.law_token.proofs.whole.Induction.{theorem_of_delay}
 
