@@ -1,7 +1,7 @@
 -- Other data with which a tap replies keep a ring undisturbed and its receipts in order: only a reply to a service has
 -- other octets then, and such a reply tells nobody that its sender is ready for the ring.
 use Rattle.std.proofs.Common.{◌≡◌, ℕ, ◌+◌, ⊎_elim, Bool, true, false, if◌then◌else◌, ◌==◌, ◌&&◌, List, [], refl, sym, ap, ◌∙◌, subst, Option, Some, None, Ok}
-use Rattle.std.specs.Prelude.{◌%◌, ◌*◌, ◌/◌, length, map, slice_get, slice_set}
+use Rattle.std.specs.Prelude.{◌%◌, ◌*◌, ◌/◌, length, map, slice_set}
 use Rattle.std.proofs.Math.Nat.{mul-add-mod_self_left}
 use Rattle.pb_telegram.specs.Faults.{octets, fault_of}
 use Rattle.pb_telegram.specs.declared.faults.TelegramFault.{TelegramFault}
@@ -20,10 +20,10 @@ use Rattle.law_turn.specs.Stations.{Station, Reply}
 use Rattle.law_model.specs.Medium.{Tap}
 use Rattle.law_model.specs.World.{World}
 use Rattle.law_model.proofs.Cases.{by_test}
-use Rattle.law_token.specs.Data.{tap_with, set_data_at, set_data}
+use Rattle.law_token.specs.Data.{tap_with, set_data}
 use Rattle.law_token.specs.Views.{view}
 use Rattle.law_token.proofs.replies.Alike.{AlikeReplies, OfService, HaveAlikeOctets}
-use Rattle.law_token.proofs.replies.Kept.{viewed}
+use Rattle.law_token.proofs.replies.Kept.{viewed, is_set}
 use Rattle.law_token.proofs.turn.Meaning.{arrival_spelled}
 use Rattle.law_live.specs.Holding.{Spends}
 use Rattle.law_rings.specs.Receipts.{Rotates, Rotating}
@@ -109,18 +109,14 @@ data_times p t unit =
 -- ---- the world
 
 pub data_rotating : (w next : World) (base : ℕ) (members : List ℕ) (tap : ℕ) (unit : List ℕ) → set_data w tap unit ≡ Ok next → Rotating w base members → Rotating next base members
-data_rotating w next base members tap unit ok r = by (slice_get w.taps tap) refl ok
-  where
-    by : (o : Option Tap) → slice_get w.taps tap ≡ o → set_data_at w tap unit o ≡ Ok next → Rotating next base members
-    by None at ok = absurd cc
-    by (Some t) at ok =
-        let x = tap_with t unit in
-        let made : World = record w { taps = slice_set w.taps tap x } in
-        let same : made ≡ next = cc in
-        let looks = set_looks w.params w.taps tap t x at (data_looks w.params t unit) in
-        subst (λ z. Rotating z base members) same
-        (record {
-          ring = ring_looks w base members (slice_set w.taps tap x) looks r.ring;
-          rotates = subst (Rotates made base members) (sym (ring_looks_call w base members (slice_set w.taps tap x) looks r.ring))
-              (rotates_set w base r.ring.call.answered members r.ring.call tap t x w.trace at (data_times w.params t unit) r.rotates);
-        })
+data_rotating w next base members tap unit ok r =
+    let d = is_set w next tap unit ok in
+    let x = tap_with d.t unit in
+    let taps = slice_set w.taps tap x in
+    let looks = set_looks w.params w.taps tap d.t x d.here (data_looks w.params d.t unit) in
+    subst (λ z. Rotating z base members) d.is
+    (record {
+      ring = ring_looks w base members taps looks r.ring;
+      rotates = subst (Rotates (record w { taps = taps }) base members) (sym (ring_looks_call w base members taps looks r.ring))
+          (rotates_set w base r.ring.call.answered members r.ring.call tap d.t x w.trace d.here (data_times w.params d.t unit) r.rotates);
+    })

@@ -6,3 +6,4 @@ pub mod Kept
 pub mod Silence
 pub mod Actions
 pub mod Happen
+pub mod Sound

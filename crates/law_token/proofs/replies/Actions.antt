@@ -2,20 +2,19 @@
 use Rattle.std.proofs.Common.{◌≡◌, ℕ, List, [], ◌∷◌, ◌++◌, refl, sym, ap, ◌∙◌, subst, Option, Some, None, Result, Ok, Err}
 use Rattle.std.proofs.lemmas.Option.{none-some}
 use Rattle.pb_timers.specs.Timers.{Params}
-use Rattle.std.specs.Prelude.{slice_get, slice_set}
-use Rattle.law_model.specs.Medium.{TapSpec, Tap}
+use Rattle.law_model.specs.Medium.{TapSpec}
 use Rattle.law_model.specs.World.{World, Fault}
 use Rattle.law_model.specs.Step.{step}
 use Rattle.law_runs.specs.Headline.{specs_of}
 use Rattle.law_runs.specs.Legality.{address_at}
 use Rattle.law_runs.specs.Premises.{Waited, Broken, Course, waited_by, broken_by, broken_or, followed}
 use Rattle.law_token.specs.Actions.{Action, Happens, Sets, AreActions, ActsTo, LeadsTo, HasActed, with_world, acted, course_by, NoneActsLate, TokenTheoremOfActions, OneTokenOfActions, NoneInSilenceOfActions}
-use Rattle.law_token.specs.Data.{tap_with, set_data_at, set_data}
+use Rattle.law_token.specs.Data.{tap_with, set_data}
 use Rattle.law_token.specs.Invariant.{Invariant}
 use Rattle.law_token.proofs.bus.NewWorlds.{new_invariant}
 use Rattle.law_token.proofs.quiet.Watched.{Watch, event_watches, new_watches}
 use Rattle.law_token.proofs.replies.Addresses.{SameAddresses, set_addresses}
-use Rattle.law_token.proofs.replies.Kept.{data_invariant}
+use Rattle.law_token.proofs.replies.Kept.{is_set, data_invariant}
 use Rattle.law_token.proofs.replies.Silence.{data_watches, watched_silence}
 use Rattle.law_token.proofs.whole.Induction.{event_invariant, holds_once}
 use Rattle.law_token.proofs.whole.Keeping.{fits_valid, follow_stays}
@@ -52,16 +51,10 @@ pub record SameStations (w next : World) : Type 0 where
 same_specs : (a b : List TapSpec) → a ≡ b → SameAddresses a b
 same_specs a b e tap = ap (λ specs. address_at specs tap) e
 
-data_stations : (w next : World) (tap : ℕ) (unit : List ℕ) → set_data w tap unit ≡ Ok next → SameStations w next
-data_stations w next tap unit ok = by (slice_get w.taps tap) refl ok
-  where
-    by : (o : Option Tap) → slice_get w.taps tap ≡ o → set_data_at w tap unit o ≡ Ok next → SameStations w next
-    by None at ok = absurd cc
-    by (Some t) at ok =
-        let y = tap_with t unit in
-        let made : World = record w { taps = slice_set w.taps tap y } in
-        let same : made ≡ next = cc in
-        subst (SameStations w) same (record { params = refl; addresses = set_addresses w.taps tap t y at refl })
+pub data_stations : (w next : World) (tap : ℕ) (unit : List ℕ) → set_data w tap unit ≡ Ok next → SameStations w next
+data_stations w next tap unit ok =
+    let d = is_set w next tap unit ok in
+    subst (SameStations w) d.is (record { params = refl; addresses = set_addresses w.taps tap d.t (tap_with d.t unit) d.here refl })
 
 act_stations : (a : Action) (w next : World) → ActsTo w a next → SameStations w next
 act_stations (Happens e) w next acts =
@@ -81,7 +74,7 @@ params_by p specs actions new w has = (same_stations actions new w has.leads).pa
 
 -- ---- along a list
 
-acts_keep : (actions : List Action) (w next : World) (waited : List Waited) → AreActions actions → LeadsTo w actions next
+pub acts_keep : (actions : List Action) (w next : World) (waited : List Waited) → AreActions actions → LeadsTo w actions next
     → (course_by (record { world = w; waited = waited; broken = None }) actions).broken ≡ None → Invariant w waited → (all : List Waited) × Invariant next all
 acts_keep [] w next waited are leads none i = (waited, subst (λ z. Invariant z waited) leads i)
 acts_keep (Happens e ∷ more) w next waited are leads none i =

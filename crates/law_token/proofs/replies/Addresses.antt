@@ -26,7 +26,7 @@ set_addresses (x ∷ xs) (suc i) t y at same (suc tap) = set_addresses xs i t y 
 
 -- ---- legal telegrams
 
-claim_same : (p : Params) (a b : List TapSpec) (trace : List Entry) (r : Record) → SameAddresses a b → is_claim p a trace r ≡ is_claim p b trace r
+pub claim_same : (p : Params) (a b : List TapSpec) (trace : List Entry) (r : Record) → SameAddresses a b → is_claim p a trace r ≡ is_claim p b trace r
 claim_same p a b trace r same = ap (λ n. claims_for n (telegram_of r) && is_silent p.ttd r.tap trace (r.begin - tto p n) r.begin) (same r.tap)
 
 follows_same : (p : Params) (a b : List TapSpec) (trace : List Entry) (last : Record) (to : Option ℕ) (r : Record) → SameAddresses a b → follows_by p a trace last to r ≡ follows_by p b trace last to r

@@ -12,9 +12,9 @@ use Rattle.law_model.specs.World.{World}
 use Rattle.law_runs.specs.Headline.{specs_of}
 use Rattle.law_runs.specs.Premises.{Waited}
 use Rattle.pb_ring.specs.Las.{LasTable}
-use Rattle.law_token.specs.Data.{tap_with, set_data_at, DataKeepInvariant}
+use Rattle.law_token.specs.Data.{tap_with, set_data_at, set_data, DataKeepInvariant}
 use Rattle.law_token.specs.Entries.{EntryHolds, SpeaksOk, IsFreshIn, IsFresh}
-use Rattle.law_token.specs.Invariant.{Invariant}
+use Rattle.law_token.specs.Invariant.{Settled, Invariant}
 use Rattle.law_token.specs.Places.{Place}
 use Rattle.law_token.specs.Stations.{TapStays}
 use Rattle.law_token.specs.Views.{Waits, KnowsIn, ViewOf, view, place, TapHolds}
@@ -181,35 +181,49 @@ speaks_data p now taps tap t unit at (Sent x) o = record {
 
 -- ---- the world
 
-pub data_invariant : DataKeepInvariant
-data_invariant w next waited tap unit fits ok i = by (slice_get w.taps tap) refl ok
+-- it is the same but for a tap
+pub record IsSet (w next : World) (tap : ℕ) (unit : List ℕ) : Type 0 where
+  pub t : Tap
+  pub here : slice_get w.taps tap ≡ Some t
+  pub is : record w { taps = slice_set w.taps tap (tap_with t unit) } ≡ next
+
+pub is_set : (w next : World) (tap : ℕ) (unit : List ℕ) → set_data w tap unit ≡ Ok next → IsSet w next tap unit
+is_set w next tap unit ok = by (slice_get w.taps tap) refl ok
   where
-    by : (o : Option Tap) → slice_get w.taps tap ≡ o → set_data_at w tap unit o ≡ Ok next → Invariant next waited
+    by : (o : Option Tap) → slice_get w.taps tap ≡ o → set_data_at w tap unit o ≡ Ok next → IsSet w next tap unit
     by None at ok = absurd cc
-    by (Some t) at ok =
-        let y = tap_with t unit in
-        let taps = slice_set w.taps tap y in
-        let inv = i.keeps.inv in
-        let made : World = record w { taps = taps } in
-        let same : made ≡ next = cc in
-        subst (λ z. Invariant z waited) same (record {
-          settled = record {
-            stands = i.settled.stands;
-            stays = at_set (λ k u. TapStays w.params u) w.taps tap y (stays_data w.params t unit fits (i.settled.stays tap t at)) (λ k u ne h. i.settled.stays k u h);
-          };
-          keeps = record {
-            fits = i.keeps.fits;
-            inv = record {
-              last = inv.last;
-              is_last = inv.is_last;
-              last_in = inv.last_in;
-              entries = each_map (EntryHolds w.params w.now w.taps w.trace waited inv.last) (EntryHolds w.params w.now taps w.trace waited inv.last) w.trace (entry_data w.params w.now w.taps w.trace waited inv.last tap t unit at) inv.entries;
-              others = inv.others;
-              speakers = each_map (SpeaksOk w.params w.now w.taps) (SpeaksOk w.params w.now taps) w.trace (speaks_data w.params w.now w.taps tap t unit at) inv.speakers;
-              distinct = namesakes_same w.taps tap t y at refl refl ∙ inv.distinct;
-              taps = at_set (λ k u. u.running ≡ true → TapHolds w.params w.now w.trace inv.last k u) w.taps tap y
-                  (λ run. holds_data w.params w.now w.trace inv.last tap t unit (inv.taps tap t at run)) (λ k u ne h run. inv.taps k u h run);
-            };
-            legal = illegal_same w.params (specs_of made) (specs_of w) w.trace (set_addresses w.taps tap t y at refl) ∙ i.keeps.legal;
-          };
-        })
+    by (Some t) at ok = let same : record w { taps = slice_set w.taps tap (tap_with t unit) } ≡ next = cc in record { t = t; here = at; is = same }
+
+pub data_settled : (w next : World) (tap : ℕ) (unit : List ℕ) → Fits unit → set_data w tap unit ≡ Ok next → Settled w → Settled next
+data_settled w next tap unit fits ok s =
+    let d = is_set w next tap unit ok in
+    subst Settled d.is (record {
+      stands = s.stands;
+      stays = at_set (λ k u. TapStays w.params u) w.taps tap (tap_with d.t unit) (stays_data w.params d.t unit fits (s.stays tap d.t d.here)) (λ k u ne h. s.stays k u h);
+    })
+
+pub data_invariant : DataKeepInvariant
+data_invariant w next waited tap unit fits ok i =
+    let d = is_set w next tap unit ok in
+    let t = d.t in
+    let at = d.here in
+    let y = tap_with t unit in
+    let taps = slice_set w.taps tap y in
+    let inv = i.keeps.inv in
+    subst (λ z. Invariant z waited) d.is (record {
+      settled = subst Settled (sym d.is) (data_settled w next tap unit fits ok i.settled);
+      keeps = record {
+        fits = i.keeps.fits;
+        inv = record {
+          last = inv.last;
+          is_last = inv.is_last;
+          last_in = inv.last_in;
+          entries = each_map (EntryHolds w.params w.now w.taps w.trace waited inv.last) (EntryHolds w.params w.now taps w.trace waited inv.last) w.trace (entry_data w.params w.now w.taps w.trace waited inv.last tap t unit at) inv.entries;
+          others = inv.others;
+          speakers = each_map (SpeaksOk w.params w.now w.taps) (SpeaksOk w.params w.now taps) w.trace (speaks_data w.params w.now w.taps tap t unit at) inv.speakers;
+          distinct = namesakes_same w.taps tap t y at refl refl ∙ inv.distinct;
+          taps = at_set (λ k u. u.running ≡ true → TapHolds w.params w.now w.trace inv.last k u) w.taps tap y (λ run. holds_data w.params w.now w.trace inv.last tap t unit (inv.taps tap t at run)) (λ k u ne h run. inv.taps k u h run);
+        };
+        legal = illegal_same w.params (specs_of (record w { taps = taps })) (specs_of w) w.trace (set_addresses w.taps tap t y at refl) ∙ i.keeps.legal;
+      };
+    })
