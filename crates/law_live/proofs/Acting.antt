@@ -1,10 +1,11 @@
 -- The bus is never dead along lists of actions, and what they promise of the worlds that they lead to.
-use Rattle.std.proofs.Common.{◌≡◌, ℕ, ◌+◌, ◌-◌, ◌<◌, ◌≤◌, Bool, true, false, List, [], ◌∷◌, ◌++◌, refl, sym, subst, arith, None}
+use Rattle.std.proofs.Common.{◌≡◌, ℕ, ◌+◌, ◌-◌, ◌<◌, ◌≤◌, Bool, true, false, List, [], ◌∷◌, ◌++◌, refl, sym, ◌∙◌, subst, arith, None}
+use Rattle.std.proofs.lemmas.Option.{none-some}
 use Rattle.pb_timers.specs.Timers.{Params}
 use Rattle.law_model.specs.Medium.{Tap}
 use Rattle.law_model.specs.World.{World}
 use Rattle.law_runs.specs.Activity.{is_silent}
-use Rattle.law_runs.specs.Premises.{Waited, Course, has_namesakes, loses, comes_late, two_have_waited, waited_by, broken_by, broken_or, followed}
+use Rattle.law_runs.specs.Premises.{Waited, Course, has_namesakes, loses, comes_late, two_have_waited, first_number, waited_by, broken_by, broken_or, followed}
 use Rattle.law_token.specs.Actions.{Action, Happens, Sets, AreActions, LeadsTo, with_world, course_by}
 use Rattle.law_token.specs.Invariant.{Invariant}
 use Rattle.law_token.specs.Promises.{IsMasterAt}
@@ -21,7 +22,19 @@ use Rattle.law_live.specs.NeverDead.{cycle, cycle_to_reply, longest_without, has
 use Rattle.law_live.proofs.Events.{began_now, event_flow, new_flow}
 use Rattle.law_live.proofs.NoToken.{silent_then}
 use Rattle.law_live.proofs.OtherData.{data_flow}
-use Rattle.law_live.proofs.Runs.{numbers, not_both}
+
+-- ---- a premise that is not broken
+
+-- where no premise breaks, no telegram is lost and no turn comes late
+numbers : (a b c d : Bool) → first_number a b c d ≡ None → (b ≡ false) × (c ≡ false)
+numbers true b c d e = absurd (none-some 1 (sym e))
+numbers false true c d e = absurd (none-some 2 (sym e))
+numbers false false true d e = absurd (none-some 3 (sym e))
+numbers false false false d e = (refl, refl)
+
+-- a test that fails does not hold
+not_both : (b : Bool) → b ≡ false → b ≡ true → ⊥
+not_both b e f = let w : false ≡ true = sym e ∙ f in cc
 
 -- ---- what actions leave
 
