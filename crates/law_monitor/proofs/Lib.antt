@@ -1,5 +1,5 @@
 pub mod sources
-pub mod NoneRaised
+pub mod Blind
 pub mod timely
 pub mod hearing
 pub mod Captured

@@ -6,3 +6,4 @@ pub mod Examples
 pub mod Timely
 pub mod Naming
 pub mod Anywhere
+pub mod Actions

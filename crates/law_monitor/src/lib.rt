@@ -3,11 +3,18 @@
 //! This crate has no code that runs: its functions have empty bodies, and their contracts are laws.
 #![tactic(auto)]
 
+mod actions;
 mod examples;
 mod naming;
 mod runs;
 mod taps;
 
+pub use actions::{
+    a_tap_hears_a_capture_whatever_the_data, runs_are_timely_whatever_the_data,
+    runs_raise_no_alarm_anywhere_whatever_the_data, runs_raise_no_alarm_whatever_the_data,
+    telegrams_name_their_speakers_whatever_the_data,
+    the_holder_is_named_or_nobody_whatever_the_data,
+};
 pub use examples::{
     holders_are_named, listeners_beside_a_station_hear_a_ring, passive_taps_capture_a_ring,
 };

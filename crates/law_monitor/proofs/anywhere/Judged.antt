@@ -27,7 +27,7 @@ use Rattle.pb_monitor.proofs.NoneRaised.{claim_like, another_by, facts_of, spell
 use Rattle.law_monitor.specs.Captures.{HearsAmid, HearsSince}
 use Rattle.law_monitor.specs.Timely.{Successive}
 use Rattle.law_monitor.specs.Anywhere.{as_heard}
-use Rattle.law_monitor.proofs.NoneRaised.{blind_alarm, blind_last}
+use Rattle.law_monitor.proofs.Blind.{blind_alarm, blind_last}
 use Rattle.law_monitor.proofs.anywhere.Here.{ClaimHere, NoLossHere, Untouched, PassedHere, TakenHere, FollowsHere, GoodHere, inits, all_inits, has_inits}
 use Rattle.law_monitor.proofs.timely.Fillers.{filler_has, known_before, same_last}
 use Rattle.pb_monitor.proofs.Legal.{untouched}

@@ -1,5 +1,5 @@
 -- Initiator telegrams come one by one at any listener, and nothing is in the air as a station claims the token.
-use Rattle.std.proofs.Common.{◌≡◌, ℕ, ◌+◌, ◌-◌, ◌*◌, ◌<◌, ◌≤◌, ◌⊎◌, inl, inr, ⊎_elim, Bool, true, false, if◌then◌else◌, not, ◌==◌, ◌&&◌, List, refl, sym, ap, ◌∙◌, subst, arith, Option, Some, None}
+use Rattle.std.proofs.Common.{◌≡◌, ℕ, ◌+◌, ◌-◌, ◌*◌, ◌<◌, ◌≤◌, ◌⊎◌, inl, inr, ⊎_elim, Bool, true, false, if◌then◌else◌, ◌==◌, ◌&&◌, List, refl, sym, ap, ◌∙◌, subst, arith, Option, Some, None}
 use Rattle.std.specs.Prelude.{slice_get, IfSome}
 use Rattle.std.specs.List.{list_any}
 use Rattle.std.proofs.lemmas.Bool.{eqb-true, eq-eqb}
@@ -19,9 +19,11 @@ use Rattle.law_token.specs.Invariant.{Keeps, Settled}
 use Rattle.law_token.specs.Lists.{Each, In}
 use Rattle.law_token.proofs.bus.Legal.{same_silence}
 use Rattle.law_token.proofs.bus.Lists.{each_in, each_both, each_with}
+use Rattle.law_token.proofs.replies.Addresses.{SameAddresses, claim_same}
 use Rattle.law_token.proofs.turn.Records.{last_initiates}
 use Rattle.law_live.specs.Flow.{Flow, EndsBy, RepliesBy}
 use Rattle.law_live.proofs.Events.{event_flow}
+use Rattle.law_live.proofs.OtherData.{data_flow}
 use Rattle.pb_monitor.proofs.NoneRaised.{claim_for, least_timeout}
 use Rattle.law_monitor.proofs.hearing.Ears.{Pairs, pairs_each}
 use Rattle.law_monitor.proofs.timely.Alike.{Alike, AlikeRecord, claim_alike, entry_silence}
@@ -161,8 +163,13 @@ said_lone w waited k t kept here running set flow octets says init before =
         ends : Each (EndsBy from) w.trace
         ends = each_both (EntryHolds p w.now w.taps w.trace waited kept.inv.last) (λ e. Passed p.ttd x e × (is_within from w.now (active_at p.ttd k e) ≡ false)) (EndsBy from) w.trace (ended p k from w.now w.taps w.trace waited kept.inv.last x refl refl) kept.inv.entries both
 
+lone_same : (p : Params) (a b : List TapSpec) (trace : List Entry) (l : Option Record) (r : Record) → SameAddresses a b → Lone p a trace l r → Lone p b trace l r
+lone_same p a b trace l r same lone = (lone.0, λ c late. lone.1 (claim_same p a b trace r same ∙ c) (subst (λ n. tto p n ≤ r.begin) (sym (same r.tap)) late))
+
 pub lone_kept : IsKept Lone Flow
 lone_kept = record {
+  same = lone_same;
+  also_data = data_flow;
   stable = λ p specs. record { alike = lone_alike p specs; inserted = lone_inserted p specs };
   also = λ w next waited all e reply ok i j f. event_flow w e waited all next reply ok i j f;
   said = said_lone;

@@ -1,9 +1,8 @@
--- Along every run, a tap's tape is of what it has heard since its start.
-use Rattle.std.proofs.Common.{◌≡◌, ℕ, zero, suc, ◌+◌, ◌<◌, Bool, true, false, if◌then◌else◌, not, ◌==◌, ◌&&◌, ◌||◌, List, [], ◌∷◌, length, map, refl, sym, ap, ◌∙◌, subst, arith, Option, Some, None, Ok}
+-- Along all actions, a tap's tape is of what it has heard since its start.
+use Rattle.std.proofs.Common.{◌≡◌, ℕ, ◌+◌, ◌<◌, Bool, true, false, if◌then◌else◌, not, ◌==◌, ◌&&◌, ◌||◌, List, [], ◌∷◌, length, map, refl, sym, ap, ◌∙◌, subst, arith, Option, Some, None, Ok}
 use Rattle.std.specs.Prelude.{slice_get, slice_set, nat_le, find, is_some, is_none}
 use Rattle.std.specs.List.{list_any}
 use Rattle.std.proofs.lemmas.Bool.{eqb-false, eq-eqb, ne_eqb}
-use Rattle.std.proofs.lemmas.Option.{none-some, same_Some}
 use Rattle.pb_timers.specs.Timers.{Params}
 use Rattle.law_turn.specs.Spans.{Span}
 use Rattle.law_turn.specs.Stations.{pushed, list_for}
@@ -13,9 +12,12 @@ use Rattle.law_model.specs.Trace.{Hit, Entry, Sent, cut_at, is_noise_at, noisy_u
 use Rattle.law_model.specs.Medium.{TapSpec, Tap, marks_between, entry_at}
 use Rattle.law_model.specs.World as world
 use Rattle.law_model.specs.World.{World, Event, Turn, Pass, Damage, Start, Stop, Queue, Noise, Unheard, Reply, Fault, NoSuchTap, Running, NotRunning, NothingInAir, ZeroTime, QueueFull, TraceFull, queue_limit, is_in_air_by, stopped_tap, new_faults, IsNewWorld}
-use Rattle.law_model.specs.Step.{sending, with_said, step_turn, told, pass_faults, with_hit, change_first, has_place, started_tap, step_start, halted, step_stop, step_queue, with_noise, is_noisy, world_after, step, RunsTo}
-use Rattle.law_model.specs.Laws.{IsSound, AllFit, IsEvent, AreEvents}
+use Rattle.law_model.specs.Step.{sending, with_said, step_turn, told, pass_faults, with_hit, change_first, has_place, started_tap, step_start, halted, step_stop, step_queue, with_noise, is_noisy, world_after, step}
+use Rattle.law_model.specs.Laws.{IsSound, AllFit, IsEvent}
 use Rattle.law_model.proofs.Worlds.{unless-Ok, sound-step, sound-new_world}
+use Rattle.law_turn.specs.Laws.{Fits}
+use Rattle.law_token.specs.Actions.{Action, Happens, Sets, AreActions, LeadsTo}
+use Rattle.law_token.specs.Data.{tap_with, set_data}
 use Rattle.law_token.specs.Invariant.{Settled}
 use Rattle.law_token.specs.Lists.{Each}
 use Rattle.law_token.proofs.air.FreshTap.{span_new}
@@ -24,8 +26,12 @@ use Rattle.law_token.proofs.bus.Lists.{each_all, at_set}
 use Rattle.law_token.proofs.pass.AllTaps.{told_at}
 use Rattle.law_token.proofs.pass.Brings.{solid_sensed}
 use Rattle.law_token.proofs.quiet.Watched.{each_long}
+use Rattle.law_token.proofs.replies.Actions.{data_stations}
+use Rattle.law_token.proofs.replies.Kept.{is_set, data_settled}
+use Rattle.law_token.proofs.replies.Sound.{data_sound}
 use Rattle.law_token.proofs.whole.Stays.{same_bus, settled_new, settled_step}
-use Rattle.law_monitor.specs.Taps.{Tape, blank, noted_all, marks_told, taped, taped_all}
+use Rattle.law_monitor.specs.Taps.{Tape, blank, noted_all, marks_told, taped}
+use Rattle.law_monitor.specs.Actions.{data_after, taped_all_by}
 use Rattle.law_monitor.proofs.sources.Entries.{step_entries}
 use Rattle.law_monitor.proofs.hearing.Ears.{Ear, at_ear, IsClearAt, same_with}
 use Rattle.law_monitor.proofs.hearing.Kept.{same_hit, same_noisy, same_cut, same_relabelled, same_lost, new_sent, new_noise}
@@ -168,7 +174,7 @@ step_hears w next tap tape (Unheard k speaker) reply ok h =
     (record w { trace = change_first begins (unheard_at k) w.trace }) next (record { now = w.now; spoke = None }) reply ok
     (λ t at run. hearing_same (ear w.params tap t) w.now w.trace _ tape (same_lost (ear w.params tap t) w.now k speaker w.trace) (h.hears t at run))
 
--- ---- runs
+-- ---- along a list
 
 step_taped : (w next : World) (tap : ℕ) (tape : Tape) (e : Event) (reply : Reply) → w.params.hsa < 127 → IsEvent e → step w e ≡ Ok (next, reply) → Taped w tap tape → Taped next tap (taped tap w tape e)
 step_taped w next tap tape e reply highest is ok h = record {
@@ -178,12 +184,30 @@ step_taped w next tap tape e reply highest is ok h = record {
   hears = step_hears w next tap tape e reply ok h;
 }
 
-pub runs_taped : (events : List Event) (w next : World) (tap : ℕ) (tape : Tape) → w.params.hsa < 127 → AreEvents events → RunsTo w events next → Taped w tap tape → Taped next tap (taped_all tap w tape events)
-runs_taped [] w next tap tape highest are runs h = subst (λ z. Taped z tap tape) runs h
-runs_taped (e ∷ es) w next tap tape highest are runs h =
-    let one = same_bus w runs.0 e runs.1 runs.2 in
-    subst (λ r. Taped next tap (taped_all tap (world_after w r) (taped tap w tape e) es)) (sym runs.2)
-    (runs_taped es runs.0 next tap (taped tap w tape e) (subst (λ (z : Params). z.hsa < 127) (sym one.params) highest) are.1 runs.3 (step_taped w runs.0 tap tape e runs.1 highest are.0 runs.2 h))
+data_hears : (w next : World) (tap k : ℕ) (tape : Tape) (unit : List ℕ) → set_data w k unit ≡ Ok next → HearsAt tap tape w → HearsAt tap tape next
+data_hears w next tap k tape unit ok h =
+    let d = is_set w next k unit ok in
+    subst (HearsAt tap tape) d.is
+    (set_hears w tap k (tap_with d.t unit) w.trace tape (λ mine run. of_tap w tap w.trace tape h k d.t d.here mine run) (λ j u ne there. of_tap w tap w.trace tape h j u there))
+
+data_taped : (w next : World) (tap k : ℕ) (tape : Tape) (unit : List ℕ) → Fits unit → set_data w k unit ≡ Ok next → Taped w tap tape → Taped next tap tape
+data_taped w next tap k tape unit fits ok h = record {
+  settled = data_settled w next k unit fits ok h.settled;
+  sound = data_sound w next k unit fits ok h.sound;
+  spelled = subst (λ (z : World). Each SpellsOne z.trace) (is_set w next k unit ok).is h.spelled;
+  hears = data_hears w next tap k tape unit ok h.hears;
+}
+
+pub acts_taped : (actions : List Action) (w next : World) (tap : ℕ) (tape : Tape) → w.params.hsa < 127 → AreActions actions → LeadsTo w actions next → Taped w tap tape → Taped next tap (taped_all_by tap w tape actions)
+acts_taped [] w next tap tape highest are leads h = subst (λ z. Taped z tap tape) leads h
+acts_taped (Happens e ∷ more) w next tap tape highest are leads h =
+    let one = same_bus w leads.0 e leads.1.0 leads.1.1 in
+    subst (λ r. Taped next tap (taped_all_by tap (world_after w r) (taped tap w tape e) more)) (sym leads.1.1)
+    (acts_taped more leads.0 next tap (taped tap w tape e) (subst (λ (z : Params). z.hsa < 127) (sym one.params) highest) are.1 leads.2 (step_taped w leads.0 tap tape e leads.1.0 highest are.0 leads.1.1 h))
+acts_taped (Sets k unit ∷ more) w next tap tape highest are leads h =
+    let one = data_stations w leads.0 k unit leads.1 in
+    subst (λ r. Taped next tap (taped_all_by tap (data_after w r) tape more)) (sym leads.1)
+    (acts_taped more leads.0 next tap tape (subst (λ (z : Params). z.hsa < 127) (sym one.params) highest) are.1 leads.2 (data_taped w leads.0 tap k tape unit are.0 leads.1 h))
 
 pub new_taped : (p : Params) (specs : List TapSpec) (w : World) (tap : ℕ) → p.hsa < 127 → AllFit specs → IsNewWorld p specs w → Taped w tap blank
 new_taped p specs w tap highest fit ok =

@@ -1,5 +1,5 @@
 -- What is on the tape of a tap that only listens is what a listener hears of the trace.
-use Rattle.std.proofs.Common.{◌≡◌, ℕ, ◌+◌, ◌<◌, ◌≤◌, ◌⊎◌, inl, inr, ⊎_elim, Bool, true, false, if◌then◌else◌, ◌==◌, ◌||◌, List, [], ◌∷◌, refl, sym, subst, arith, Option, Some, None}
+use Rattle.std.proofs.Common.{◌≡◌, ℕ, ◌+◌, ◌<◌, ◌≤◌, ◌⊎◌, inl, inr, ⊎_elim, Bool, true, false, if◌then◌else◌, ◌==◌, ◌||◌, List, [], ◌∷◌, refl, sym, ap, subst, arith, Option, Some, None}
 use Rattle.std.specs.Prelude.{nat_lt, max, slice_get}
 use Rattle.std.specs.Option.{option_and_then}
 use Rattle.std.proofs.lemmas.Bool.{ltb-false, cases_lt}
@@ -8,17 +8,21 @@ use Rattle.law_turn.specs.Arrivals.{Arrival, Token, Framed, Acknowledgement, NoT
 use Rattle.law_turn.specs.Spans.{Span}
 use Rattle.law_model.specs.Trace.{Entry, Sent, Noise}
 use Rattle.law_model.specs.Medium.{part_after, reaches_taps, reaches, at_tap, is_unheard}
+use Rattle.law_model.specs.World.{World, Event}
+use Rattle.law_model.specs.Step.{step, world_after}
 use Rattle.law_model.proofs.Cases.{by_test}
 use Rattle.law_token.specs.Lists.{Each}
 use Rattle.law_token.specs.Places.{IsOver}
 use Rattle.pb_monitor.specs.Captures.{Burst, All, Has, IsClear, AllClear, IsSolid, BeginsAt, Fills, IsTold, IsOf, HearsFrom}
+use Rattle.law_token.proofs.replies.Actions.{params_by}
+use Rattle.law_token.proofs.replies.Happen.{happen, acted_happen}
 use Rattle.law_token.proofs.whole.Stays.{new_params}
+use Rattle.law_monitor.specs.Actions.{taped_all_by, bursts_heard_by, TapsCaptureByActions}
 use Rattle.law_monitor.specs.Captures.{HearsSince}
-use Rattle.law_monitor.specs.Taps.{IsSensed, TapsCapture, blank, bursts_heard}
+use Rattle.law_monitor.specs.Taps.{Tape, IsSensed, TapsCapture, blank, taped, taped_all, bursts_heard}
 use Rattle.law_monitor.proofs.hearing.Ears.{Ear, at_ear, IsClearAt, Clear, BeginsIn, Begins, Told}
 use Rattle.law_monitor.proofs.hearing.Tapes.{Closed, Chain}
-use Rattle.law_monitor.proofs.hearing.Events.{runs_taped, new_taped}
-use Rattle.law_live.proofs.Runs.{params_of}
+use Rattle.law_monitor.proofs.hearing.Events.{acts_taped, new_taped}
 
 -- ---- one entry
 
@@ -190,14 +194,28 @@ hears_chain x es until (b ∷ bs) senses c =
         absurd (each_has (Lasts x.delay b.begin) (IsTold x.delay b) es (λ e l t. lasts_told x.delay b e some l t) (subst (λ n. Has (Lasts x.delay n) es) (sym same) amid) (of.told spells).1))
         (is_none (arrival_of b.chars))
 
+pub taps_capture_by : TapsCaptureByActions
+taps_capture_by p specs actions new w tap t is =
+    let has = is.acted in
+    let low : p.hsa < 127 = (let h = is.highest in omega (arith, h)) in
+    let first = new_taped p specs new tap low has.fit has.made in
+    let highest : new.params.hsa < 127 = subst (λ (z : Params). z.hsa < 127) (sym (new_params p specs new has.made)) low in
+    let taped = acts_taped actions new w tap blank highest has.are has.leads first in
+    let heard = taped.hears t is.here is.running in
+    let same = params_by p specs actions new w has in
+    hears_chain (record { delay = p.ttd; tap = tap; since = t.since }) w.trace heard.q (bursts_heard_by tap new actions) is.senses
+    (subst (λ (z : Params). Chain (record { delay = z.ttd; tap = tap; since = t.since }) w.trace t.since heard.q (bursts_heard_by tap new actions)) same heard.chain)
+
+-- ---- events are actions
+
+taped_happen : (tap : ℕ) (events : List Event) (w : World) (tape : Tape) → taped_all_by tap w tape (happen events) ≡ taped_all tap w tape events
+taped_happen tap [] w tape = refl
+taped_happen tap (e ∷ es) w tape = taped_happen tap es (world_after w (step w e)) (taped tap w tape e)
+
+pub heard_happen : (tap : ℕ) (new : World) (events : List Event) → bursts_heard_by tap new (happen events) ≡ bursts_heard tap new events
+heard_happen tap new events = ap (λ (z : Tape). z.bursts) (taped_happen tap events new blank)
+
 pub taps_capture : TapsCapture
 taps_capture p specs events new w tap t is =
-    let run = is.run in
-    let low : p.hsa < 127 = (let h = is.highest in omega (arith, h)) in
-    let first = new_taped p specs new tap low run.fit run.made in
-    let highest : new.params.hsa < 127 = subst (λ (z : Params). z.hsa < 127) (sym (new_params p specs new run.made)) low in
-    let taped = runs_taped events new w tap blank highest run.are run.runs first in
-    let heard = taped.hears t is.here is.running in
-    let same = params_of p specs events new w run in
-    hears_chain (record { delay = p.ttd; tap = tap; since = t.since }) w.trace heard.q (bursts_heard tap new events) is.senses
-    (subst (λ (z : Params). Chain (record { delay = z.ttd; tap = tap; since = t.since }) w.trace t.since heard.q (bursts_heard tap new events)) same heard.chain)
+    subst (HearsSince p.ttd t.since w.trace) (heard_happen tap new events)
+    (taps_capture_by p specs (happen events) new w tap t (record { highest = is.highest; acted = acted_happen p specs events new w is.run; here = is.here; running = is.running; senses = is.senses }))

@@ -1,10 +1,10 @@
 -- Each event leaves what a tap has heard up to the clock.
-use Rattle.std.proofs.Common.{◌≡◌, ℕ, ◌+◌, ◌<◌, ◌≤◌, inl, inr, ⊎_elim, Bool, true, if◌then◌else◌, ◌==◌, List, map, sym, ap, ◌∙◌, subst, arith, Option, Some, None}
+use Rattle.std.proofs.Common.{◌≡◌, ℕ, ◌+◌, ◌<◌, ◌≤◌, inl, inr, ⊎_elim, Bool, true, ◌==◌, List, map, sym, ap, ◌∙◌, subst, arith, Option, Some, None}
 use Rattle.std.specs.Prelude.{max, nat_lt, slice_set}
-use Rattle.std.proofs.lemmas.Bool.{ltb-true, lt-ltb, eqb-true, and_parts}
+use Rattle.std.proofs.lemmas.Bool.{ltb-true, eqb-true, and_parts}
 use Rattle.law_turn.specs.Spans.{Span}
 use Rattle.law_model.specs.Trace.{Hit, Record, Entry, Sent, Noise, Unheard, cut_end, cut_at, is_noise_at, noisy_until, begins_from, unheard_at}
-use Rattle.law_model.specs.Medium.{Tap, part_after, reaches, ends_between, entry_at, heard_by}
+use Rattle.law_model.specs.Medium.{Tap, reaches, ends_between, entry_at, heard_by}
 use Rattle.law_model.specs.Step.{with_hit, change_first}
 use Rattle.law_model.proofs.Cases.{by_test}
 use Rattle.law_token.specs.Places.{IsOver}

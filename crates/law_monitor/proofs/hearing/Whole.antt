@@ -1,6 +1,6 @@
 -- Characters of a telegram that spell a telegram are all its octets, none of them damaged.
 use Rattle.std.proofs.Common.{◌≡◌, ℕ, zero, suc, ◌+◌, ◌-◌, ◌/◌, ◌<◌, ◌≤◌, Bool, true, false, if◌then◌else◌, ◌==◌, ◌&&◌, List, [], ◌∷◌, length, map, refl, sym, ap, ◌∙◌, subst, arith, Option, Some, None}
-use Rattle.std.specs.Prelude.{slice_index, nat_le, is_some, take}
+use Rattle.std.specs.Prelude.{slice_index, nat_le, take}
 use Rattle.std.specs.List.{list_any, position_from}
 use Rattle.std.proofs.lemmas.Bool.{ltb-false, le-leb}
 use Rattle.std.proofs.lemmas.List.{length-take, take_all}
@@ -11,7 +11,7 @@ use Rattle.pb_telegram.specs.Faults.{octets, is_bad, place_of_bad, octet_faults,
 use Rattle.pb_telegram.specs.declared.chars.RxChar.{RxChar}
 use Rattle.pb_telegram.specs.declared.chars.RxChar.TheVariants.{Good, Bad}
 use Rattle.pb_telegram.specs.declared.faults.TelegramFault.{TelegramFault}
-use Rattle.pb_telegram.proofs.Spelled.{good_octets, octets-map}
+use Rattle.pb_telegram.proofs.Spelled.{good_octets}
 use Rattle.pb_timers.specs.Timers.{bits}
 use Rattle.law_turn.specs.Arrivals.{NoTelegram, arrival_of, arrival_unless}
 use Rattle.law_model.specs.Trace.{Hit, Record, characters_from, characters_at, hits_place}

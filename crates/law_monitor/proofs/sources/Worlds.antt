@@ -1,30 +1,35 @@
 -- In every run, each token and request has its speaker's address as its source.
 use Rattle.std.proofs.Common.{◌≡◌, ℕ, zero, suc, ◌<◌, ◌==◌, Bool, true, false, List, [], ◌∷◌, map, refl, sym, ap, ◌∙◌, subst, Option, Some, None, Ok}
-use Rattle.std.specs.Prelude.{slice_get, IfSome}
+use Rattle.std.specs.Prelude.{slice_get, slice_set, IfSome}
 use Rattle.std.proofs.lemmas.Option.{none-some, same_Some}
 use Rattle.pb_telegram.specs.Faults.{octets, fault_of}
 use Rattle.pb_telegram.specs.declared.chars.RxChar.TheVariants.{Good}
 use Rattle.pb_telegram.specs.declared.faults.TelegramFault.{TelegramFault}
 use Rattle.pb_timers.specs.Timers.{Params}
 use Rattle.law_turn.specs.Arrivals.{arrival_unless}
-use Rattle.law_turn.specs.Laws.{are_initiator}
+use Rattle.law_turn.specs.Laws.{are_initiator, Fits}
 use Rattle.law_turn.specs.Turns.{turn_of}
 use Rattle.law_model.specs.Trace.{Hit, Record, Entry, Sent, Noise, cut_at, cut_end, unheard_at}
 use Rattle.law_model.specs.Medium.{TapSpec, Tap, ends_between, heard_by, entry_at, reaches}
 use Rattle.law_model.specs.World as world
 use Rattle.law_model.specs.World.{World, Event, Turn, Pass, Damage, Start, Stop, Queue, Unheard, Reply, stopped_tap, new_faults, IsNewWorld}
-use Rattle.law_model.specs.Step.{sending, with_hit, step, RunsTo}
-use Rattle.law_model.specs.Laws.{AllFit, IsEvent, AreEvents}
+use Rattle.law_model.specs.Step.{sending, with_hit, step}
+use Rattle.law_model.specs.Laws.{AllFit, IsEvent}
 use Rattle.law_model.proofs.Cases.{by_test}
 use Rattle.law_model.proofs.Worlds.{unless-Ok}
 use Rattle.law_runs.specs.Headline.{specs_of}
 use Rattle.law_runs.specs.Initiators.{telegram_of, initiates, is_initiator}
+use Rattle.law_runs.specs.Legality.{address_at}
+use Rattle.law_token.specs.Actions.{Action, Happens, Sets, AreActions, LeadsTo, HasActed}
+use Rattle.law_token.specs.Data.{tap_with, set_data}
 use Rattle.law_token.specs.Invariant.{Settled}
 use Rattle.law_token.specs.Lists.{Each, EachTap}
-use Rattle.law_token.specs.Promises.{HasRun}
+use Rattle.law_token.proofs.bus.Lists.{each_map, at_set}
+use Rattle.law_token.proofs.replies.Actions.{data_stations, same_stations}
+use Rattle.law_token.proofs.replies.Addresses.{SameAddresses, set_addresses}
+use Rattle.law_token.proofs.replies.Kept.{is_set, data_settled}
 use Rattle.law_token.proofs.turn.Meaning.{arrival_spelled, reply_means}
 use Rattle.law_token.proofs.turn.Records.{address_there}
-use Rattle.law_token.proofs.whole.JoinedRuns.{runs_same}
 use Rattle.law_token.proofs.whole.Stays.{Stable, step_after, same_bus, settled_new, settled_step, new_params}
 use Rattle.pb_monitor.specs.Captures as captures
 use Rattle.pb_monitor.specs.Meanings.{source_of}
@@ -114,11 +119,31 @@ step_sourced w next e reply highest is ok s = record {
     said tap t at None from = tt
     said tap t at (Some octets) from = λ init. source_said t.spec.address (sending tap octets w.now w.taps) from init ∙ sym (address_there w.taps tap t at)
 
-runs_sourced : (events : List Event) (w next : World) → w.params.hsa < 127 → AreEvents events → RunsTo w events next → Sourced w → Sourced next
-runs_sourced [] w next highest are runs s = subst Sourced runs s
-runs_sourced (e ∷ es) w next highest are runs s =
-    let one = same_bus w runs.0 e runs.1 runs.2 in
-    runs_sourced es runs.0 next (subst (λ (z : Params). z.hsa < 127) (sym one.params) highest) are.1 runs.3 (step_sourced w runs.0 e runs.1 highest are.0 runs.2 s)
+-- other data leave its octets and its addresses
+entries_same : (a b : List TapSpec) → SameAddresses a b → (e : Entry) → IsBySource a e → IsBySource b e
+entries_same a b same (Noise span) by = tt
+entries_same a b same (Sent r) by = λ init. by init ∙ same r.tap
+
+data_sourced : (w next : World) (tap : ℕ) (unit : List ℕ) → Fits unit → set_data w tap unit ≡ Ok next → Sourced w → Sourced next
+data_sourced w next tap unit fits ok s =
+    let d = is_set w next tap unit ok in
+    let x = tap_with d.t unit in
+    let made : World = record w { taps = slice_set w.taps tap x } in
+    record {
+      settled = data_settled w next tap unit fits ok s.settled;
+      names = subst (λ (z : World). EachTap NamesTap z.taps) d.is (at_set (λ k u. NamesTap u) w.taps tap x (s.names tap d.t d.here) (λ k u ne h. s.names k u h));
+      entries = subst (λ (z : World). Each (IsBySource (specs_of z)) z.trace) d.is
+          (each_map (IsBySource (specs_of w)) (IsBySource (specs_of made)) w.trace (entries_same (specs_of w) (specs_of made) (λ k. sym (set_addresses w.taps tap d.t x d.here refl k))) s.entries);
+    }
+
+acts_sourced : (actions : List Action) (w next : World) → w.params.hsa < 127 → AreActions actions → LeadsTo w actions next → Sourced w → Sourced next
+acts_sourced [] w next highest are leads s = subst Sourced leads s
+acts_sourced (Happens e ∷ more) w next highest are leads s =
+    let one = same_bus w leads.0 e leads.1.0 leads.1.1 in
+    acts_sourced more leads.0 next (subst (λ (z : Params). z.hsa < 127) (sym one.params) highest) are.1 leads.2 (step_sourced w leads.0 e leads.1.0 highest are.0 leads.1.1 s)
+acts_sourced (Sets tap unit ∷ more) w next highest are leads s =
+    let one = data_stations w leads.0 tap unit leads.1 in
+    acts_sourced more leads.0 next (subst (λ (z : Params). z.hsa < 127) (sym one.params) highest) are.1 leads.2 (data_sourced w leads.0 tap unit are.0 leads.1 s)
 
 -- ---- runs
 
@@ -141,18 +166,19 @@ specs_stopped : (p : Params) (specs : List TapSpec) → map (λ (t : Tap). t.spe
 specs_stopped p [] = refl
 specs_stopped p (spec ∷ specs) = ap (λ l. spec ∷ l) (specs_stopped p specs)
 
--- a run leaves the taps of its bus
-pub specs_after : (p : Params) (specs : List TapSpec) (events : List Event) (new w : World) → HasRun p specs events new w → specs_of w ≡ specs
-specs_after p specs events new w run =
-    let made : World = record { params = p; now = 0; trace = []; taps = map (stopped_tap p) specs; limit = run.made.0 } in
-    (runs_same events new w run.runs).specs ∙ sym (ap specs_of (unless-Ok (new_faults p specs) made new run.made.1).1) ∙ specs_stopped p specs
+-- actions leave the taps of the bus their addresses
+pub addresses_by : (p : Params) (specs : List TapSpec) (actions : List Action) (new w : World) → HasActed p specs actions new w → SameAddresses (specs_of w) specs
+addresses_by p specs actions new w has tap =
+    let made : World = record { params = p; now = 0; trace = []; taps = map (stopped_tap p) specs; limit = has.made.0 } in
+    (same_stations actions new w has.leads).addresses tap
+    ∙ ap (λ s. address_at s tap) (sym (ap specs_of (unless-Ok (new_faults p specs) made new has.made.1).1) ∙ specs_stopped p specs)
 
 all_each : (P : Entry → Type 0) (es : List Entry) → Each P es → captures.All P es
 all_each P [] all = tt
 all_each P (e ∷ es) all = (all.0, all_each P es all.1)
 
-pub sources_after : (p : Params) (specs : List TapSpec) (events : List Event) (new w : World) → p.hsa < 127 → HasRun p specs events new w → captures.All (IsBySource specs) w.trace
-sources_after p specs events new w highest run =
-    let low : new.params.hsa < 127 = subst (λ (z : Params). z.hsa < 127) (sym (new_params p specs new run.made)) highest in
-    let s = runs_sourced events new w low run.are run.runs (new_sourced p specs new highest run.fit run.made) in
-    all_each (IsBySource specs) w.trace (subst (λ specs. Each (IsBySource specs) w.trace) (specs_after p specs events new w run) s.entries)
+pub sources_by : (p : Params) (specs : List TapSpec) (actions : List Action) (new w : World) → p.hsa < 127 → HasActed p specs actions new w → captures.All (IsBySource specs) w.trace
+sources_by p specs actions new w highest has =
+    let low : new.params.hsa < 127 = subst (λ (z : Params). z.hsa < 127) (sym (new_params p specs new has.made)) highest in
+    let s = acts_sourced actions new w low has.are has.leads (new_sourced p specs new highest has.fit has.made) in
+    all_each (IsBySource specs) w.trace (each_map (IsBySource (specs_of w)) (IsBySource specs) w.trace (entries_same (specs_of w) specs (addresses_by p specs actions new w has)) s.entries)

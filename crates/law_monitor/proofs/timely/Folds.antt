@@ -11,6 +11,11 @@ use Rattle.law_monitor.proofs.hearing.Ears.{Pairs}
 
 -- ---- another property
 
+pub successive_by : (P Q : Option Record → Record → Type 0) (last : Option Record) (es : List Entry) → ((l : Option Record) (r : Record) → P l r → Q l r) → Successive P last es → Successive Q last es
+successive_by P Q last [] f s = tt
+successive_by P Q last (Noise span ∷ es) f s = successive_by P Q last es f s
+successive_by P Q last (Sent r ∷ es) f s = (λ init. f last r (s.0 init), successive_by P Q (later_record last r) es f s.1)
+
 pub successive_map : (P Q : Option Record → Record → Type 0) (now : ℕ) (last : Option Record) (es : List Entry) → ((l : Option Record) (r : Record) → r.begin ≤ now → P l r → Q l r) → Each (Begun now) es → Successive P last es → Successive Q last es
 successive_map P Q now last [] f begun s = tt
 successive_map P Q now last (Noise span ∷ es) f begun s = successive_map P Q now last es f begun.1 s

@@ -11,41 +11,36 @@ use Rattle.law_model.specs.Trace.{Hit, Record, Entry, Sent, goes_before, with_en
 use Rattle.law_model.specs.Medium.{TapSpec, Tap, entry_at}
 use Rattle.law_model.specs.World as world
 use Rattle.law_model.specs.World.{World, Event, Turn, Pass, Damage, Start, Stop, Queue, Noise, Unheard, Reply, Fault, NoSuchTap, Running, NotRunning, NothingInAir, ZeroTime, QueueFull, TraceFull, queue_limit, is_in_air_by, stopped_tap, new_faults, IsNewWorld}
-use Rattle.law_model.specs.Step.{sending, with_said, step_turn, told, pass_faults, with_hit, change_first, has_place, started_tap, step_start, halted, step_stop, step_queue, with_noise, is_noisy, step, RunsTo}
-use Rattle.law_model.specs.Laws.{AreEvents}
+use Rattle.law_model.specs.Step.{sending, with_said, step_turn, told, pass_faults, with_hit, change_first, has_place, started_tap, step_start, halted, step_stop, step_queue, with_noise, is_noisy, step}
 use Rattle.law_model.proofs.Worlds.{unless-Ok}
 use Rattle.law_runs.specs.Headline.{specs_of}
 use Rattle.law_model.proofs.Cases.{by_test}
 use Rattle.law_runs.specs.Initiators.{is_initiator, offered_to, last_initiator}
 use Rattle.law_runs.specs.Judging.{Stands}
-use Rattle.law_runs.specs.Premises.{Waited, waited_by, broken_by, broken_or, followed, course_of, first_broken}
+use Rattle.law_runs.specs.Premises.{Waited, Course, waited_by, broken_by, broken_or, followed}
+use Rattle.law_token.specs.Actions.{Action, Happens, Sets, AreActions, LeadsTo, HasActed, with_world, course_by, first_broken_by}
+use Rattle.law_token.specs.Data.{tap_with, set_data}
 use Rattle.law_token.specs.Entries.{ComesBefore, EntryHolds, IsAnother, AllOthers}
-use Rattle.law_token.specs.Invariant.{InvariantHolds, Invariant, KeepsInvariant, Settled, Keeps}
+use Rattle.law_token.specs.Invariant.{InvariantHolds, Invariant, Settled, Keeps}
 use Rattle.law_token.specs.Lists.{Each, In}
 use Rattle.law_token.specs.Places.{LeavesTime}
-use Rattle.law_token.specs.Promises.{HasRun}
-use Rattle.law_token.proofs.air.Damage.{damage_invariant}
-use Rattle.law_token.proofs.air.Loss.{loss_invariant}
-use Rattle.law_token.proofs.air.Noise.{noise_invariant}
-use Rattle.law_token.proofs.air.Request.{queue_invariant}
-use Rattle.law_token.proofs.air.Start.{start_invariant}
-use Rattle.law_token.proofs.air.Stop.{stop_invariant}
 use Rattle.law_token.proofs.bus.Legal.{Begun}
 use Rattle.law_token.proofs.bus.Lists.{each_in, each_map, each_both, each_without}
 use Rattle.law_token.proofs.bus.NewWorlds.{new_invariant}
-use Rattle.law_token.proofs.pass.WholePass.{pass_invariant}
+use Rattle.law_token.proofs.replies.Actions.{unbroken_by, params_by}
+use Rattle.law_token.proofs.replies.Addresses.{SameAddresses, set_addresses, claim_same}
+use Rattle.law_token.proofs.replies.Happen.{happen, acted_happen, kept_happen}
+use Rattle.law_token.proofs.replies.Kept.{is_set, data_invariant}
 use Rattle.law_token.proofs.turn.Records.{begun_each}
 use Rattle.law_token.proofs.turn.Trace.{InitBefore, Apart, by_begin, behind}
-use Rattle.law_token.proofs.turn.WholeTurn.{turn_invariant}
-use Rattle.law_token.proofs.whole.Keeping.{unbroken}
 use Rattle.law_token.proofs.whole.Stays.{runs_then, same_bus}
+use Rattle.law_monitor.specs.Actions.{RunsAreTimelyByActions}
 use Rattle.law_monitor.specs.Timely.{IsTimely, Successive, RunsAreTimely}
-use Rattle.law_monitor.proofs.sources.Worlds.{specs_after}
+use Rattle.law_monitor.proofs.sources.Worlds.{addresses_by}
 use Rattle.law_monitor.proofs.timely.Alike.{Stable, all_alike, timely_stable, alike_hit, alike_noisy, alike_cut, alike_told, alike_lost}
-use Rattle.law_monitor.proofs.timely.Folds.{successive_map, successive_with_other, successive_with}
+use Rattle.law_monitor.proofs.timely.Folds.{successive_by, successive_map, successive_with_other, successive_with}
 use Rattle.law_monitor.proofs.timely.Spoken.{SaidTimely, turn_timely}
 use Rattle.law_token.proofs.whole.Induction.{event_invariant}
-use Rattle.law_live.proofs.Runs.{params_of}
 
 -- ---- a new telegram is the last
 
@@ -109,11 +104,13 @@ Property = Params → List TapSpec → List Entry → Option Record → Record �
 abbrev pub AllHave : Property → Params → List TapSpec → List Entry → Type 0
 AllHave P p specs trace = Successive (P p specs trace) None trace
 
--- Runs keep such a property, with an invariant of worlds: it stays once it holds, and each initiator telegram that a
--- station says has it.
+-- Actions keep such a property, with an invariant of worlds: it stays once it holds, also of other taps with the same
+-- addresses, and each initiator telegram that a station says has it.
 pub record IsKept (P : Property) (Also : World → Type 0) : Type 0 where
   pub stable : (p : Params) (specs : List TapSpec) → Stable (P p specs)
+  pub same : (p : Params) (a b : List TapSpec) (trace : List Entry) (l : Option Record) (r : Record) → SameAddresses a b → P p a trace l r → P p b trace l r
   pub also : (w next : World) (waited all : List Waited) (e : Event) (reply : Reply) → step w e ≡ Ok (next, reply) → Invariant w waited → Invariant next all → Also w → Also next
+  pub also_data : (w next : World) (tap : ℕ) (unit : List ℕ) → set_data w tap unit ≡ Ok next → Also w → Also next
   pub said : (w : World) (waited : List Waited) (k : ℕ) (t : Tap) → (kept : Keeps w waited) → slice_get w.taps k ≡ Some t → t.running ≡ true → Settled w → Also w
       → (octets : List ℕ) → (turn_of w.params t.station t.marks w.now).1 ≡ Some octets → is_initiator (sending k octets w.now w.taps) ≡ true → Each (Passed w.params.ttd (sending k octets w.now w.taps)) w.trace
       → P w.params (specs_of w) (with_entry (Sent (sending k octets w.now w.taps)) w.trace) kept.inv.last (sending k octets w.now w.taps)
@@ -233,44 +230,71 @@ step_kept P Also keeps w next waited all e reply ok i j more have = on e ok
         made P p specs ((is_none (slice_get w.taps k) || is_none (slice_get w.taps speaker), NoSuchTap) ∷ (k == speaker || not (list_any begins w.trace), NothingInAir) ∷ [])
         (record w { trace = es }) next (record { now = w.now; spoke = None }) reply ok (all_alike (P p specs) (keeps.stable p specs) w.now w.trace es begun (alike_lost w.now speaker k w.trace) have)
 
--- ---- runs
+data_kept : (P : Property) (Also : World → Type 0) → IsKept P Also → (w next : World) (tap : ℕ) (unit : List ℕ) → set_data w tap unit ≡ Ok next → AllHave P w.params (specs_of w) w.trace → AllHave P next.params (specs_of next) next.trace
+data_kept P Also keeps w next tap unit ok have =
+    let d = is_set w next tap unit ok in
+    let x = tap_with d.t unit in
+    let made : World = record w { taps = slice_set w.taps tap x } in
+    subst (λ (z : World). AllHave P z.params (specs_of z) z.trace) d.is
+    (successive_by (P w.params (specs_of w) w.trace) (P w.params (specs_of made) w.trace) None w.trace
+    (λ l r. keeps.same w.params (specs_of w) (specs_of made) w.trace l r (λ k. sym (set_addresses w.taps tap d.t x d.here refl k))) have)
 
-pub runs_keep : (P : Property) (Also : World → Type 0) → IsKept P Also → (events : List Event) (w next : World) (waited : List Waited) → AreEvents events → RunsTo w events next → (course_of (record { world = w; waited = waited; broken = None }) events).broken ≡ None
-    → Invariant w waited → Also w → AllHave P w.params (specs_of w) w.trace → AllHave P next.params (specs_of next) next.trace
-runs_keep P Also keeps [] w next waited are runs none i more have = subst (λ z. AllHave P z.params (specs_of z) z.trace) runs have
-runs_keep P Also keeps (e ∷ es) w next waited are runs none i more have =
-    let between = runs.0 in
+-- ---- along a list
+
+acts_kept : (P : Property) (Also : World → Type 0) → IsKept P Also → (actions : List Action) (w next : World) (waited : List Waited) → AreActions actions → LeadsTo w actions next
+    → (course_by (record { world = w; waited = waited; broken = None }) actions).broken ≡ None → Invariant w waited → Also w → AllHave P w.params (specs_of w) w.trace → AllHave P next.params (specs_of next) next.trace
+acts_kept P Also keeps [] w next waited are leads none i more have = subst (λ z. AllHave P z.params (specs_of z) z.trace) leads have
+acts_kept P Also keeps (Happens e ∷ rest) w next waited are leads none i more have =
+    let between = leads.0 in
+    let reply = leads.1.0 in
+    let ok = leads.1.1 in
     let new = waited_by between 0 between.taps in
     let all = new ++ waited in
-    let go : (course_of (record { world = between; waited = all; broken = broken_or None between.now (broken_by w e between new all) }) es).broken ≡ None =
-    subst (λ r. (course_of (followed (record { world = w; waited = waited; broken = None }) e r) es).broken ≡ None) runs.2 none in
-    let breaks = unbroken between all between.now es (broken_by w e between new all) go in
-    let j = event_invariant w e waited between runs.1 runs.2 are.0 breaks i in
-    let same = same_bus w between e runs.1 runs.2 in
-    let step = step_kept P Also keeps w between waited all e runs.1 runs.2 i j more have in
-    runs_keep P Also keeps es between next all are.1 runs.3
-    (subst (λ o. (course_of (record { world = between; waited = all; broken = broken_or None between.now o }) es).broken ≡ None) breaks go) j (keeps.also w between waited all e runs.1 runs.2 i j more)
+    let go : (course_by (record { world = between; waited = all; broken = broken_or None between.now (broken_by w e between new all) }) rest).broken ≡ None =
+    subst (λ r. (course_by (followed (record { world = w; waited = waited; broken = None }) e r) rest).broken ≡ None) ok none in
+    let breaks = unbroken_by between all between.now rest (broken_by w e between new all) go in
+    let j = event_invariant w e waited between reply ok are.0 breaks i in
+    let same = same_bus w between e reply ok in
+    let step = step_kept P Also keeps w between waited all e reply ok i j more have in
+    acts_kept P Also keeps rest between next all are.1 leads.2
+    (subst (λ o. (course_by (record { world = between; waited = all; broken = broken_or None between.now o }) rest).broken ≡ None) breaks go) j (keeps.also w between waited all e reply ok i j more)
     (subst (λ s. AllHave P between.params s between.trace) (sym same.specs) (subst (λ q. AllHave P q (specs_of w) between.trace) (sym same.params) step))
+acts_kept P Also keeps (Sets tap unit ∷ rest) w next waited are leads none i more have =
+    let between = leads.0 in
+    let c : Course = record { world = w; waited = waited; broken = None } in
+    acts_kept P Also keeps rest between next waited are.1 leads.2 (subst (λ r. (course_by (with_world c r) rest).broken ≡ None) leads.1 none)
+    (data_invariant w between waited tap unit are.0 leads.1 i) (keeps.also_data w between tap unit leads.1 more) (data_kept P Also keeps w between tap unit leads.1 have)
 
 new_have : (P : Property) (p : Params) (specs : List TapSpec) (w : World) → IsNewWorld p specs w → AllHave P w.params (specs_of w) w.trace
 new_have P p specs w ok =
     let new : World = record { params = p; now = 0; trace = []; taps = map (stopped_tap p) specs; limit = ok.0 } in
     subst (λ (z : World). AllHave P z.params (specs_of z) z.trace) (unless-Ok (new_faults p specs) new w ok.1).1 tt
 
--- so each initiator telegram of a run that keeps the premises has it
-pub runs_have : (P : Property) (Also : World → Type 0) → IsKept P Also → (p : Params) (specs : List TapSpec) (events : List Event) (new w : World) → LeavesTime p → HasRun p specs events new w → first_broken new events ≡ None → Also new → AllHave P p specs w.trace
-runs_have P Also keeps p specs events new w time run none more =
-    let have = runs_keep P Also keeps events new w [] run.are run.runs none (new_invariant p specs new time run.fit run.made) more (new_have P p specs new run.made) in
-    subst (λ q. AllHave P q specs w.trace) (params_of p specs events new w run) (subst (λ s. AllHave P w.params s w.trace) (specs_after p specs events new w run) have)
+-- so each initiator telegram has it, where the events keep the premises
+pub acts_have : (P : Property) (Also : World → Type 0) → IsKept P Also → (p : Params) (specs : List TapSpec) (actions : List Action) (new w : World) → LeavesTime p → HasActed p specs actions new w → first_broken_by new actions ≡ None → Also new
+    → AllHave P p specs w.trace
+acts_have P Also keeps p specs actions new w time has none more =
+    let have = acts_kept P Also keeps actions new w [] has.are has.leads none (new_invariant p specs new time has.fit has.made) more (new_have P p specs new has.made) in
+    successive_by (P p (specs_of w) w.trace) (P p specs w.trace) None w.trace (λ l r. keeps.same p (specs_of w) specs w.trace l r (addresses_by p specs actions new w has))
+    (subst (λ q. AllHave P q (specs_of w) w.trace) (params_by p specs actions new w has) have)
 
 -- ---- each comes in time
+
+timely_same : (p : Params) (a b : List TapSpec) (trace : List Entry) (l : Option Record) (r : Record) → SameAddresses a b → IsTimely p a trace l r → IsTimely p b trace l r
+timely_same p a b trace l r same (inl c) = inl (sym (claim_same p a b trace r same) ∙ c)
+timely_same p a b trace l r same (inr t) = inr t
 
 timely_kept : IsKept IsTimely (λ w. Unit {0})
 timely_kept = record {
   stable = timely_stable;
+  same = timely_same;
   also = λ w next waited all e reply ok i j more. tt;
+  also_data = λ w next tap unit ok more. tt;
   said = λ w waited k t kept here running set more octets says init before. subst (λ o. IfSome o (SaidTimely w k kept.inv.last)) says (turn_timely w waited k t kept here running set) init;
 }
 
+pub timely_by : RunsAreTimelyByActions
+timely_by p specs actions new w time has none = acts_have IsTimely (λ w. Unit {0}) timely_kept p specs actions new w time has none tt
+
 pub runs_are_timely : RunsAreTimely
-runs_are_timely p specs events new w time run none = runs_have IsTimely (λ w. Unit {0}) timely_kept p specs events new w time run none tt
+runs_are_timely p specs events new w time run none = timely_by p specs (happen events) new w time (acted_happen p specs events new w run) (kept_happen new events none)

@@ -1,5 +1,5 @@
 -- What a station says as an initiator comes in time, while the premises are kept.
-use Rattle.std.proofs.Common.{◌≡◌, ℕ, ◌+◌, ◌-◌, ◌<◌, ◌≤◌, ◌⊎◌, inl, inr, ⊎_elim, Bool, true, false, if◌then◌else◌, not, ◌==◌, ◌&&◌, ◌||◌, List, [], ◌∷◌, map, refl, sym, ap, ◌∙◌, subst, arith, Option, Some, None}
+use Rattle.std.proofs.Common.{◌≡◌, ℕ, ◌+◌, ◌-◌, ◌<◌, ◌≤◌, ◌⊎◌, inl, inr, ⊎_elim, Bool, true, false, if◌then◌else◌, not, ◌==◌, ◌&&◌, ◌||◌, List, map, refl, sym, ap, ◌∙◌, subst, arith, Option, Some, None}
 use Rattle.std.specs.Prelude.{slice_get, nat_le, IfSome}
 use Rattle.std.specs.List.{list_any}
 use Rattle.std.specs.Option.{option_and_then}
@@ -8,9 +8,7 @@ use Rattle.std.proofs.lemmas.Option.{none-some, same_Some}
 use Rattle.pb_telegram.specs.Faults.{fault_of}
 use Rattle.pb_telegram.specs.declared.chars.RxChar.TheVariants.{Good}
 use Rattle.pb_timers.specs.Timers.{Params, tto}
-use Rattle.pb_cycles.specs.declared.initiators.OpenRequest.{OpenRequest}
 use Rattle.law_turn.specs.Hearing.{after_timer}
-use Rattle.law_turn.specs.Laws.{IsReply, IsOpenRequest}
 use Rattle.law_turn.specs.Phases.{Phase, Offline, PassiveIdle, Listening, Idle, Claim, Use, AwaitData, AwaitStatus, Pass, Checking, may_initiate}
 use Rattle.law_turn.specs.Spans.{Span}
 use Rattle.law_turn.specs.Stations.{Station, Reply, speaks_at}
@@ -39,7 +37,7 @@ use Rattle.law_token.proofs.bus.Lists.{each_all, each_map, each_both}
 use Rattle.law_token.proofs.bus.Live.{lives, initiates_live, holding_view}
 use Rattle.law_token.proofs.bus.Pairs.{Lives, Holding, Keeps as KeepsIt, Has, held_offer, over_clip}
 use Rattle.law_token.proofs.pass.Taps.{knows_on}
-use Rattle.law_token.proofs.turn.Actions.{Acts, Rests, Replies, Initiates, Asks, Grounds, ByToken, BySlot, BySilence, acts}
+use Rattle.law_token.proofs.turn.Actions.{Acts, Rests, Replies, Initiates, Grounds, ByToken, BySlot, BySilence, acts}
 use Rattle.law_token.proofs.turn.Afterwards.{grounds_on}
 use Rattle.law_token.proofs.turn.Initiator.{checking_live}
 use Rattle.law_token.proofs.turn.Meaning.{Means, means, reply_means}

@@ -15,7 +15,7 @@ use Rattle.pb_monitor.proofs.Claims.{burst_ends_solid, silences_behind, start_is
 use Rattle.pb_monitor.proofs.Follows.{IsLast, Follows}
 use Rattle.pb_monitor.proofs.NoneRaised.{LinkedLast, Linked, last_left}
 use Rattle.law_monitor.specs.Captures.{HearsAmid, HearsSince}
-use Rattle.law_monitor.proofs.NoneRaised.{blind_last}
+use Rattle.law_monitor.proofs.Blind.{blind_last}
 
 -- ---- what a listener knows after bursts
 

@@ -12,12 +12,14 @@ use Rattle.law_model.specs.Trace.{Hit, Record, Entry, Sent, entry_begin, goes_be
 use Rattle.law_model.specs.Medium.{Tap, entry_at}
 use Rattle.law_model.specs.World as world
 use Rattle.law_model.specs.World.{World, Event, Turn, Pass, Damage, Start, Stop, Queue, Noise, Unheard, Reply, Fault, NoSuchTap, Running, NotRunning, NothingInAir, ZeroTime, QueueFull, TraceFull, queue_limit, is_in_air_by}
-use Rattle.law_model.specs.Step.{sending, with_said, step_turn, told, pass_faults, with_hit, change_first, has_place, started_tap, step_start, halted, step_stop, step_queue, with_noise, is_noisy, world_after, step, RunsTo}
+use Rattle.law_model.specs.Step.{sending, with_said, step_turn, told, pass_faults, with_hit, change_first, has_place, started_tap, step_start, halted, step_stop, step_queue, with_noise, is_noisy, step}
 use Rattle.law_model.proofs.Cases.{by_test}
-use Rattle.law_model.proofs.Worlds.{unless-Ok, later-replay}
+use Rattle.law_model.proofs.Worlds.{unless-Ok}
 use Rattle.law_runs.specs.Initiators.{initiates, is_initiator, later_record, last_from}
+use Rattle.law_token.specs.Actions.{Action, Happens, Sets, ActsTo, LeadsTo}
 use Rattle.law_token.specs.Lists.{Each}
 use Rattle.law_token.proofs.bus.Lists.{each_without}
+use Rattle.law_token.proofs.replies.Kept.{is_set}
 use Rattle.law_monitor.proofs.hearing.Ears.{Pairs, pairs_back}
 use Rattle.law_monitor.proofs.timely.Alike.{AlikeRecord, Alike, alike_hit, alike_noisy, alike_cut, alike_told, alike_lost}
 use Rattle.law_monitor.proofs.timely.Folds.{Both}
@@ -197,14 +199,21 @@ both_both t (Some x) (Some y) (Some z) f g = record {
       (λ (a : (t < x.end) × (t < y.end)). ⊎_elim (λ (b : z.end ≡ y.end). inr (a.0, omega (arith, a.1, b))) (λ (b : (t < y.end) × (t < z.end)). inr (a.0, b.1)) g.end) f.end;
 }
 
--- ---- runs
+-- ---- actions
+
+leads_act : (t : ℕ) (w next : World) (a : Action) → t ≤ w.now → ActsTo w a next → (w.now ≤ next.now) × Leads t w.trace next.trace
+leads_act t w next (Happens e) le acts = (later-world w next e acts.0 acts.1, leads_step t w next e acts.0 le acts.1)
+leads_act t w next (Sets tap unit) le acts =
+    subst (λ (z : World). (w.now ≤ z.now) × Leads t w.trace z.trace) (is_set w next tap unit acts).is (omega arith, leads_self t w.trace)
 
 -- the last initiator telegram that had begun by a moment, where no telegram begins then
-pub last_stays : (events : List Event) (w next : World) (t : ℕ) → t ≤ w.now → RunsTo w events next → Each (NotAt t) next.trace → Each (NotAt t) w.trace × Both (AlikeRecord t) (last_from None t w.trace) (last_from None t next.trace)
-last_stays [] w next t le runs none = subst (λ (z : World). Each (NotAt t) z.trace → Each (NotAt t) w.trace × Both (AlikeRecord t) (last_from None t w.trace) (last_from None t z.trace)) runs (λ n. (n, both_self t (last_from None t w.trace))) none
-last_stays (e ∷ es) w next t le runs none =
-    let between = runs.0 in
-    let later = later-world w between e runs.1 runs.2 in
-    let rest = last_stays es between next t (omega (arith, le, later)) runs.3 none in
-    let one = leads_step t w between e runs.1 le runs.2 rest.0 in
-    (one.0, both_both t (last_from None t w.trace) (last_from None t between.trace) (last_from None t next.trace) (one.1 None None tt) rest.1)
+pub last_stays : (actions : List Action) (w next : World) (t : ℕ) → t ≤ w.now → LeadsTo w actions next → Each (NotAt t) next.trace
+    → Each (NotAt t) w.trace × Both (AlikeRecord t) (last_from None t w.trace) (last_from None t next.trace)
+last_stays [] w next t le leads none = subst (λ (z : World). Each (NotAt t) z.trace → Each (NotAt t) w.trace × Both (AlikeRecord t) (last_from None t w.trace) (last_from None t z.trace)) leads (λ n. (n, both_self t (last_from None t w.trace))) none
+last_stays (a ∷ more) w next t le leads none =
+    let between = leads.0 in
+    let one = leads_act t w between a le leads.1 in
+    let later = one.0 in
+    let rest = last_stays more between next t (omega (arith, le, later)) leads.2 none in
+    let back = one.1 rest.0 in
+    (back.0, both_both t (last_from None t w.trace) (last_from None t between.trace) (last_from None t next.trace) (back.1 None None tt) rest.1)

@@ -11,16 +11,14 @@ use Rattle.law_model.specs.Trace.{Record, Entry, Sent, Noise, entry_begin, entry
 use Rattle.law_model.specs.Medium.{TapSpec, Tap, reaches_taps}
 use Rattle.law_model.specs.Laws.{AllBegun}
 use Rattle.law_model.proofs.Cases.{by_test}
-use Rattle.law_model.proofs.Worlds.{sound-new_world}
 use Rattle.law_runs.specs.Initiators.{initiates, telegram_of, offered_by, last_from}
 use Rattle.law_runs.specs.Judging.{IsOrdered, IsOrderedFrom}
 use Rattle.law_runs.specs.Legality.{address_at}
 use Rattle.law_runs.specs.Premises.{Waited}
-use Rattle.law_runs.proofs.Ordered.{is-ordered-after, sound-after}
+use Rattle.law_token.specs.Actions.{HasActed}
 use Rattle.law_token.specs.Invariant.{Invariant}
 use Rattle.law_token.specs.Lists.{Each}
 use Rattle.law_token.specs.Places.{LeavesTime}
-use Rattle.law_token.specs.Promises.{HasRun}
 use Rattle.law_token.specs.Views.{place}
 use Rattle.law_token.proofs.bus.Live.{holding}
 use Rattle.law_token.proofs.bus.NewWorlds.{new_invariant}
@@ -28,8 +26,10 @@ use Rattle.law_token.proofs.bus.Pairs.{Holding, Keeps, Has}
 use Rattle.law_token.proofs.bus.Spelling.{token_spelled}
 use Rattle.law_token.proofs.turn.Meaning.{arrival_spelled}
 use Rattle.law_token.proofs.turn.Records.{address_there}
-use Rattle.law_token.proofs.whole.Induction.{runs_keep}
-use Rattle.law_token.proofs.whole.JoinedRuns.{runs_join, events_join}
+use Rattle.law_token.proofs.replies.Actions.{acts_keep, params_by}
+use Rattle.law_token.proofs.replies.Happen.{happen, are_happen, leads_happen, acted_happen, kept_happen}
+use Rattle.law_token.proofs.replies.Sound.{sound_by, ordered_by}
+use Rattle.law_live.proofs.Acting.{actions_join, leads_join}
 use Rattle.pb_monitor.specs.declared.holders.Holder.{Holder}
 use Rattle.pb_monitor.specs.declared.holders.Holder.TheVariants.{One, OfferedTo, Nobody, Unknown}
 use Rattle.pb_monitor.specs.declared.states.LastHeard.{LastHeard}
@@ -42,13 +42,13 @@ use Rattle.pb_monitor.specs.Promises.{IsBySource}
 use Rattle.pb_monitor.proofs.Follows.{IsLast}
 use Rattle.pb_monitor.proofs.Legal.{Knows}
 use Rattle.pb_monitor.proofs.NoneRaised.{LinkedLast, Linked}
+use Rattle.law_monitor.specs.Actions.{NamedOrNobodyByActions}
 use Rattle.law_monitor.specs.Naming.{Allows, kept, NamedOrNobody}
 use Rattle.law_monitor.proofs.words.Known.{linked_after, all_append, ordered_more, since_more, last_known, OfSent, last_stands}
 use Rattle.law_monitor.proofs.words.Lasts.{NotAt, last_stays}
-use Rattle.law_monitor.proofs.sources.Worlds.{specs_after, sources_after}
+use Rattle.law_monitor.proofs.sources.Worlds.{addresses_by, sources_by}
 use Rattle.law_monitor.proofs.timely.Alike.{AlikeRecord}
 use Rattle.law_monitor.proofs.timely.Folds.{Both}
-use Rattle.law_live.proofs.Runs.{params_of}
 
 -- ---- what the listener says, by the last telegram
 
@@ -103,8 +103,8 @@ all_begun now n (e ∷ es) le begun = (let b = begun.0 in omega (arith, b, le), 
 
 -- ---- the listener
 
-pub named_or_nobody : NamedOrNobody
-named_or_nobody p specs events more new w later slack since bs is none tap may = by_test (λ (z : Holder). Allows z a) (j.lost || nat_lt (j.quiet + live p slack) (w.now + p.ttd)) Unknown (holder_by_last p slack j.last (w.now + p.ttd)) (λ _. tt) (λ _. by j.last linked.last)
+pub named_by : NamedOrNobodyByActions
+named_by p specs actions more new w later slack since bs is none tap may = by_test (λ (z : Holder). Allows z a) (j.lost || nat_lt (j.quiet + live p slack) (w.now + p.ttd)) Unknown (holder_by_last p slack j.last (w.now + p.ttd)) (λ _. tt) (λ _. by j.last linked.last)
   where
     j : State
     j = kept p slack since bs
@@ -115,27 +115,27 @@ named_or_nobody p specs events more new w later slack since bs is none tap may =
     t : Tap
     t = may.0
 
-    run : HasRun p specs events new w
-    run = is.run
+    has : HasActed p specs actions new w
+    has = is.acted
 
-    whole : HasRun p specs (events ++ more) new later
-    whole = record { fit = run.fit; are = events_join events more run.are is.are; made = run.made; runs = runs_join events more new later (w, run.runs, is.goes_on) }
+    whole : HasActed p specs (actions ++ more) new later
+    whole = record { fit = has.fit; are = actions_join actions more has.are is.are; made = has.made; leads = leads_join actions more new w later has.leads is.goes_on }
 
     order : IsOrdered later.trace
-    order = is-ordered-after p specs (events ++ more) new later whole.fit whole.are whole.made whole.runs
+    order = ordered_by p specs (actions ++ more) new later whole
 
     invariant : (all : List Waited) × Invariant w all
-    invariant = runs_keep events new w [] run.are run.runs none (new_invariant p specs new is.time run.fit run.made)
+    invariant = acts_keep actions new w [] has.are has.leads none (new_invariant p specs new is.time has.fit has.made)
 
     here : a ≡ t.spec.address
-    here = ap (λ s. address_at s tap) (sym (specs_after p specs events new w run)) ∙ address_there w.taps tap t may.1
+    here = sym (addresses_by p specs actions new w has tap) ∙ address_there w.taps tap t may.1
 
     low : a < 127
     low = let s = invariant.1.settled.stays tap t may.1 in subst (λ n. n < 127) (s.address ∙ sym here) s.below
 
     holds : Holding (place p w.now tap t) invariant.1.keeps.inv.last
     holds = let b = and_parts t.running (may_initiate t.station.phase) may.2 in
-        subst (λ q. Holding (place q w.now tap t) invariant.1.keeps.inv.last) (params_of p specs events new w run)
+        subst (λ q. Holding (place q w.now tap t) invariant.1.keeps.inv.last) (params_by p specs actions new w has)
         (holding w.params w.now w.trace invariant.1.keeps.inv.last tap t (invariant.1.keeps.inv.taps tap t may.1 b.0) b.1)
 
     -- a token of the station to itself, later than all
@@ -149,12 +149,12 @@ named_or_nobody p specs events more new w later slack since bs is none tap may =
     spelled = arrival_spelled (token_octets a a) (token_spelled a a low low)
 
     begun : All (λ e. entry_begin e ≤ x.begin) later.trace
-    begun = all_begun later.now end later.trace (omega arith) (sound-after (events ++ more) new later whole.are whole.runs (sound-new_world p specs new whole.fit whole.made)).begun
+    begun = all_begun later.now end later.trace (omega arith) (sound_by p specs (actions ++ more) new later whole).begun
 
     linked : Linked p specs since (later.trace ++ Sent x ∷ []) j
     linked = let over = is.over in
         linked_after p slack specs since (later.trace ++ Sent x ∷ []) bs (ordered_more 0 later.trace x order begun (omega arith) (omega arith))
-        (all_append (IsBySource specs) later.trace (Sent x) (sources_after p specs (events ++ more) new later is.time.highest whole) (λ init. ap source_of spelled))
+        (all_append (IsBySource specs) later.trace (Sent x) (sources_by p specs (actions ++ more) new later is.time.highest whole) (λ init. ap source_of spelled))
         (since_more p slack since later.trace x bs (omega (arith, over)) is.hears)
 
     by : (o : Option LastHeard) → LinkedLast p specs since (later.trace ++ Sent x ∷ []) j.quiet o → Allows (holder_by_last p slack o (w.now + p.ttd)) a
@@ -172,3 +172,16 @@ named_or_nobody p specs events more new w later slack since bs is none tap may =
             (λ (after : j.quiet ≤ r.begin + p.ttd).
             absurd (subst (λ o. IfSome o (λ r. j.quiet ≤ r.begin + p.ttd → ⊥)) e
             (last_stands w.now (λ r. j.quiet ≤ r.begin + p.ttd → ⊥) None later.trace tt (has_reached p.ttd j.quiet w.now 0 later.trace order is.nothing)) after)) known
+
+-- events are actions
+pub named_or_nobody : NamedOrNobody
+named_or_nobody p specs events more new w later slack since bs is none =
+    named_by p specs (happen events) (happen more) new w later slack since bs (record {
+      time = is.time;
+      acted = acted_happen p specs events new w is.run;
+      are = are_happen more is.are;
+      goes_on = leads_happen more w later is.goes_on;
+      hears = is.hears;
+      over = is.over;
+      nothing = is.nothing;
+    }) (kept_happen new events none)
