@@ -8,4 +8,4 @@ returns c =
     let unit = c.spelled_unit_is_the_telegrams.ensures in
     let spelled = c.what_is_spelled_has_no_fault.ensures in
     token-arrives unit.var unit.fixed spelled.no_fault spelled.octets (map Good c.args.octets.now) c.spelled_token.result
-    (octets-token c.args.octets.now c.spelled_token.result c.spelled_token.ensures)
+    (octets-token c.args.octets.now c.spelled_token.result c.spelled_token.ensures.whole)

@@ -20,11 +20,11 @@ returns-in-Some c phase queue =
     answers_by c.args.params.now (station_with c.args.kept.now queue phase) c.args.at (type_bits c.args.station_type) (message_of c.args.telegram.now) c.reply_moment-ready.result c.get-ts.result c.bits-bits.result
     (Some c.write.result.items) (Some reply) (Some reply) c.answer.new.self
     refl refl (ap Some c.write.ensures ∙ ap (option_map spelling) (sym c.in-Some.is) ∙ c.answer.ensures.octets)
-    c.answer.ensures.table c.reply_moment-ready.ensures c.get-ts.ensures.value c.code-code.ensures.value
+    c.answer.ensures.table c.reply_moment-ready.ensures c.get-ts.ensures.value c.bits-bits.ensures.value
 
 pub returns-in_default : goal.returns-in_default
 returns-in_default c phase queue =
     answers_by c.args.params.now (station_with c.args.kept.now queue phase) c.args.at (type_bits c.args.station_type) (message_of c.args.telegram.now) c.reply_moment-ready.result c.get-ts.result c.bits-bits.result
     None None (option_map reply_of c.args.kept.now.reply) c.answer.new.self
     refl refl c.in_default.ensures.octets
-    c.answer.ensures.table c.reply_moment-ready.ensures c.get-ts.ensures.value c.code-code.ensures.value
+    c.answer.ensures.table c.reply_moment-ready.ensures c.get-ts.ensures.value c.bits-bits.ensures.value
