@@ -19,15 +19,15 @@ returns-clause-kept c =
     let made : ℕ → List trace.Entry → List model.Tap → ℕ → World = λ now es ts limit. record { params = p; now = now; trace = es; taps = ts; limit = limit } in
     let none = c.new.ensures.empty in
     let there = c.in_ok-taps.ensures.taps in
-    let new : new_world p specs ≡ Ok (made c.beginning.result (entries_of c.new.result) (map tap_of taps) (limit_of c.new.result))
+    let new : new_world p specs ≡ Ok (made c.at.result (entries_of c.new.result) (map tap_of taps) (limit_of c.new.result))
     = ap (λ o. unless_fault o (made 0 [] (map (stopped_tap p) specs) trace_limit)) c.in_ok-check_taps.ensures.ok
-    ∙ ap (λ n. Ok (made n [] (map (stopped_tap p) specs) trace_limit)) (sym c.beginning.ensures)
-    ∙ ap (λ es. Ok (made c.beginning.result es (map (stopped_tap p) specs) trace_limit)) (sym none)
-    ∙ ap (λ ts. Ok (made c.beginning.result (entries_of c.new.result) ts trace_limit)) (sym there)
-    ∙ ap (λ l. Ok (made c.beginning.result (entries_of c.new.result) (map tap_of taps) l)) (sym c.new.ensures.limit) in
+    ∙ ap (λ n. Ok (made n [] (map (stopped_tap p) specs) trace_limit)) (sym c.at.ensures)
+    ∙ ap (λ es. Ok (made c.at.result es (map (stopped_tap p) specs) trace_limit)) (sym none)
+    ∙ ap (λ ts. Ok (made c.at.result (entries_of c.new.result) ts trace_limit)) (sym there)
+    ∙ ap (λ l. Ok (made c.at.result (entries_of c.new.result) (map tap_of taps) l)) (sym c.new.ensures.limit) in
     record {
       sound = sound-new_world p specs _ c.in_ok-taps.ensures.fit (trace_limit, new);
-      clock = omega (arith, c.beginning.ensures);
+      clock = omega (arith, c.at.ensures);
       room = omega (
         arith,
         ap length there,
@@ -37,6 +37,6 @@ returns-clause-kept c =
         c.in_ok-check_taps.ensures.stations.0,
       );
       seats = c.in_ok-taps.ensures.seats;
-      cut = subst (λ over. IsCut p.ttd c.beginning.result over (entries_of c.new.result)) (sym c.new.ensures.over) (0, omega arith, omega arith, tt, subst (AllFrom p.ttd 0) (sym none) tt);
+      cut = subst (λ over. IsCut p.ttd c.at.result over (entries_of c.new.result)) (sym c.new.ensures.over) (0, omega arith, omega arith, tt, subst (AllFrom p.ttd 0) (sym none) tt);
       ends = subst (AllBy last_end) (sym none) tt;
     }
