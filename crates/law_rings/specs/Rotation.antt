@@ -71,7 +71,7 @@ HasRingOf w next =
     ((a : ℕ) → is_member (ring_of next.params next.taps) a ≡ is_member (ring_of w.params w.taps) a)
     × EachStation next (λ t. lists (ring_of w.params w.taps) t.spec.address (view next.params t).las.stage ≡ true)
 
--- the token has gone round since the clock of a world, within the time for its ring
+-- each station receives the token within the time for the ring of a world, of that world's clock or of its last receipt
 abbrev pub RotatesFrom : (w next : World) → Type 0
 RotatesFrom w next = EachStation next (ReceivesWithin next w.now (rotation_time next.params (length (ring_of w.params w.taps))))
 

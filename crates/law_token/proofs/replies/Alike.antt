@@ -68,8 +68,8 @@ pub kept_self : (k : Option Kept) → AlikeKept k k
 kept_self None = tt
 kept_self (Some a) = (refl, refl, inl refl)
 
--- Replies that are not sent yet and replies that are kept, of two stations: those are alike; if K, these are too, and so
--- are the octets of those.
+-- Two stations have the replies o and r to send, and keep k and l for repeats. The replies are alike; if K, their octets
+-- are too, and what is kept. For any two tables K is ⊥.
 pub record Differ (K : Type 0) (o r : Option Reply) (k l : Option Kept) : Type 0 where
   pub replies : AlikeReplies o r
   pub octets : K → HaveAlikeOctets o r
