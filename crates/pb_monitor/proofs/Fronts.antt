@@ -1,6 +1,6 @@
 -- What the first octets of a stream say of the telegram that begins it.
-use Rattle.std.proofs.Common.{◌≡◌, ℕ, ◌+◌, ◌≤◌, false, if◌then◌else◌, ◌==◌, ◌&&◌, List, [], ◌∷◌, ◌++◌, length, take, drop, map, refl, sym, ap, ◌∙◌, subst, arith, Option, Some, None}
-use Rattle.std.specs.Prelude.{nat_le, slice_index}
+use Rattle.std.proofs.Common.{◌≡◌, ℕ, ◌+◌, ◌<◌, ◌≤◌, false, if◌then◌else◌, ◌==◌, ◌&&◌, List, [], ◌∷◌, ◌++◌, length, take, drop, map, refl, sym, ap, ◌∙◌, subst, arith, Option, Some, None}
+use Rattle.std.specs.Prelude.{nat_le, slice_index, slice_index_or}
 use Rattle.std.proofs.lemmas.Bool.{le-leb}
 use Rattle.std.proofs.lemmas.List.{length-append, take-append-le, take-append-drop}
 use Rattle.std.proofs.Math.Seq.{take-append_seam}
@@ -76,3 +76,8 @@ spelling_fits (Var t) = let f = t.unit_fits in let framed = framed_length t.unit
 spelling_fits (Fixed8 t) = let e = t.eight_octets in let framed = framed_length t.unit (fcs_of t.da t.sa t.fc t.unit) in omega (arith, e, framed)
 spelling_fits (Token t) = omega arith
 spelling_fits Ack = omega arith
+
+-- octets, if there are any, are the first and the others
+pub first_and_others : (xs : List ℕ) → 0 < length xs → xs ≡ slice_index_or xs 0 0 ∷ drop 1 xs
+first_and_others [] some = absurd (omega (arith, some))
+first_and_others (x ∷ xs) some = refl
