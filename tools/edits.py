@@ -6,8 +6,8 @@ They stand in a crate's folder: in must-fail/ and misuse/ a file each, in gate.e
 One of more.edits that changes a definition may name no function: then any may lose its proof.
 
     tools/edits.py apply EDIT CRATE     writes the edited files into the crate's folder
-    tools/edits.py stale CRATE..        names each edit that can't be applied, whose line '# body:' isn't true, or that names a
-                                        function which the prover doesn't know
+    tools/edits.py stale CRATE..        names each edit that can't be applied, that changes nothing, whose line '# body:' isn't true, that
+                                        names a function which the prover doesn't know, or that has other lines; and homes without edits
 """
 
 import dataclasses
@@ -28,6 +28,7 @@ class Edit:
     pairs: list[tuple[str, str, str]]
     body: str = ""
     breaks: str = ""
+    others: list[str] = dataclasses.field(default_factory=list)
 
     @property
     def target(self):
@@ -70,8 +71,10 @@ def parsed(label, text):
             old = text
         elif key == "new":
             edit.pairs.append((file, old, text))
-        elif key in ("body", "breaks"):
+        elif key in ("body", "breaks") and not getattr(edit, key):
             setattr(edit, key, text)
+        elif key != "wants" and line:
+            edit.others.append(line)
     return edit
 
 
@@ -141,6 +144,9 @@ def faults(edit, crate):
     """What is wrong with an edit."""
     try:
         changed = spans(edit, crate)
+        yield from (f"{edit.label}: it has the line: {line}" for line in edit.others)
+        if not any(it.text or it.end > it.start for it in changed.values()):
+            yield f"{edit.label}: it changes nothing"
         if not edit.target and "/more.edits: " not in edit.label:
             yield f"{edit.label}: it names no function"
         name = edit.body.split("::")[-1]
@@ -152,6 +158,14 @@ def faults(edit, crate):
         yield str(wrong)
 
 
+def empty(crate):
+    """What is wrong with the files of a crate's edits as such: each begins with the name of one."""
+    for home in HOMES[1:]:
+        path = crate / home
+        if path.exists() and not txtar.MARK.match(path.read_bytes()):
+            yield f"{crate.name}/{home}: it does not begin with the name of an edit"
+
+
 def main(verb, *paths):
     paths = [pathlib.Path(path) for path in paths]
     if verb == "apply":
@@ -160,7 +174,9 @@ def main(verb, *paths):
         except (ValueError, OSError) as wrong:
             sys.exit(str(wrong))
     else:
-        found = [it for crate in paths for home in HOMES for edit in of_crate(crate, home) for it in faults(edit, crate)]
+        stand = [(edit, crate) for crate in paths for home in HOMES for edit in of_crate(crate, home)]
+        found = [it for crate in paths for it in empty(crate)] + [it for edit, crate in stand for it in faults(edit, crate)]
+        found += [] if stand else ["no edit was found"]
         print(*found, sep="\n", end="\n" if found else "")
         sys.exit(bool(found))
 
