@@ -1,8 +1,11 @@
+pub mod Answers
 pub mod Asking
+pub mod Auditing
 pub mod Bounding
 pub mod Capturing
 pub mod Counted
 pub mod Counts
+pub mod Decoding
 pub mod Drawing
 pub mod Exporting
 pub mod Fleets
@@ -14,5 +17,6 @@ pub mod Settling
 pub mod Statuses
 pub mod Writing
 pub mod Streaming
+pub mod Streams
 pub mod StreamAudits
 pub mod StreamDrawing

@@ -1,6 +1,7 @@
 -- Why an input could not be read, and the limits of reading.
 use Rattle.std.specs.Prelude.{ℕ, ◌*◌, ◌-◌, ◌⊎◌}
 use Rattle.pb_cli.specs.Counts.{GrowsBy}
+use Rattle.pb_cli.specs.Streams.{SourceView}
 
 -- the most bytes that an input may have
 abbrev pub byte_limit : ℕ
@@ -12,7 +13,7 @@ call_limit = 2 * byte_limit
 
 -- The reader failed, or all calls were made that one input may take; then all but one call for each byte were
 -- interrupted.
-abbrev pub IsReadCause : ℕ → ℕ → ℕ → ℕ → ℕ → ℕ → Type 0
-IsReadCause failures_before failures_now calls_before calls_now interruptions_before interruptions_now =
-    GrowsBy 1 failures_before failures_now
-    ⊎ (GrowsBy call_limit calls_before calls_now × GrowsBy (call_limit - byte_limit) interruptions_before interruptions_now)
+abbrev pub IsReadCause : (was now : SourceView) → Type 0
+IsReadCause was now =
+    GrowsBy 1 was.failures now.failures
+    ⊎ (GrowsBy call_limit was.calls now.calls × GrowsBy (call_limit - byte_limit) was.interruptions now.interruptions)

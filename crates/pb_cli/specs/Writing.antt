@@ -2,6 +2,7 @@
 use Rattle.std.specs.Prelude.{ℕ, ◌+◌, ◌≤◌, ◌⊎◌, List, length, take, Option}
 use Rattle.std.specs.Io.KnownBytes.{Appends}
 use Rattle.pb_cli.specs.Counts.{GrowsBy}
+use Rattle.pb_cli.specs.Streams.{SinkView}
 
 -- known bytes grow by a prefix of the text
 abbrev pub AppendsFront : Option (List ℕ) → Option (List ℕ) → List ℕ → Type 0
@@ -12,7 +13,7 @@ abbrev pub retries_in_a_row : ℕ
 retries_in_a_row = 1000
 
 -- the writer failed, or was interrupted in a row once more than a write is tried again
-abbrev pub IsWriteCause : ℕ → ℕ → ℕ → ℕ → ℕ → Type 0
-IsWriteCause failures_before failures_now interruptions_before interruptions_now in_a_row =
-    GrowsBy 1 failures_before failures_now
-    ⊎ (GrowsBy (retries_in_a_row + 1) interruptions_before interruptions_now × (retries_in_a_row + 1 ≤ in_a_row))
+abbrev pub IsWriteCause : (before after : SinkView) → Type 0
+IsWriteCause before after =
+    GrowsBy 1 before.failures after.failures
+    ⊎ (GrowsBy (retries_in_a_row + 1) before.interruptions after.interruptions × (retries_in_a_row + 1 ≤ after.in_a_row))

@@ -1,11 +1,8 @@
 //! The audit of a scenario file.
 
-ghost use Rattle.std.specs.Prelude.{◌≡◌, ◌≢◌, ◌≤◌, ◌<◌, ◌+◌, length, Err, IfOk, IfErr, OnOk, IfSome, IsErrOf};
-ghost use Rattle.std.specs.Io.KnownBytes.{Appends, Keeps};
 ghost use Rattle.pb_texts.specs.Files.{audit_of};
-ghost use Rattle.pb_cli.specs.Statuses.{status_of};
-ghost use Rattle.pb_cli.specs.Reading.{byte_limit, call_limit, IsReadCause};
-ghost use Rattle.pb_cli.specs.Writing.{AppendsFront, IsWriteCause};
+ghost use Rattle.pb_cli.specs.Answers.{Answers, Exactly};
+ghost use Rattle.pb_cli.specs.Auditing.{status_in};
 
 use crate::faults::{CliFault, Status};
 use crate::reading::read_input;
@@ -29,35 +26,8 @@ pub fn audit_file<R: Source, W: Sink>(
     reader: &mut R,
     writer: &mut W,
 ) -> Result<Status, CliFault>
-    ensures text { OnOk result (IfSome (R.remaining reader.old) (λ file.
-        Appends (W.contents writer.old) (W.contents writer.new) (audit_of file).text)) }
-    ensures status { IfOk result (λ status. IfSome (R.remaining reader.old) (λ file.
-        status ≡ status_of (audit_of file).is_refused)) }
-    ensures fits { OnOk result (IfSome (R.remaining reader.old) (λ file. length file ≤ byte_limit)) }
-
-    ensures write_fits { IsErrOf result CliFault.Write
-        → IfSome (R.remaining reader.old) (λ file. length file ≤ byte_limit) }
-    ensures calls { R.calls reader.new ≤ R.calls reader.old + call_limit }
-
-    // Each fault is returned only if its cause is there.
-    ensures read { IsErrOf result CliFault.Read
-        → IsReadCause (R.failures reader.old) (R.failures reader.new)
-        (R.calls reader.old) (R.calls reader.new) (R.interruptions reader.old) (R.interruptions reader.new) }
-    ensures too_long { IsErrOf result CliFault.TooLong
-        → IfSome (R.remaining reader.old) (λ file. byte_limit < length file) }
-    ensures write { IsErrOf result CliFault.Write
-        → IsWriteCause (W.failures writer.old) (W.failures writer.new)
-        (W.interruptions writer.old) (W.interruptions writer.new) (W.in_a_row writer.new) }
-
-    // A failure of the reader or of the writer is always reported.
-    ensures reader_failed { result ≢ Err CliFault.Read → R.failures reader.new ≡ R.failures reader.old }
-    ensures writer_failed { result ≢ Err CliFault.Write → W.failures writer.new ≡ W.failures writer.old }
-
-    // After `Write`, a prefix of the text was written; after another fault, nothing.
-    ensures front { IsErrOf result CliFault.Write → IfSome (R.remaining reader.old) (λ file.
-        AppendsFront (W.contents writer.old) (W.contents writer.new) (audit_of file).text) }
-    ensures nothing { IfErr result (λ fault. fault ≢ CliFault.Write
-        → Keeps (W.contents writer.old) (W.contents writer.new)) }
+    ensures { Answers (Exactly audit_of) result
+        (R.view reader.old) (R.view reader.new) (W.view writer.old) (W.view writer.new) }
 {
     Ok(audit_with_reasons(alloc, reader, writer)?.status)
 }
@@ -79,35 +49,8 @@ pub fn audit_with_reasons<R: Source, W: Sink>(
     reader: &mut R,
     writer: &mut W,
 ) -> Result<Found, CliFault>
-    ensures text { OnOk result (IfSome (R.remaining reader.old) (λ file.
-        Appends (W.contents writer.old) (W.contents writer.new) (audit_of file).text)) }
-    ensures status { IfOk result (λ found. IfSome (R.remaining reader.old) (λ file.
-        found.status ≡ status_of (audit_of file).is_refused)) }
-    ensures fits { OnOk result (IfSome (R.remaining reader.old) (λ file. length file ≤ byte_limit)) }
-
-    ensures write_fits { IsErrOf result CliFault.Write
-        → IfSome (R.remaining reader.old) (λ file. length file ≤ byte_limit) }
-    ensures calls { R.calls reader.new ≤ R.calls reader.old + call_limit }
-
-    // Each fault is returned only if its cause is there.
-    ensures read { IsErrOf result CliFault.Read
-        → IsReadCause (R.failures reader.old) (R.failures reader.new)
-        (R.calls reader.old) (R.calls reader.new) (R.interruptions reader.old) (R.interruptions reader.new) }
-    ensures too_long { IsErrOf result CliFault.TooLong
-        → IfSome (R.remaining reader.old) (λ file. byte_limit < length file) }
-    ensures write { IsErrOf result CliFault.Write
-        → IsWriteCause (W.failures writer.old) (W.failures writer.new)
-        (W.interruptions writer.old) (W.interruptions writer.new) (W.in_a_row writer.new) }
-
-    // A failure of the reader or of the writer is always reported.
-    ensures reader_failed { result ≢ Err CliFault.Read → R.failures reader.new ≡ R.failures reader.old }
-    ensures writer_failed { result ≢ Err CliFault.Write → W.failures writer.new ≡ W.failures writer.old }
-
-    // After `Write`, a prefix of the text was written; after another fault, nothing.
-    ensures front { IsErrOf result CliFault.Write → IfSome (R.remaining reader.old) (λ file.
-        AppendsFront (W.contents writer.old) (W.contents writer.new) (audit_of file).text) }
-    ensures nothing { IfErr result (λ fault. fault ≢ CliFault.Write
-        → Keeps (W.contents writer.old) (W.contents writer.new)) }
+    ensures { Answers (Exactly audit_of) (status_in result)
+        (R.view reader.old) (R.view reader.new) (W.view writer.old) (W.view writer.new) }
 {
     let file = read_input(alloc, reader)?;
     let mut reasons = None;

@@ -1,13 +1,10 @@
 //! `ringplay bounds`: from a scenario file to the numbers of what is proved of its bus.
 
-ghost use Rattle.std.specs.Prelude.{◌≡◌, ◌≢◌, ◌≤◌, ◌<◌, ◌+◌, length, Err, IfOk, IfErr, OnOk, IfSome, IsErrOf};
-ghost use Rattle.std.specs.Io.KnownBytes.{Appends, Keeps};
-ghost use Rattle.pb_texts.specs.Shown.{shown_of};
-ghost use Rattle.pb_cli.specs.Bounding.{IsBaud, bounds_of, shown_unless, text_of};
-ghost use Rattle.pb_cli.specs.Statuses.{status_of};
-ghost use Rattle.pb_cli.specs.Reading.{byte_limit, call_limit, IsReadCause};
-ghost use Rattle.pb_cli.specs.Writing.{AppendsFront, IsWriteCause};
+ghost use Rattle.std.specs.Prelude.{◌≡◌, IfOk};
 ghost use Rattle.pb_texts.specs.Bounds.{world_fault};
+ghost use Rattle.pb_texts.specs.Shown.{shown_of};
+ghost use Rattle.pb_cli.specs.Answers.{Answers, Exactly};
+ghost use Rattle.pb_cli.specs.Bounding.{IsBaud, bounds_of, shown_unless, text_of};
 
 use crate::faults::{CliFault, Status};
 use crate::fleets::refused_fleet;
@@ -41,35 +38,8 @@ pub fn bounds_file<R: Source, W: Sink>(
     json: bool,
 ) -> Result<Status, CliFault>
     requires { IsBaud baud }
-    ensures text { OnOk result (IfSome (R.remaining reader.old) (λ file.
-        Appends (W.contents writer.old) (W.contents writer.new) (bounds_of baud json file).text)) }
-    ensures status { IfOk result (λ status. IfSome (R.remaining reader.old) (λ file.
-        status ≡ status_of (bounds_of baud json file).is_refused)) }
-    ensures fits { OnOk result (IfSome (R.remaining reader.old) (λ file. length file ≤ byte_limit)) }
-
-    ensures write_fits { IsErrOf result CliFault.Write
-        → IfSome (R.remaining reader.old) (λ file. length file ≤ byte_limit) }
-    ensures calls { R.calls reader.new ≤ R.calls reader.old + call_limit }
-
-    // A fault comes only where its cause is.
-    ensures read { IsErrOf result CliFault.Read
-        → IsReadCause (R.failures reader.old) (R.failures reader.new)
-        (R.calls reader.old) (R.calls reader.new) (R.interruptions reader.old) (R.interruptions reader.new) }
-    ensures too_long { IsErrOf result CliFault.TooLong
-        → IfSome (R.remaining reader.old) (λ file. byte_limit < length file) }
-    ensures write { IsErrOf result CliFault.Write
-        → IsWriteCause (W.failures writer.old) (W.failures writer.new)
-        (W.interruptions writer.old) (W.interruptions writer.new) (W.in_a_row writer.new) }
-
-    // A failure of the reader or of the writer is told.
-    ensures reader_failed { result ≢ Err CliFault.Read → R.failures reader.new ≡ R.failures reader.old }
-    ensures writer_failed { result ≢ Err CliFault.Write → W.failures writer.new ≡ W.failures writer.old }
-
-    // After a failed write a front of the text went out, after another fault nothing.
-    ensures front { IsErrOf result CliFault.Write → IfSome (R.remaining reader.old) (λ file.
-        AppendsFront (W.contents writer.old) (W.contents writer.new) (bounds_of baud json file).text) }
-    ensures nothing { IfErr result (λ fault. fault ≢ CliFault.Write
-        → Keeps (W.contents writer.old) (W.contents writer.new)) }
+    ensures { Answers (Exactly (bounds_of baud json)) result
+        (R.view reader.old) (R.view reader.new) (W.view writer.old) (W.view writer.new) }
 {
     let file = read_input(alloc, reader)?;
     let shown = bounded(alloc, &file, baud, json)?;

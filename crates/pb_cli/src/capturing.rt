@@ -1,10 +1,11 @@
 //! `ringplay capture`: from a scenario file to what a listener hears of its run, as it settles.
 
-ghost use Rattle.std.specs.Prelude.{◌≡◌, ◌≢◌, Err, IfOk};
+ghost use Rattle.std.specs.Prelude.{IfOk};
 ghost use Rattle.std.specs.Option.{option_map};
 ghost use Rattle.std.specs.String.{string_bytes};
 ghost use Rattle.pb_texts.specs.Files.{stream_scenario_of};
 ghost use Rattle.pb_stream.specs.Streams.{IsStreaming};
+ghost use Rattle.pb_cli.specs.Answers.{ReportsWriter};
 ghost use Rattle.pb_cli.specs.Capturing.{CapturesFile, CapturesScenario, PlaysOn, Refuses};
 
 use crate::faults::CliFault;
@@ -37,10 +38,8 @@ pub fn capture_file<W: Sink, O: Observer>(
 ) -> Result<Settled, CliFault>
     ensures text { IfOk result
         (CapturesFile (stream_scenario_of file.now) (option_map (λ t. string_bytes t) tap)
-        (W.contents writer.old) (W.contents writer.new)) }
-    ensures read { result ≢ Err CliFault.Read }
-    ensures too_long { result ≢ Err CliFault.TooLong }
-    ensures writer_failed { result ≢ Err CliFault.Write → W.failures writer.new ≡ W.failures writer.old }
+        (W.view writer.old).contents (W.view writer.new).contents) }
+    ensures faults { ReportsWriter result (W.view writer.old) (W.view writer.new) }
 {
     let scenario = match described_stream(alloc, file) {
         Ok(scenario) => scenario,
@@ -63,10 +62,8 @@ pub fn capture_file<W: Sink, O: Observer>(
 
 /// Writes the line of a fault in place of a capture.
 fn refuse<W: Sink>(alloc: Global, writer: &mut W, line: &[u8]) -> Result<Settled, CliFault>
-    ensures text { IfOk result (Refuses line.now (W.contents writer.old) (W.contents writer.new)) }
-    ensures read { result ≢ Err CliFault.Read }
-    ensures too_long { result ≢ Err CliFault.TooLong }
-    ensures writer_failed { result ≢ Err CliFault.Write → W.failures writer.new ≡ W.failures writer.old }
+    ensures text { IfOk result (Refuses line.now (W.view writer.old).contents (W.view writer.new).contents) }
+    ensures faults { ReportsWriter result (W.view writer.old) (W.view writer.new) }
 {
     write_out(writer, line)?;
     Ok(refused(Vec::new(alloc)))
@@ -81,10 +78,8 @@ fn capture_scenario<W: Sink, O: Observer>(
     observer: &mut O,
 ) -> Result<Settled, CliFault>
     ensures text { IfOk result
-        (CapturesScenario scenario.now (W.contents writer.old) (W.contents writer.new)) }
-    ensures read { result ≢ Err CliFault.Read }
-    ensures too_long { result ≢ Err CliFault.TooLong }
-    ensures writer_failed { result ≢ Err CliFault.Write → W.failures writer.new ≡ W.failures writer.old }
+        (CapturesScenario scenario.now (W.view writer.old).contents (W.view writer.new).contents) }
+    ensures faults { ReportsWriter result (W.view writer.old) (W.view writer.new) }
 {
     let mut stream = match Stream::new(alloc, scenario, scenario.until()) {
         Ok(stream) => stream,

@@ -46,13 +46,12 @@ impl<R> CountedReader<R> {
 }
 
 impl<R: Read> Source for CountedReader<R> {
-    ghost remaining = { λ counted. R.remaining counted.reader };
-
-    ghost calls = { λ counted. counted.calls };
-
-    ghost interruptions = { λ counted. counted.interruptions };
-
-    ghost failures = { λ counted. counted.failures };
+    ghost view = { λ counted. record {
+      remaining = R.remaining counted.reader;
+      calls = counted.calls;
+      interruptions = counted.interruptions;
+      failures = counted.failures;
+    } };
 
     fn read(&mut self, buffer: &mut [u8]) -> Result<usize, ReadFault> {
         self.calls = self.calls.saturating_add(1);

@@ -54,13 +54,12 @@ impl<W> CountedWriter<W> {
 }
 
 impl<W: Write> Sink for CountedWriter<W> {
-    ghost contents = { λ counted. W.contents counted.writer };
-
-    ghost interruptions = { λ counted. counted.interruptions };
-
-    ghost in_a_row = { λ counted. counted.in_a_row };
-
-    ghost failures = { λ counted. counted.failures };
+    ghost view = { λ counted. record {
+      contents = W.contents counted.writer;
+      interruptions = counted.interruptions;
+      in_a_row = counted.in_a_row;
+      failures = counted.failures;
+    } };
 
     fn write(&mut self, bytes: &[u8]) -> Result<usize, WriteFault> {
         let answer = write_answer(self.writer.write(bytes), bytes.is_empty());

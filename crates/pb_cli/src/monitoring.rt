@@ -137,9 +137,10 @@ pub fn export_capture<R: Source, W: Sink, N: Notes>(
 ) -> Result<Status, CliFault>
     requires { IsBaud export.now.baud }
     ensures text { IfOk result (λ _. WritesCapture export.now params
-        (W.contents writer.old) (W.contents writer.new)) }
+        (W.view writer.old).contents (W.view writer.new).contents) }
     ensures too_long { result ≢ Err CliFault.TooLong }
-    ensures writer_failed { result ≢ Err CliFault.Write → W.failures writer.new ≡ W.failures writer.old }
+    ensures writer_failed { result ≢ Err CliFault.Write
+        → (W.view writer.new).failures ≡ (W.view writer.old).failures }
 {
     let mut bytes = Vec::new(alloc);
     push_begin(&mut bytes, &params, export)?;
@@ -207,9 +208,10 @@ impl Exporter {
     ) -> Result<(), CliFault>
         requires { IsBaud export.now.baud }
         ensures text { OnOk result (WritesOn export.now self.old.drawing self.new.drawing
-            (W.contents writer.old) (W.contents writer.new)) }
+            (W.view writer.old).contents (W.view writer.new).contents) }
         ensures too_long { result ≢ Err CliFault.TooLong }
-        ensures writer_failed { result ≢ Err CliFault.Write → W.failures writer.new ≡ W.failures writer.old }
+        ensures writer_failed { result ≢ Err CliFault.Write
+            → (W.view writer.new).failures ≡ (W.view writer.old).failures }
     {
         let mut piece = vec![in alloc; 0u8; EXPORT_PIECE]?;
         for _call in 0..u64::MAX {
@@ -232,9 +234,10 @@ impl Exporter {
     ) -> Result<bool, CliFault>
         requires { IsBaud export.now.baud }
         ensures text { OnOk result (WritesOn export.now self.old.drawing self.new.drawing
-            (W.contents writer.old) (W.contents writer.new)) }
+            (W.view writer.old).contents (W.view writer.new).contents) }
         ensures too_long { result ≢ Err CliFault.TooLong }
-        ensures writer_failed { result ≢ Err CliFault.Write → W.failures writer.new ≡ W.failures writer.old }
+        ensures writer_failed { result ≢ Err CliFault.Write
+            → (W.view writer.new).failures ≡ (W.view writer.old).failures }
     {
         match reader.read(piece) {
             Ok(0) => Ok(true),
@@ -257,12 +260,13 @@ impl Exporter {
         notes: &mut N,
     ) -> Result<(), CliFault>
         requires { IsBaud export.now.baud }
-        ensures text { OnOk result (Appends (W.contents writer.old) (W.contents writer.new)
+        ensures text { OnOk result (Appends (W.view writer.old).contents (W.view writer.new).contents
             (bursts_of export.now (heard_of self.old.monitor))) }
         ensures drawing { OnOk result ((before : List HeardBurst) → export.now.form ≡ CaptureForm.Svg
             → IsOf self.old.drawing before → IsOf self.new.drawing (before ++ heard_of self.old.monitor)) }
         ensures too_long { result ≢ Err CliFault.TooLong }
-        ensures writer_failed { result ≢ Err CliFault.Write → W.failures writer.new ≡ W.failures writer.old }
+        ensures writer_failed { result ≢ Err CliFault.Write
+            → (W.view writer.new).failures ≡ (W.view writer.old).failures }
     {
         self.bytes.clear();
         push_bursts(&mut self.bytes, alloc, self.monitor.heard(), export)?;
@@ -283,10 +287,11 @@ impl Exporter {
         writer: &mut W,
         notes: &mut N,
     ) -> Result<(), CliFault>
-        ensures text { OnOk result (Appends (W.contents writer.old) (W.contents writer.new)
+        ensures text { OnOk result (Appends (W.view writer.old).contents (W.view writer.new).contents
             (picture_in export.now.form self.old.drawing.bursts.items)) }
         ensures too_long { result ≢ Err CliFault.TooLong }
-        ensures writer_failed { result ≢ Err CliFault.Write → W.failures writer.new ≡ W.failures writer.old }
+        ensures writer_failed { result ≢ Err CliFault.Write
+            → (W.view writer.new).failures ≡ (W.view writer.old).failures }
     {
         match export.form {
             CaptureForm::Svg => self.write_picture(alloc, writer, notes),
@@ -301,10 +306,11 @@ impl Exporter {
         writer: &mut W,
         notes: &mut N,
     ) -> Result<(), CliFault>
-        ensures text { OnOk result (Appends (W.contents writer.old) (W.contents writer.new)
+        ensures text { OnOk result (Appends (W.view writer.old).contents (W.view writer.new).contents
             (svg_text self.old.drawing.bursts.items)) }
         ensures too_long { result ≢ Err CliFault.TooLong }
-        ensures writer_failed { result ≢ Err CliFault.Write → W.failures writer.new ≡ W.failures writer.old }
+        ensures writer_failed { result ≢ Err CliFault.Write
+            → (W.view writer.new).failures ≡ (W.view writer.old).failures }
     {
         self.bytes.clear();
         push_capture_svg(&mut self.bytes, alloc, self.drawing.bursts())?;

@@ -1,14 +1,12 @@
 //! `ringplay run` over any reader and writer.
 
-ghost use Rattle.std.specs.Prelude.{◌≡◌, ◌≢◌, ◌≤◌, ◌<◌, ◌+◌, length, Err, IfOk, IfErr, OnOk, IfSome, IsErrOf};
-ghost use Rattle.std.specs.Io.KnownBytes.{Keeps};
+ghost use Rattle.std.specs.Prelude.{◌≡◌, length, IfOk};
 ghost use Rattle.pb_fleet.specs.Faults.{IsCrew};
 ghost use Rattle.pb_texts.specs.Scenarios.{ScenarioView};
 ghost use Rattle.pb_cli.specs.Fleets.{IsRun, IsRunOf, crew_of};
 ghost use Rattle.pb_texts.specs.Shown.{shown_of};
-ghost use Rattle.pb_cli.specs.Playing.{IsUpTo, WritesFrontOfRun, WritesRun, line_limit, worker_limit};
-ghost use Rattle.pb_cli.specs.Reading.{byte_limit, call_limit, IsReadCause};
-ghost use Rattle.pb_cli.specs.Writing.{IsWriteCause};
+ghost use Rattle.pb_cli.specs.Playing.{IsUpTo, line_limit, worker_limit};
+ghost use Rattle.pb_cli.specs.Answers.{Answers};
 
 use crate::faults::{CliFault, Status};
 use crate::fleets::refused_fleet;
@@ -52,33 +50,8 @@ pub fn play<T: Threads + Wait + Sync, R: Source, W: Sink>(
 ) -> Result<Status, CliFault>
     requires workers { IsUpTo worker_limit workers }
     requires last { IsUpTo line_limit last }
-    ensures text { IfOk result (λ status. IfSome (R.remaining reader.old) (λ file.
-        WritesRun file workers last (W.contents writer.old) (W.contents writer.new) status)) }
-    ensures fits { OnOk result (IfSome (R.remaining reader.old) (λ file. length file ≤ byte_limit)) }
-
-    ensures write_fits { IsErrOf result CliFault.Write
-        → IfSome (R.remaining reader.old) (λ file. length file ≤ byte_limit) }
-    ensures calls { R.calls reader.new ≤ R.calls reader.old + call_limit }
-
-    // Each fault is returned only if its cause is there.
-    ensures read { IsErrOf result CliFault.Read
-        → IsReadCause (R.failures reader.old) (R.failures reader.new)
-        (R.calls reader.old) (R.calls reader.new) (R.interruptions reader.old) (R.interruptions reader.new) }
-    ensures too_long { IsErrOf result CliFault.TooLong
-        → IfSome (R.remaining reader.old) (λ file. byte_limit < length file) }
-    ensures write { IsErrOf result CliFault.Write
-        → IsWriteCause (W.failures writer.old) (W.failures writer.new)
-        (W.interruptions writer.old) (W.interruptions writer.new) (W.in_a_row writer.new) }
-
-    // A failure of the reader or of the writer is always reported.
-    ensures reader_failed { result ≢ Err CliFault.Read → R.failures reader.new ≡ R.failures reader.old }
-    ensures writer_failed { result ≢ Err CliFault.Write → W.failures writer.new ≡ W.failures writer.old }
-
-    // After `Write`, a prefix of the text was written; after another fault, nothing.
-    ensures front { IsErrOf result CliFault.Write → IfSome (R.remaining reader.old) (λ file.
-        WritesFrontOfRun file workers last (W.contents writer.old) (W.contents writer.new)) }
-    ensures nothing { IfErr result (λ fault. fault ≢ CliFault.Write
-        → Keeps (W.contents writer.old) (W.contents writer.new)) }
+    ensures { Answers (λ file. IsRunOf file workers last) result
+        (R.view reader.old) (R.view reader.new) (W.view writer.old) (W.view writer.new) }
 {
     let file = read_input(alloc, reader)?;
     let shown = played(rt, alloc, &file, workers, last)?;

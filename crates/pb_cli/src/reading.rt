@@ -20,15 +20,15 @@ const BUFFER_LENGTH: usize = 4096;
 /// Faults: `Read` if the reader failed, or all `READ_CALLS` calls were made and at least half of them were interrupted;
 /// `TooLong` if it has more than `INPUT_LIMIT` bytes; `NoMemory`.
 pub fn read_input<R: Source>(alloc: Global, reader: &mut R) -> Result<Vec<u8>, CliFault>
-    ensures whole { IfOk result (λ input. IfSome (R.remaining reader.old) (λ bytes. input.items ≡ bytes)) }
+    ensures whole { IfOk result (λ input.
+        IfSome (R.view reader.old).remaining (λ bytes. input.items ≡ bytes)) }
     ensures fits { IfOk result (λ input. vec_len input ≤ byte_limit) }
-    ensures read { IsErrOf result CliFault.Read
-        → IsReadCause (R.failures reader.old) (R.failures reader.new)
-        (R.calls reader.old) (R.calls reader.new) (R.interruptions reader.old) (R.interruptions reader.new) }
+    ensures read { IsErrOf result CliFault.Read → IsReadCause (R.view reader.old) (R.view reader.new) }
     ensures too_long { IsErrOf result CliFault.TooLong
-        → IfSome (R.remaining reader.old) (λ bytes. byte_limit < length bytes) }
-    ensures unfailed { (result ≢ Err CliFault.Read) → R.failures reader.new ≡ R.failures reader.old }
-    ensures calls { R.calls reader.new ≤ R.calls reader.old + call_limit }
+        → IfSome (R.view reader.old).remaining (λ bytes. byte_limit < length bytes) }
+    ensures unfailed { (result ≢ Err CliFault.Read)
+        → (R.view reader.new).failures ≡ (R.view reader.old).failures }
+    ensures calls { (R.view reader.new).calls ≤ (R.view reader.old).calls + call_limit }
     ensures no_write { result ≢ Err CliFault.Write }
 {
     let mut input = Vec::new(alloc);

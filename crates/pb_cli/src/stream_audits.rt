@@ -1,9 +1,10 @@
 //! `ringplay stream --audit`: from a scenario file to the audit of its run, written as it is found.
 
-ghost use Rattle.std.specs.Prelude.{◌≡◌, ◌≢◌, ◌≤◌, ◌++◌, Err, IfOk, IfSome, OnOk};
+ghost use Rattle.std.specs.Prelude.{◌≡◌, ◌≤◌, ◌++◌, IfOk, IfSome, OnOk};
 ghost use Rattle.pb_texts.specs.Files.{stream_scenario_of};
 ghost use Rattle.pb_stream.specs.Audits.{IsAuditing};
 ghost use Rattle.pb_stream.specs.Streams.{stream_end};
+ghost use Rattle.pb_cli.specs.Answers.{ReportsWriter};
 ghost use Rattle.pb_cli.specs.StreamAudits.{EndsWith, StepsOn, WritesAudit, WritesAuditFile};
 ghost use Rattle.pb_cli.specs.StreamAudits.{left_text, news_text, text_of};
 
@@ -36,10 +37,8 @@ pub fn audit_stream_file<W: Sink, O: Observer>(
 ) -> Result<Status, CliFault>
     requires { IfSome until (λ moment. moment ≤ stream_end) }
     ensures text { IfOk result (WritesAuditFile (stream_scenario_of file.now) until
-        (W.contents writer.old) (W.contents writer.new)) }
-    ensures read { result ≢ Err CliFault.Read }
-    ensures too_long { result ≢ Err CliFault.TooLong }
-    ensures writer_failed { result ≢ Err CliFault.Write → W.failures writer.new ≡ W.failures writer.old }
+        (W.view writer.old).contents (W.view writer.new).contents) }
+    ensures faults { ReportsWriter result (W.view writer.old) (W.view writer.new) }
 {
     match described_stream(alloc, file) {
         Ok(scenario) => {
@@ -63,10 +62,8 @@ fn audit_scenario<W: Sink, O: Observer>(
 ) -> Result<Status, CliFault>
     requires { until ≤ stream_end }
     ensures text { IfOk result
-        (WritesAudit scenario.now until (W.contents writer.old) (W.contents writer.new)) }
-    ensures read { result ≢ Err CliFault.Read }
-    ensures too_long { result ≢ Err CliFault.TooLong }
-    ensures writer_failed { result ≢ Err CliFault.Write → W.failures writer.new ≡ W.failures writer.old }
+        (WritesAudit scenario.now until (W.view writer.old).contents (W.view writer.new).contents) }
+    ensures faults { ReportsWriter result (W.view writer.old) (W.view writer.new) }
 {
     let mut stream = match AuditStream::new(alloc, scenario, until) {
         Ok(stream) => stream,
@@ -100,10 +97,8 @@ fn step<W: Sink>(
 ) -> Result<Progress, CliFault>
     requires { IsAuditing stream.old }
     ensures steps { IfOk result (λ progress.
-        StepsOn progress stream.old stream.new (W.contents writer.old) (W.contents writer.new)) }
-    ensures read { result ≢ Err CliFault.Read }
-    ensures too_long { result ≢ Err CliFault.TooLong }
-    ensures writer_failed { result ≢ Err CliFault.Write → W.failures writer.new ≡ W.failures writer.old }
+        StepsOn progress stream.old stream.new (W.view writer.old).contents (W.view writer.new).contents) }
+    ensures faults { ReportsWriter result (W.view writer.old) (W.view writer.new) }
 {
     let before = *stream.found();
     let progress = stream.advance(alloc)?;

@@ -1,8 +1,9 @@
 //! `ringplay export --to svg` of a scenario whose steps may repeat: from its file to the picture of its run.
 
-ghost use Rattle.std.specs.Prelude.{◌≡◌, ◌≢◌, Err, IfOk};
+ghost use Rattle.std.specs.Prelude.{◌≡◌, IfOk};
 ghost use Rattle.pb_texts.specs.Files.{stream_scenario_of};
 ghost use Rattle.pb_stream.specs.Streams.{IsStreaming, rest_of};
+ghost use Rattle.pb_cli.specs.Answers.{ReportsWriter};
 ghost use Rattle.pb_cli.specs.StreamDrawing.{AreInOrder, DrawsFile, DrawsRun, DrawsScenario, HasEnded, Plays, up_to};
 
 use crate::faults::CliFault;
@@ -39,10 +40,8 @@ pub fn draw_stream<W: Sink, O: Observer>(
     observer: &mut O,
 ) -> Result<Settled, CliFault>
     ensures bytes { IfOk result (DrawsFile window (stream_scenario_of file.now)
-        (W.contents writer.old) (W.contents writer.new)) }
-    ensures read { result ≢ Err CliFault.Read }
-    ensures too_long { result ≢ Err CliFault.TooLong }
-    ensures writer_failed { result ≢ Err CliFault.Write → W.failures writer.new ≡ W.failures writer.old }
+        (W.view writer.old).contents (W.view writer.new).contents) }
+    ensures faults { ReportsWriter result (W.view writer.old) (W.view writer.new) }
 {
     match described_stream(alloc, file) {
         Ok(scenario) => draw_scenario(alloc, &scenario, window, writer, observer),
@@ -62,10 +61,8 @@ fn draw_scenario<W: Sink, O: Observer>(
     observer: &mut O,
 ) -> Result<Settled, CliFault>
     ensures bytes { IfOk result (DrawsScenario window scenario.now
-        (W.contents writer.old) (W.contents writer.new)) }
-    ensures read { result ≢ Err CliFault.Read }
-    ensures too_long { result ≢ Err CliFault.TooLong }
-    ensures writer_failed { result ≢ Err CliFault.Write → W.failures writer.new ≡ W.failures writer.old }
+        (W.view writer.old).contents (W.view writer.new).contents) }
+    ensures faults { ReportsWriter result (W.view writer.old) (W.view writer.new) }
 {
     match Stream::new(alloc, scenario, scenario.until()) {
         Ok(stream) => draw_run(alloc, scenario, stream, window, writer, observer),
@@ -88,10 +85,8 @@ fn draw_run<W: Sink, O: Observer>(
     requires ready { IsStreaming stream }
     requires order { AreInOrder (rest_of stream) }
     ensures bytes { IfOk result (DrawsRun window scenario.now (rest_of stream.entry)
-        (W.contents writer.old) (W.contents writer.new)) }
-    ensures read { result ≢ Err CliFault.Read }
-    ensures too_long { result ≢ Err CliFault.TooLong }
-    ensures writer_failed { result ≢ Err CliFault.Write → W.failures writer.new ≡ W.failures writer.old }
+        (W.view writer.old).contents (W.view writer.new).contents) }
+    ensures faults { ReportsWriter result (W.view writer.old) (W.view writer.new) }
 {
     let ended = play_out(alloc, &mut stream, scenario.until(), observer)?;
     let shown = shown_of(window, ended.refused_at);

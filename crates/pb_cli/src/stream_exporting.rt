@@ -1,8 +1,9 @@
 //! `ringplay export` in a form that is written entry by entry: from a scenario file to the trace of its run, as it settles.
 
-ghost use Rattle.std.specs.Prelude.{◌≡◌, ◌≢◌, Err, IfOk};
+ghost use Rattle.std.specs.Prelude.{IfOk};
 ghost use Rattle.pb_texts.specs.Files.{stream_scenario_of};
 ghost use Rattle.pb_stream.specs.Streams.{IsStreaming, rest_of};
+ghost use Rattle.pb_cli.specs.Answers.{ReportsWriter};
 ghost use Rattle.pb_cli.specs.Bounding.{IsBaud};
 ghost use Rattle.pb_cli.specs.Exporting.{ExportsFile, ExportsRun, ExportsScenario, PlaysOn};
 
@@ -34,10 +35,8 @@ pub fn export_stream<W: Sink, O: Observer>(
 ) -> Result<Settled, CliFault>
     requires { IsBaud export.now.baud }
     ensures bytes { IfOk result (ExportsFile export.now (stream_scenario_of file.now)
-        (W.contents writer.old) (W.contents writer.new)) }
-    ensures read { result ≢ Err CliFault.Read }
-    ensures too_long { result ≢ Err CliFault.TooLong }
-    ensures writer_failed { result ≢ Err CliFault.Write → W.failures writer.new ≡ W.failures writer.old }
+        (W.view writer.old).contents (W.view writer.new).contents) }
+    ensures faults { ReportsWriter result (W.view writer.old) (W.view writer.new) }
 {
     match described_stream(alloc, file) {
         Ok(scenario) => export_scenario(alloc, &scenario, export, writer, observer),
@@ -58,10 +57,8 @@ fn export_scenario<W: Sink, O: Observer>(
 ) -> Result<Settled, CliFault>
     requires { IsBaud export.now.baud }
     ensures bytes { IfOk result (ExportsScenario export.now scenario.now
-        (W.contents writer.old) (W.contents writer.new)) }
-    ensures read { result ≢ Err CliFault.Read }
-    ensures too_long { result ≢ Err CliFault.TooLong }
-    ensures writer_failed { result ≢ Err CliFault.Write → W.failures writer.new ≡ W.failures writer.old }
+        (W.view writer.old).contents (W.view writer.new).contents) }
+    ensures faults { ReportsWriter result (W.view writer.old) (W.view writer.new) }
 {
     match Stream::new(alloc, scenario, scenario.until()) {
         Ok(stream) => {
@@ -89,10 +86,8 @@ fn export_run<W: Sink, O: Observer>(
     requires baud { IsBaud export.now.baud }
     requires ready { IsStreaming stream }
     ensures bytes { IfOk result (ExportsRun export.now scenario.now (rest_of stream.entry)
-        (W.contents writer.old) (W.contents writer.new)) }
-    ensures read { result ≢ Err CliFault.Read }
-    ensures too_long { result ≢ Err CliFault.TooLong }
-    ensures writer_failed { result ≢ Err CliFault.Write → W.failures writer.new ≡ W.failures writer.old }
+        (W.view writer.old).contents (W.view writer.new).contents) }
+    ensures faults { ReportsWriter result (W.view writer.old) (W.view writer.new) }
 {
     let mut exporter = StreamExporter::new(scenario, export);
     let mut bytes = Vec::new(alloc);

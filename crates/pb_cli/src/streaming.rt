@@ -1,8 +1,9 @@
 //! `ringplay stream`: from a scenario file to the trace of its run, written as it settles.
 
-ghost use Rattle.std.specs.Prelude.{◌≡◌, ◌≢◌, ◌≤◌, Err, IfOk, IfSome};
+ghost use Rattle.std.specs.Prelude.{◌≤◌, IfOk, IfSome};
 ghost use Rattle.pb_texts.specs.Files.{stream_scenario_of};
 ghost use Rattle.pb_stream.specs.Streams.{IsStreaming, stream_end};
+ghost use Rattle.pb_cli.specs.Answers.{ReportsWriter};
 ghost use Rattle.pb_cli.specs.Streaming.{StepsOn, WritesFile, WritesScenario};
 
 use crate::faults::{CliFault, Status};
@@ -52,10 +53,8 @@ pub fn stream_file<W: Sink, O: Observer>(
 ) -> Result<Status, CliFault>
     requires { IfSome until (λ moment. moment ≤ stream_end) }
     ensures text { IfOk result (WritesFile (stream_scenario_of file.now) until
-        (W.contents writer.old) (W.contents writer.new)) }
-    ensures read { result ≢ Err CliFault.Read }
-    ensures too_long { result ≢ Err CliFault.TooLong }
-    ensures writer_failed { result ≢ Err CliFault.Write → W.failures writer.new ≡ W.failures writer.old }
+        (W.view writer.old).contents (W.view writer.new).contents) }
+    ensures faults { ReportsWriter result (W.view writer.old) (W.view writer.new) }
 {
     match described_stream(alloc, file) {
         Ok(scenario) => {
@@ -80,10 +79,8 @@ fn stream_scenario<W: Sink, O: Observer>(
 ) -> Result<Status, CliFault>
     requires { until ≤ stream_end }
     ensures text { IfOk result
-        (WritesScenario scenario.now until (W.contents writer.old) (W.contents writer.new)) }
-    ensures read { result ≢ Err CliFault.Read }
-    ensures too_long { result ≢ Err CliFault.TooLong }
-    ensures writer_failed { result ≢ Err CliFault.Write → W.failures writer.new ≡ W.failures writer.old }
+        (WritesScenario scenario.now until (W.view writer.old).contents (W.view writer.new).contents) }
+    ensures faults { ReportsWriter result (W.view writer.old) (W.view writer.new) }
 {
     let mut stream = match Stream::new(alloc, scenario, until) {
         Ok(stream) => stream,
@@ -113,10 +110,8 @@ fn step<W: Sink>(
 ) -> Result<Option<Status>, CliFault>
     requires { IsStreaming stream.old }
     ensures steps { IfOk result
-        (StepsOn stream.old stream.new (W.contents writer.old) (W.contents writer.new)) }
-    ensures read { result ≢ Err CliFault.Read }
-    ensures too_long { result ≢ Err CliFault.TooLong }
-    ensures writer_failed { result ≢ Err CliFault.Write → W.failures writer.new ≡ W.failures writer.old }
+        (StepsOn stream.old stream.new (W.view writer.old).contents (W.view writer.new).contents) }
+    ensures faults { ReportsWriter result (W.view writer.old) (W.view writer.new) }
 {
     text.clear();
     let progress = stream.advance(alloc, text, flush.entries())?;

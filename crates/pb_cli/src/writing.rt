@@ -16,12 +16,12 @@ pub const RETRIES_IN_A_ROW: u32 = 1000;
 /// Fault: `Write` if the writer failed, or was interrupted `RETRIES_IN_A_ROW` + 1 times in a row. Then a prefix of the
 /// text was written.
 pub fn write_out<W: Sink>(writer: &mut W, text: &[u8]) -> Result<(), CliFault>
-    ensures whole { OnOk result (Appends (W.contents writer.old) (W.contents writer.new) text.now) }
-    ensures front { OnErr result (AppendsFront (W.contents writer.old) (W.contents writer.new) text.now) }
+    ensures whole { OnOk result (Appends (W.view writer.old).contents (W.view writer.new).contents text.now) }
+    ensures front { OnErr result
+        (AppendsFront (W.view writer.old).contents (W.view writer.new).contents text.now) }
     ensures write { IfErr result (λ fault. fault ≡ CliFault.Write) }
-    ensures cause { OnErr result (IsWriteCause (W.failures writer.old) (W.failures writer.new)
-        (W.interruptions writer.old) (W.interruptions writer.new) (W.in_a_row writer.new)) }
-    ensures unfailed { OnOk result (W.failures writer.new ≡ W.failures writer.old) }
+    ensures cause { OnErr result (IsWriteCause (W.view writer.old) (W.view writer.new)) }
+    ensures unfailed { OnOk result ((W.view writer.new).failures ≡ (W.view writer.old).failures) }
 {
     let mut written = 0;
     while written < text.len() {
@@ -36,13 +36,12 @@ fn write_some<W: Sink>(writer: &mut W, bytes: &[u8]) -> Result<usize, CliFault>
     ensures some { IfOk result (λ count. 0 < count) }
     ensures bound { IfOk result (λ count. count ≤ length bytes.now) }
     ensures front { IfOk result
-        (λ count. Appends (W.contents writer.old) (W.contents writer.new) (take count bytes.now)) }
-    ensures nothing { OnErr result (Keeps (W.contents writer.old) (W.contents writer.new)) }
+        (λ count. Appends (W.view writer.old).contents (W.view writer.new).contents (take count bytes.now)) }
+    ensures nothing { OnErr result (Keeps (W.view writer.old).contents (W.view writer.new).contents) }
     ensures write { IfErr result (λ fault. fault ≡ CliFault.Write) }
-    ensures cause { OnErr result (IsWriteCause (W.failures writer.old) (W.failures writer.new)
-        (W.interruptions writer.old) (W.interruptions writer.new) (W.in_a_row writer.new)) }
-    ensures unfailed { OnOk result (W.failures writer.new ≡ W.failures writer.old) }
-    ensures later { GrowsBy 0 (W.interruptions writer.old) (W.interruptions writer.new) }
+    ensures cause { OnErr result (IsWriteCause (W.view writer.old) (W.view writer.new)) }
+    ensures unfailed { OnOk result ((W.view writer.new).failures ≡ (W.view writer.old).failures) }
+    ensures later { GrowsBy 0 (W.view writer.old).interruptions (W.view writer.new).interruptions }
 {
     for _interruption in 0..RETRIES_IN_A_ROW + 1 {
         match writer.write(bytes) {

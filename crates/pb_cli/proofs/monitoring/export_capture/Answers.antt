@@ -11,11 +11,11 @@ returns-clause-text g c =
     let first = c.new-3.result in
     let next = c.run.new.self.drawing in
     let last = c.write.new.self.drawing in
-    let before = g.W.Sink.contents c.args.writer.now in
-    let begun = g.W.Sink.contents c.write_out.new.writer in
-    let mid = g.W.Sink.contents c.run.new.writer in
-    let end = g.W.Sink.contents c.write.new.writer in
-    let after = g.W.Sink.contents c.draw.new.writer in
+    let before = (g.W.Sink.view c.args.writer.now).contents in
+    let begun = (g.W.Sink.view c.write_out.new.writer).contents in
+    let mid = (g.W.Sink.view c.run.new.writer).contents in
+    let end = (g.W.Sink.view c.write.new.writer).contents in
+    let after = (g.W.Sink.view c.draw.new.writer).contents in
     let head : Appends before begun (begin_of x p) =
     subst (Appends before begun) (c.deref.ensures.value ∙ c.in_ok-push_begin.ensures ∙ ap (λ (z : List ℕ). z ++ begin_of x p) c.new-bytes.ensures.items) c.in_ok-write_out.ensures.whole in
     let rest : WritesOn x next last mid end = record {

@@ -11,8 +11,8 @@ use Rattle.pb_cli.proofs.stream_audits.audit_scenario.Given as goal
 abbrev pub invariant-loop-text : goal.invariant-loop-text
 invariant-loop-text g l = record {
   audits : IsAuditOf (audited_within stream_limit (unrolled l.until l.scenario)) l.stream;
-  text : Appends (g.W.Sink.contents l.initial.writer) (g.W.Sink.contents l.writer) (text_of l.stream.found);
-  unfailed : g.W.Sink.failures l.writer ≡ g.W.Sink.failures l.initial.writer;
+  text : Appends (g.W.Sink.view l.initial.writer).contents (g.W.Sink.view l.writer).contents (text_of l.stream.found);
+  unfailed : (g.W.Sink.view l.writer).failures ≡ (g.W.Sink.view l.initial.writer).failures;
 }
 
 abbrev pub decreases-loop-text : goal.decreases-loop-text

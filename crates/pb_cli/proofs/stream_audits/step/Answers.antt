@@ -13,8 +13,8 @@ returns-clause-steps g c =
     let new = c.advance.new.self in
     let news = c.push_news.new.text.items in
     let text = c.push_end.new.text.items in
-    let before = g.W.Sink.contents c.args.writer.now in
-    let after = g.W.Sink.contents c.write_out.new.writer in
+    let before = (g.W.Sink.view c.args.writer.now).contents in
+    let after = (g.W.Sink.view c.write_out.new.writer).contents in
     let now = c.found-2.result.now in
     let said =
     c.in_ok-push_news.ensures ∙ ap (λ (l : List ℕ). l ++ news_text c.found.result.now now) c.clear.ensures.items

@@ -10,7 +10,7 @@ use Rattle.pb_cli.proofs.stream_exporting.export_run.Goals as goal
 
 pub loop-bytes-init : goal.loop-bytes-init
 loop-bytes-init g c = record {
-  exports = begins c.args.export.now c.args.scenario.now c.args.stream c.new-exporter.result (g.W.Sink.contents c.args.writer.now) c.new-exporter.ensures c.requires.ready;
+  exports = begins c.args.export.now c.args.scenario.now c.args.stream c.new-exporter.result (g.W.Sink.view c.args.writer.now).contents c.new-exporter.ensures c.requires.ready;
   baud = subst (λ (e : StreamExport). IsBaud e.baud) (sym c.new-exporter.ensures.export) c.requires.baud;
   unfailed = refl;
 }
@@ -22,10 +22,10 @@ returns-in-Some-clause-bytes g c =
     let stream = c.loop-bytes.stream in
     let exporter = c.loop-bytes.exporter in
     let text = c.play.new.bytes.items in
-    let mid = g.W.Sink.contents c.loop-bytes.writer in
-    let after = g.W.Sink.contents c.write_out.new.writer in
+    let mid = (g.W.Sink.view c.loop-bytes.writer).contents in
+    let after = (g.W.Sink.view c.write_out.new.writer).contents in
     let cleared = subst (λ (xs : List ℕ). PlaysOn s stream c.play.new.stream exporter c.play.new.exporter xs text c.in_ok-ended.ended) c.clear.ensures.items c.in_ok-ended.ensures in
-    ends x s (rest_of c.args.stream) stream exporter text (g.W.Sink.contents c.args.writer.now) mid after c.in-Some.settled c.loop-bytes.invariant.exports
+    ends x s (rest_of c.args.stream) stream exporter text (g.W.Sink.view c.args.writer.now).contents mid after c.in-Some.settled c.loop-bytes.invariant.exports
     (subst (λ (o : Option Settled). PlaysOn s stream c.play.new.stream exporter c.play.new.exporter [] text o) c.in-Some.is cleared)
     (subst (Appends mid after) c.deref.ensures.value c.in_ok-write_out.ensures.whole)
 
@@ -36,12 +36,12 @@ loop-bytes-preserved g c =
     let stream = c.loop-bytes.stream in
     let exporter = c.loop-bytes.exporter in
     let text = c.play.new.bytes.items in
-    let mid = g.W.Sink.contents c.loop-bytes.writer in
-    let after = g.W.Sink.contents c.write_out.new.writer in
+    let mid = (g.W.Sink.view c.loop-bytes.writer).contents in
+    let after = (g.W.Sink.view c.write_out.new.writer).contents in
     let cleared = subst (λ (xs : List ℕ). PlaysOn s stream c.play.new.stream exporter c.play.new.exporter xs text c.in_ok-ended.ended) c.clear.ensures.items c.in_ok-ended.ensures in
     let on = subst (λ (o : Option Settled). PlaysOn s stream c.play.new.stream exporter c.play.new.exporter [] text o) c.in-None.is cleared in
     record {
-      exports = goes_on x s (rest_of c.args.stream) stream c.play.new.stream exporter c.play.new.exporter text (g.W.Sink.contents c.args.writer.now) mid after
+      exports = goes_on x s (rest_of c.args.stream) stream c.play.new.stream exporter c.play.new.exporter text (g.W.Sink.view c.args.writer.now).contents mid after
           c.loop-bytes.invariant.exports on (subst (Appends mid after) c.deref.ensures.value c.in_ok-write_out.ensures.whole);
       baud = subst (λ (e : StreamExport). IsBaud e.baud) (sym on.export) c.loop-bytes.invariant.baud;
       unfailed = search rules;

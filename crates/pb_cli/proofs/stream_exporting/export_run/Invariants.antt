@@ -7,9 +7,9 @@ use Rattle.pb_cli.proofs.stream_exporting.export_run.Given as goal
 
 abbrev pub invariant-loop-bytes : goal.invariant-loop-bytes
 invariant-loop-bytes g l = record {
-  exports : Exports l.export l.scenario (rest_of l.initial.stream) l.stream l.exporter (g.W.Sink.contents l.initial.writer) (g.W.Sink.contents l.writer);
+  exports : Exports l.export l.scenario (rest_of l.initial.stream) l.stream l.exporter (g.W.Sink.view l.initial.writer).contents (g.W.Sink.view l.writer).contents;
   baud : IsBaud l.exporter.export.baud;
-  unfailed : g.W.Sink.failures l.writer ≡ g.W.Sink.failures l.initial.writer;
+  unfailed : (g.W.Sink.view l.writer).failures ≡ (g.W.Sink.view l.initial.writer).failures;
 }
 
 abbrev pub decreases-loop-bytes : goal.decreases-loop-bytes

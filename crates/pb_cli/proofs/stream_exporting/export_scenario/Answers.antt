@@ -15,9 +15,9 @@ returns-in_ok-write_out-in-Ok-clause-bytes g c =
     let x = c.args.export.now in
     let s = c.args.scenario.now in
     let o = rest_of c.in-Ok.stream in
-    let before = g.W.Sink.contents c.args.writer.now in
-    let mid = g.W.Sink.contents c.write_out.new.writer in
-    let after = g.W.Sink.contents c.export_run.new.writer in
+    let before = (g.W.Sink.view c.args.writer.now).contents in
+    let mid = (g.W.Sink.view c.write_out.new.writer).contents in
+    let after = (g.W.Sink.view c.export_run.new.writer).contents in
     let whole = c.in-Ok.ensures.rest ∙ ap (λ n. stream_within stream_limit (unrolled n s)) c.until.ensures.until in
     let bytes = c.deref.ensures.value ∙ c.in_ok-push_stream_head-in-Ok.ensures ∙ ap (λ (l : List ℕ). l ++ head_of x s) c.new-bytes.ensures.items in
     IfOk-weaker c.export_run.result (ExportsRun x s o mid after) (ExportsScenario x s before after)
@@ -25,8 +25,8 @@ returns-in_ok-write_out-in-Ok-clause-bytes g c =
 
 pub returns-in_ok-write_out-in-Err-clause-bytes : goal.returns-in_ok-write_out-in-Err-clause-bytes
 returns-in_ok-write_out-in-Err-clause-bytes g c =
-    let before = g.W.Sink.contents c.args.writer.now in
-    let after = g.W.Sink.contents c.write_out-in-Err.new.writer in
+    let before = (g.W.Sink.view c.args.writer.now).contents in
+    let after = (g.W.Sink.view c.write_out-in-Err.new.writer).contents in
     no_world c.args.export.now c.args.scenario.now c.in-Err.fault c.in_ok-new_line-in-Err.field-0.items before after c.refused.result
     c.in-Err.ensures.fault c.in_ok-new_line-in-Err.ensures.told c.in_ok-new_line-in-Err.ensures.line
     (subst (Appends before after) c.deref-in-Err.ensures.value c.in_ok-write_out-in-Err.ensures.whole)

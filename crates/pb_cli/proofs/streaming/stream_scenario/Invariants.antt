@@ -8,8 +8,8 @@ use Rattle.pb_cli.proofs.streaming.stream_scenario.Given as goal
 abbrev pub invariant-loop-text : goal.invariant-loop-text
 invariant-loop-text g l = record {
   streams : Streams l.scenario.once.names (stream_within stream_limit (unrolled l.until l.scenario)) l.stream
-      (g.W.Sink.contents l.initial.writer) (g.W.Sink.contents l.writer);
-  unfailed : g.W.Sink.failures l.writer ≡ g.W.Sink.failures l.initial.writer;
+      (g.W.Sink.view l.initial.writer).contents (g.W.Sink.view l.writer).contents;
+  unfailed : (g.W.Sink.view l.writer).failures ≡ (g.W.Sink.view l.initial.writer).failures;
 }
 
 abbrev pub decreases-loop-text : goal.decreases-loop-text

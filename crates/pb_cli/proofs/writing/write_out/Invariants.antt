@@ -5,10 +5,10 @@ use Rattle.pb_cli.proofs.writing.write_out.Given as goal
 
 abbrev pub invariant-loop-written : goal.invariant-loop-written
 invariant-loop-written g l = record {
-  front : Appends (g.W.Sink.contents l.initial.writer) (g.W.Sink.contents l.writer) (take l.written l.text);
+  front : Appends (g.W.Sink.view l.initial.writer).contents (g.W.Sink.view l.writer).contents (take l.written l.text);
   within : l.written ≤ length l.text;
-  unfailed : g.W.Sink.failures l.writer ≡ g.W.Sink.failures l.initial.writer;
-  later : GrowsBy 0 (g.W.Sink.interruptions l.initial.writer) (g.W.Sink.interruptions l.writer);
+  unfailed : (g.W.Sink.view l.writer).failures ≡ (g.W.Sink.view l.initial.writer).failures;
+  later : GrowsBy 0 (g.W.Sink.view l.initial.writer).interruptions (g.W.Sink.view l.writer).interruptions;
 }
 
 abbrev pub decreases-loop-written : goal.decreases-loop-written

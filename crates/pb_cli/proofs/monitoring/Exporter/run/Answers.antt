@@ -7,14 +7,14 @@ use Rattle.pb_cli.proofs.monitoring.Exporter.run.Goals as goal
 
 pub loop-call-init : goal.loop-call-init
 loop-call-init g c = record {
-  written = no_more c.args.export.now c.args.self.now.drawing (g.W.Sink.contents c.args.writer.now);
+  written = no_more c.args.export.now c.args.self.now.drawing (g.W.Sink.view c.args.writer.now).contents;
   unfailed = refl;
 }
 
 pub loop-call-preserved : goal.loop-call-preserved
 loop-call-preserved g c = record {
   written = more_still c.args.export.now c.args.self.now.drawing c.loop-call.self.drawing c.read_on.new.self.drawing
-      (g.W.Sink.contents c.args.writer.now) (g.W.Sink.contents c.loop-call.writer) (g.W.Sink.contents c.read_on.new.writer)
+      (g.W.Sink.view c.args.writer.now).contents (g.W.Sink.view c.loop-call.writer).contents (g.W.Sink.view c.read_on.new.writer).contents
       c.loop-call.invariant.written c.in_ok-read_on.ensures.text;
   unfailed = search rules;
 }
@@ -22,7 +22,7 @@ loop-call-preserved g c = record {
 pub returns-then-branch-clause-text : goal.returns-then-branch-clause-text
 returns-then-branch-clause-text g c =
     more_still c.args.export.now c.args.self.now.drawing c.loop-call.self.drawing c.read_on.new.self.drawing
-    (g.W.Sink.contents c.args.writer.now) (g.W.Sink.contents c.loop-call.writer) (g.W.Sink.contents c.read_on.new.writer)
+    (g.W.Sink.view c.args.writer.now).contents (g.W.Sink.view c.loop-call.writer).contents (g.W.Sink.view c.read_on.new.writer).contents
     c.loop-call.invariant.written c.in_ok-read_on.ensures.text
 
 pub returns-in_err-read_on-clause-writer_failed : goal.returns-in_err-read_on-clause-writer_failed

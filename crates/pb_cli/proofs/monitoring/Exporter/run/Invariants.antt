@@ -5,6 +5,6 @@ use Rattle.pb_cli.proofs.monitoring.Exporter.run.Given as goal
 
 abbrev pub invariant-loop-call : goal.invariant-loop-call
 invariant-loop-call g l = record {
-  written : WritesOn l.export l.fn.self.drawing l.self.drawing (g.W.Sink.contents l.fn.writer) (g.W.Sink.contents l.writer);
-  unfailed : g.W.Sink.failures l.writer ≡ g.W.Sink.failures l.fn.writer;
+  written : WritesOn l.export l.fn.self.drawing l.self.drawing (g.W.Sink.view l.fn.writer).contents (g.W.Sink.view l.writer).contents;
+  unfailed : (g.W.Sink.view l.writer).failures ≡ (g.W.Sink.view l.fn.writer).failures;
 }
