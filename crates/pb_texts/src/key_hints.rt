@@ -123,7 +123,8 @@ pub(crate) fn wanted(section: Section, key: Key, has_repeats: bool) -> &'static 
         Key::Name if has_repeats => {
             "1 to 32 ASCII letters, digits, '-' or '_' and nothing else, in quotes"
         }
-        Key::Name => "1 to 16 ASCII letters or digits and nothing else, in quotes",
+        Key::Name =>
+            "1 to 16 ASCII letters or digits and nothing else, in quotes; in version 3 to 32, also '-' and '_'",
         Key::Kind => "\"master\" or \"passive\"",
         Key::Address | Key::Place => "an integer from 0 to 255, without quotes",
         Key::Reply | Key::Unit => "at most 246 octets, two hex digits each and no 0x, in quotes",

@@ -42,4 +42,4 @@ pub use pb_scenario::{Reasons, Scenario, StreamScenario};
 pub use plays::traced;
 pub use shown::Shown;
 pub use texts::bounds_text;
-pub use warnings::warn;
+pub use warnings::{warn, warn_of_stream};

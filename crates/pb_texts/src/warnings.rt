@@ -1,10 +1,12 @@
 //! What a scenario should not have, though its run is not refused.
 
 ghost use Rattle.std.specs.Prelude.{◌≢◌, [], IfOk, string_bytes};
-ghost use Rattle.pb_texts.specs.Hints.{IsScenario};
+ghost use Rattle.pb_texts.specs.Hints.{IsScenario, IsStreamScenario};
 
 use crate::documents::Document;
-use pb_scenario::{Deed, Event, Key, Scenario, Section, read};
+use pb_scenario::{
+    Deed, Event, Key, Repeat, Scenario, Section, Step, StreamScenario, read, read_stream,
+};
 use std::alloc::{AllocError, Global};
 
 /// A line for the first step that starts a tap while another one with its address runs, and one for the first step that
@@ -18,21 +20,71 @@ pub fn warn(alloc: Global, name: &str, file: &[u8]) -> Result<String, AllocError
     let document = Document { alloc, name, file };
     match read(alloc, file) {
         Ok(scenario) => {
-            let mut text = of_namesakes(&document, &scenario)?;
-            text.push_str(of_late_steps(&document, &scenario)?.as_str())?;
-            Ok(text)
+            let until = scenario.until();
+            let end = until.saturating_add(1);
+            warnings(&document, &scenario, until, end)
         }
         Err(_) => Ok(String::new(alloc)),
     }
 }
 
-/// The warning of the first two taps that run with one address.
-fn of_namesakes(document: &Document<'_>, scenario: &Scenario) -> Result<String, AllocError> {
+/// The same for a file of version 1, 2 or 3. Two stations with one address are looked for as long as no step that starts
+/// or stops a tap has happened again.
+///
+/// Fault: memory was refused.
+pub fn warn_of_stream(alloc: Global, name: &str, file: &[u8]) -> Result<String, AllocError>
+    ensures { IfOk result (λ text. string_bytes text ≢ [] → IsStreamScenario file.now) }
+{
+    let document = Document { alloc, name, file };
+    let Ok(stream) = read_stream(alloc, file) else {
+        return Ok(String::new(alloc));
+    };
+    let until = stream.until();
+    warnings(&document, stream.once(), until, first_return(&stream))
+}
+
+/// The warnings of a scenario: of two taps that run with one address before the moment `end`, and of a step after `until`.
+fn warnings(
+    document: &Document<'_>,
+    scenario: &Scenario,
+    until: u64,
+    end: u64,
+) -> Result<String, AllocError> {
+    let mut text = of_namesakes(document, scenario, end)?;
+    text.push_str(of_late_steps(document, scenario, until)?.as_str())?;
+    Ok(text)
+}
+
+/// The first moment at which a step that starts or stops a tap happens again, or which is after the end.
+fn first_return(stream: &StreamScenario) -> u64 {
+    let mut end = stream.until().saturating_add(1);
+    for (step, repeat) in stream.once().steps().iter().zip(stream.repeats().iter()) {
+        if let Some(repeat) = repeat {
+            end = end.min(return_of(step, repeat, end));
+        }
+    }
+    end
+}
+
+/// When a step happens again, if it starts or stops a tap; else the moment `otherwise`.
+fn return_of(step: &Step, repeat: &Repeat, otherwise: u64) -> u64 {
+    match &step.deed {
+        Deed::Happens(Event::Start(_) | Event::Stop(_)) => step.at.saturating_add(repeat.every),
+        _ => otherwise,
+    }
+}
+
+/// The warning of the first two taps that run with one address before the moment `end`.
+fn of_namesakes(
+    document: &Document<'_>,
+    scenario: &Scenario,
+    end: u64,
+) -> Result<String, AllocError> {
     let taps = scenario.taps();
     let mut runs = vec![in document.alloc; false; taps.len()]?;
     for (place, step) in scenario.steps().iter().enumerate() {
         match &step.deed {
-            _ if step.at > scenario.until() => break,
+            _ if step.at >= end => break,
             Deed::Happens(Event::Start(tap)) => {
                 if let Some(other) = namesake(scenario, &runs, *tap) {
                     return namesakes(document, scenario, place, *tap, other);
@@ -47,8 +99,11 @@ fn of_namesakes(document: &Document<'_>, scenario: &Scenario) -> Result<String, 
 }
 
 /// The warning of the first step after the end.
-fn of_late_steps(document: &Document<'_>, scenario: &Scenario) -> Result<String, AllocError> {
-    let until = scenario.until();
+fn of_late_steps(
+    document: &Document<'_>,
+    scenario: &Scenario,
+    until: u64,
+) -> Result<String, AllocError> {
     let late = scenario
         .steps()
         .iter()

@@ -23,6 +23,7 @@ use pb_export::{CaptureExport, Export, StreamExport, Window};
 use pb_scenario::ScenarioFault;
 use pb_texts::{
     MOST_EVENTS, described, explain, explain_audit, explain_bus, explain_settling, warn,
+    warn_of_stream,
 };
 use std::alloc::{AllocError, Global};
 use std::fmt::Display;
@@ -256,7 +257,7 @@ fn capture<T: AllocGlobal + Clock + Eprint + Files + Input + Print>(
     shown_when: Shown,
     is_quiet: bool,
 ) -> Result<Status, CliFault> {
-    let file = scenario_file(rt, path, is_quiet)?;
+    let file = stream_scenario_file(rt, path, is_quiet)?;
     let mut writer = CountedWriter::new(io::writer(rt));
     let mut line = ProgressLine::new(rt, shown_when);
     let answer = capture_file(rt.alloc(), &file, tap, &mut writer, &mut line);
@@ -291,7 +292,7 @@ fn export_as_it_settles<T: AllocGlobal + Clock + Eprint + Files + Input + Print>
 ) -> Result<Status, CliFault>
     requires { IsBaud export.now.baud }
 {
-    let file = scenario_file(rt, path, is_quiet)?;
+    let file = stream_scenario_file(rt, path, is_quiet)?;
     let mut writer = CountedWriter::new(io::writer(rt));
     let mut line = ProgressLine::new(rt, shown_when);
     let answer = export_stream(rt.alloc(), &file, export, &mut writer, &mut line);
@@ -341,7 +342,7 @@ fn export_picture<T: AllocGlobal + Clock + Eprint + Files + Input + Print>(
 ) -> Result<Status, CliFault>
     requires { IsBaud export.now.baud }
 {
-    let file = scenario_file(rt, path, is_quiet)?;
+    let file = stream_scenario_file(rt, path, is_quiet)?;
     match described(rt.alloc(), &file) {
         Ok(_) => export_whole(rt, path, &file, export, is_quiet),
         Err(ScenarioFault::NoMemory) => Err(CliFault::NoMemory),
@@ -398,7 +399,7 @@ fn stream<T: AllocGlobal + Clock + Eprint + Files + Input + Print>(
 ) -> Result<Status, CliFault>
     requires { IfSome until (λ moment. moment ≤ stream_end) }
 {
-    let file = scenario_file(rt, path, is_quiet)?;
+    let file = stream_scenario_file(rt, path, is_quiet)?;
     let mut writer = CountedWriter::new(io::writer(rt));
     let mut line = ProgressLine::new(rt, shown_when);
     let answer = stream_file(rt.alloc(), &file, until, flush, &mut writer, &mut line);
@@ -418,7 +419,7 @@ fn stream_audit<T: AllocGlobal + Clock + Eprint + Files + Input + Print>(
 ) -> Result<Status, CliFault>
     requires { IfSome until (λ moment. moment ≤ stream_end) }
 {
-    let file = scenario_file(rt, path, is_quiet)?;
+    let file = stream_scenario_file(rt, path, is_quiet)?;
     let mut writer = CountedWriter::new(io::writer(rt));
     let mut line = ProgressLine::new(rt, shown_when);
     let answer = audit_stream_file(rt.alloc(), &file, until, &mut writer, &mut line);
@@ -445,6 +446,19 @@ fn scenario_file<R: AllocGlobal + Eprint + Files + Input>(
     let file = contents(rt, path, is_quiet)?;
     if !is_quiet {
         hint(rt, warn(rt.alloc(), shown(path), &file));
+    }
+    Ok(file)
+}
+
+/// The same for a command that reads files whose steps may repeat.
+fn stream_scenario_file<R: AllocGlobal + Eprint + Files + Input>(
+    rt: &R,
+    path: &str,
+    is_quiet: bool,
+) -> Result<Vec<u8>, CliFault> {
+    let file = contents(rt, path, is_quiet)?;
+    if !is_quiet {
+        hint(rt, warn_of_stream(rt.alloc(), shown(path), &file));
     }
     Ok(file)
 }
