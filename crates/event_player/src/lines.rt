@@ -5,8 +5,7 @@ use crate::shared::Usual;
 use pb_cycles::{Request, Service};
 use pb_timers::{BusParams, Moment};
 use pb_world::{
-    Audit, Entry, Event, Heard, NewFault, Record, Reply, TapSpec, World, WorldFault, audit_shared,
-    run_shared,
+    Audit, Entry, Event, NewFault, Reply, TapSpec, World, WorldFault, audit_shared, run_shared,
 };
 use std::alloc::{AllocError, Global};
 
@@ -37,7 +36,7 @@ pub fn play(alloc: Global, list: &EventList) -> Result<Played, AllocError> {
     };
     let mut text = String::new(alloc);
     let accepted = push_events(&mut text, alloc, &mut world, &list.events)?;
-    push_trace(&mut text, alloc, world.trace())?;
+    push_trace(&mut text, world.trace())?;
     push_taps(&mut text, &world, list.taps.len())?;
     push_audit(&mut text, alloc, params, &list.taps, &accepted)?;
     Ok(Played::Run(text))
@@ -60,7 +59,7 @@ pub fn holders(alloc: Global, list: &EventList) -> Result<Played, AllocError> {
         }
         push_holders(&mut text, &world)?;
     }
-    push_trace(&mut text, alloc, world.trace())?;
+    push_trace(&mut text, world.trace())?;
     push_audit(&mut text, alloc, params, &list.taps, &accepted)?;
     Ok(Played::Run(text))
 }
@@ -78,7 +77,7 @@ pub fn trace(alloc: Global, list: &EventList, times: u32) -> Result<Played, Allo
         };
         let _ = run_shared(alloc, &mut world, &events);
         if time + 1 == times {
-            push_trace(&mut text, alloc, world.trace())?;
+            push_trace(&mut text, world.trace())?;
         }
     }
     Ok(Played::Run(text))
@@ -215,39 +214,11 @@ fn push_reply(text: &mut String, alloc: Global, reply: &Reply) -> Result<(), All
 }
 
 /// Appends a line for each entry of the trace.
-fn push_trace(text: &mut String, alloc: Global, trace: &[Entry]) -> Result<(), AllocError> {
+fn push_trace(text: &mut String, trace: &[Entry]) -> Result<(), AllocError> {
     for entry in trace {
-        match entry {
-            Entry::Sent(record) => push_record(text, alloc, record)?,
-            Entry::Noise { begin, end } => writeln!(text, "{begin} {end} ~ noise")?,
-        }
+        writeln!(text, "{entry}")?;
     }
     Ok(())
-}
-
-/// Appends a telegram's line, with a letter for each tap.
-fn push_record(text: &mut String, alloc: Global, record: &Record) -> Result<(), AllocError> {
-    let octets = hex::encode(alloc, record.octets.as_slice())?;
-    write!(
-        text,
-        "{} {} tap {} {octets} ",
-        record.begin, record.end, record.tap
-    )?;
-    for tap in 0..record.heard.len() {
-        text.push(letter(record.heard.at(tap)))?;
-    }
-    text.push('\n')
-}
-
-/// The letter for how a telegram reached a tap.
-fn letter(heard: Heard) -> char {
-    match heard {
-        Heard::Own => '-',
-        Heard::Whole => 'w',
-        Heard::Damaged => 'd',
-        Heard::Unheard => 'u',
-        Heard::Pending => '.',
-    }
 }
 
 /// Appends a line for each tap.

@@ -17,6 +17,7 @@ mod placing;
 mod receptions;
 mod senses;
 mod settling;
+mod showing;
 mod spans;
 mod speaking;
 mod tap_sets;
