@@ -6,14 +6,17 @@ use Rattle.std.proofs.lemmas.Bool.{eqb-true, eqb-false}
 use Rattle.pb_timers.specs.Timers.{Params, bits}
 use Rattle.pb_ring.specs.Gap.{next_asked, last_asked, round_after}
 use Rattle.pb_rotation.specs.Rotation.{Receipt, used, received, started_high}
+use Rattle.pb_cycles.specs.declared.services.Priority.{Priority}
+use Rattle.pb_cycles.specs.declared.services.Priority.TheVariants.{Low, High}
 use Rattle.pb_cycles.specs.Fields.{Fields}
 use Rattle.pb_cycles.specs.Messages.{has_bit, frame_octets}
 use Rattle.pb_cycles.specs.RequestFields.{RequestFields}
-use Rattle.pb_cycles.specs.Requests.{is_answered, asked_by, code_of}
-use Rattle.pb_cycles.specs.Counts.{count_bits, count_at}
+use Rattle.pb_cycles.specs.Requests.{is_answered, asked_by, code_of, priority_of}
+use Rattle.pb_cycles.specs.Counts.{count_at}
+use Rattle.pb_telegram.specs.Control.{count_bits}
 use Rattle.pb_cycles.specs.declared.services.Service.{Service}
 use Rattle.pb_cycles.specs.declared.services.Service.TheVariants.{Sda, Sdn, Srd}
-use Rattle.pb_cycles.specs.declared.counts.FrameCount.{FrameCount}
+use Rattle.pb_telegram.specs.declared.control.FrameCount.{FrameCount}
 use Rattle.pb_cycles.specs.Initiating.{first_sending, after_request}
 use Rattle.law_turn.specs.Arrivals.{Framed, telegram_arrival}
 use Rattle.law_turn.specs.Phases.{Use, AwaitData, Checking}
@@ -54,11 +57,11 @@ speaks_token p s tries now =
     by_choice false e = record { las = refl; reply = refl; busy = refl; by = PassesOn (min tries_limit (tries + 1)) refl (eqb-false (next_station s) s.address e) refl refl }
 
 -- the code of a request that is not answered
-unanswered : (service : Service) (high : Bool) (count : FrameCount) → is_answered service ≡ false → is_answered_by (asked_by ((0x40 + (if is_answered service then count_bits count else 0) + code_of service high) % 16)) ≡ false
-unanswered Sda high count e = absurd cc
-unanswered Sdn true count e = refl
-unanswered Sdn false count e = refl
-unanswered Srd high count e = absurd cc
+unanswered : (service : Service) (priority : Priority) (count : FrameCount) → is_answered service ≡ false → is_answered_by (asked_by ((0x40 + (if is_answered service then count_bits count else 0) + code_of service priority) % 16)) ≡ false
+unanswered Sda priority count e = absurd cc
+unanswered Sdn High count e = refl
+unanswered Sdn Low count e = refl
+unanswered Srd priority count e = absurd cc
 
 -- a request
 speaks_request : (p : Params) (s : Station) (asked : Bool) (r : RequestFields) (now : ℕ) → s.busy ≡ false → Speaks p now s (says_request p s asked r now)
@@ -71,11 +74,11 @@ speaks_request p s asked r now still = (frame_octets f, refl, by_choice (is_answ
     y = record (saying s now (frame_octets f)) { cycles = record s.cycles { initiator = after_request s.cycles.initiator s.address r } }
 
     bit : has_bit f.fc 6 ≡ true
-    bit = code_bit r.service r.high (count_at s.cycles.initiator.counts r.da)
+    bit = code_bit r.service (priority_of r.high) (count_at s.cycles.initiator.counts r.da)
 
     by_choice : (b : Bool) → is_answered r.service ≡ b → Spoken p now s (if b then record y { phase = AwaitData asked None true } else record y { phase = Use asked (y.own.end + p.tid2) }) (frame_octets f)
     by_choice true e = record { las = refl; reply = refl; busy = refl; by = Requests f refl bit (inl (refl, refl, still)) tt refl }
-    by_choice false e = record { las = refl; reply = refl; busy = refl; by = Requests f refl bit (inr (asked, y.own.end + p.tid2, refl, unanswered r.service r.high (count_at s.cycles.initiator.counts r.da) e)) tt refl }
+    by_choice false e = record { las = refl; reply = refl; busy = refl; by = Requests f refl bit (inr (asked, y.own.end + p.tid2, refl, unanswered r.service (priority_of r.high) (count_at s.cycles.initiator.counts r.da) e)) tt refl }
 
 -- the same, where a station has taken a request out of its queue
 times_used : (last : Option Receipt) → moments (option_map used last) ≡ moments last

@@ -7,6 +7,8 @@ use Rattle.pb_telegram.specs.Faults.{octets, fault_of}
 use Rattle.pb_telegram.specs.declared.faults.TelegramFault.{TelegramFault}
 use Rattle.pb_telegram.specs.declared.chars.RxChar.TheVariants.{Good}
 use Rattle.pb_timers.specs.Timers.{Params}
+use Rattle.pb_cycles.specs.declared.services.Priority.{Priority}
+use Rattle.pb_cycles.specs.Requests.{is_high}
 use Rattle.pb_cycles.specs.Fields.{Fields}
 use Rattle.pb_cycles.specs.Messages.{has_bit, frame_octets, reply_octets}
 use Rattle.pb_cycles.specs.Responding.{reply_frame, data_reply, service_reply}
@@ -55,14 +57,14 @@ code_tells station_type code other =
 reply_tells : (ts station_type : ℕ) (f : Fields) (code : ℕ) (unit : List ℕ) → (code % 16 == 0) ≡ false → SaysNotReady (reply_frame ts station_type f code unit)
 reply_tells ts station_type f code unit other = frame_tells (record { da = f.sa % 128; sa = ts; fc = 16 * station_type + code; unit = unit }) (code_tells station_type code other)
 
-service_says : (ts station_type : ℕ) (f : Fields) (service : Service) (high : Bool) (unit : List ℕ) → SaysNotReady (service_reply ts station_type f service high unit)
-service_says ts station_type f Sda high unit =
+service_says : (ts station_type : ℕ) (f : Fields) (service : Service) (priority : Priority) (unit : List ℕ) → SaysNotReady (service_reply ts station_type f service priority unit)
+service_says ts station_type f Sda priority unit =
     by_test SaysNotReady (has_bit f.da 7) (reply_frame ts station_type f 3 []) Acknowledge (λ _. reply_tells ts station_type f 3 [] refl) (λ _. tt)
-service_says ts station_type f Sdn high unit = tt
-service_says ts station_type f Srd high unit =
-    by_test SaysNotReady (has_bit f.da 7) (reply_frame ts station_type f 3 []) (data_reply ts station_type f high unit) (λ _. reply_tells ts station_type f 3 [] refl)
-    (λ _. by_test SaysNotReady (length unit == 0) (reply_frame ts station_type f 9 []) (if high then reply_frame ts station_type f 10 unit else reply_frame ts station_type f 8 unit) (λ _. reply_tells ts station_type f 9 [] refl)
-    (λ _. by_test SaysNotReady high (reply_frame ts station_type f 10 unit) (reply_frame ts station_type f 8 unit) (λ _. reply_tells ts station_type f 10 unit refl) (λ _. reply_tells ts station_type f 8 unit refl)))
+service_says ts station_type f Sdn priority unit = tt
+service_says ts station_type f Srd priority unit =
+    by_test SaysNotReady (has_bit f.da 7) (reply_frame ts station_type f 3 []) (data_reply ts station_type f priority unit) (λ _. reply_tells ts station_type f 3 [] refl)
+    (λ _. by_test SaysNotReady (length unit == 0) (reply_frame ts station_type f 9 []) (if is_high priority then reply_frame ts station_type f 10 unit else reply_frame ts station_type f 8 unit) (λ _. reply_tells ts station_type f 9 [] refl)
+    (λ _. by_test SaysNotReady (is_high priority) (reply_frame ts station_type f 10 unit) (reply_frame ts station_type f 8 unit) (λ _. reply_tells ts station_type f 10 unit refl) (λ _. reply_tells ts station_type f 8 unit refl)))
 
 service_tells : (xs : List ℕ) → OfService xs → TellsNotReady (brought_by xs)
 service_tells xs s = by (fault_of (map Good xs)) refl
@@ -70,7 +72,7 @@ service_tells xs s = by (fault_of (map Good xs)) refl
     by : (o : Option TelegramFault) → fault_of (map Good xs) ≡ o → TellsNotReady (arrival_of (map Good xs))
     by (Some fault) e = subst (λ o. TellsNotReady (arrival_unless o (octets (map Good xs)))) (sym e) tt
     by None e =
-        subst TellsNotReady (sym (arrival_spelled xs e ∙ ap telegram_arrival s.is)) (service_says s.ts s.station_type s.f s.service s.high s.unit)
+        subst TellsNotReady (sym (arrival_spelled xs e ∙ ap telegram_arrival s.is)) (service_says s.ts s.station_type s.f s.service s.priority s.unit)
 
 -- ---- a tap
 

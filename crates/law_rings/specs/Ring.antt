@@ -28,7 +28,7 @@ use Rattle.law_live.specs.Flow.{BeganBefore}
 
 -- the service that a request asks for is answered
 abbrev pub is_answered_by : Asked → Bool
-is_answered_by (Send service high) = is_answered service
+is_answered_by (Send service priority) = is_answered service
 is_answered_by Status = true
 is_answered_by Unknown = false
 

@@ -14,8 +14,8 @@ use Rattle.pb_cycles.proofs.NewestActs.{reverse-more, after_last-more, count_by-
 use Rattle.pb_cycles.specs.Acts.{Act, Told, Opened, Resent, Closed, sending_act, is_opening_to, is_unanswered_at, number_to, count_of, open_in, retries_in, InitiatorStandsFor}
 use Rattle.pb_cycles.specs.Initiating.{retry_of, after_retry, message_outcome, closed_by, outcome_of, after_outcome, after_silence, after_request, first_sending}
 use Rattle.pb_cycles.specs.Tables.{InitiatorTable}
-use Rattle.pb_cycles.specs.declared.counts.FrameCount.{FrameCount}
-use Rattle.pb_cycles.specs.declared.counts.FrameCount.TheVariants.{First}
+use Rattle.pb_telegram.specs.declared.control.FrameCount.{FrameCount}
+use Rattle.pb_telegram.specs.declared.control.FrameCount.TheVariants.{First}
 use Rattle.pb_cycles.specs.declared.initiators.OpenRequest.{OpenRequest}
 use Rattle.pb_cycles.specs.declared.outcomes.Outcome.{Outcome}
 use Rattle.law_turn.specs.Hearing.{asked_station}

@@ -5,11 +5,13 @@ use Rattle.std.specs.Prelude.{All, IfSome, nat_lt}
 use Rattle.std.proofs.lemmas.List.Elements.{All-drop, All-nil, All-push}
 use Rattle.pb_timers.specs.Timers.{Params}
 use Rattle.pb_rotation.specs.Rotation.{may_low, may_high}
+use Rattle.pb_cycles.specs.declared.services.Priority.{Priority}
+use Rattle.pb_cycles.specs.declared.services.Priority.TheVariants.{Low, High}
 use Rattle.pb_cycles.specs.Fields.{Fields}
 use Rattle.pb_cycles.specs.Messages.{has_bit, address_in, reply_octets}
 use Rattle.pb_cycles.specs.Queued.{Queued, put}
 use Rattle.pb_cycles.specs.RequestFields.{RequestFields}
-use Rattle.pb_cycles.specs.Requests.{is_answered, asked_by, code_of, IsAddressed}
+use Rattle.pb_cycles.specs.Requests.{is_answered, asked_by, code_of, IsAddressed, is_high, priority_of}
 use Rattle.pb_cycles.specs.declared.messages.Message.{Message}
 use Rattle.pb_cycles.specs.declared.messages.Reply.{Reply}
 use Rattle.pb_cycles.specs.declared.messages.Reply.TheVariants.{Acknowledge}
@@ -17,9 +19,10 @@ use Rattle.pb_cycles.specs.declared.services.Asked.{Asked}
 use Rattle.pb_cycles.specs.declared.services.Asked.TheVariants.{Send, Status, Unknown}
 use Rattle.pb_cycles.specs.declared.services.Service.{Service}
 use Rattle.pb_cycles.specs.declared.services.Service.TheVariants.{Sda, Sdn, Srd}
-use Rattle.pb_cycles.specs.Counts.{count_bits, count_at}
-use Rattle.pb_cycles.specs.declared.counts.FrameCount.{FrameCount}
-use Rattle.pb_cycles.specs.declared.counts.FrameCount.TheVariants.{First, Clear, Set}
+use Rattle.pb_cycles.specs.Counts.{count_at}
+use Rattle.pb_telegram.specs.Control.{count_bits}
+use Rattle.pb_telegram.specs.declared.control.FrameCount.{FrameCount}
+use Rattle.pb_telegram.specs.declared.control.FrameCount.TheVariants.{First, Clear, Set}
 use Rattle.pb_cycles.specs.Initiating.{after_request, retried, after_silence, message_outcome, closed_by, after_outcome}
 use Rattle.pb_cycles.specs.Responding.{reply_frame, data_reply, service_reply, is_repeat, executed, kept_reply, once, reply_once, counted, after_service, reply_to_service, after_asked, reply_to_asked, after_framed, reply_to_framed}
 use Rattle.pb_cycles.specs.Tables.{InitiatorTable, ResponderTable}
@@ -57,21 +60,21 @@ said-frame : (ts station_type : ℕ) (f : Fields) (code : ℕ) (unit : List ℕ)
     → IsSaid (reply_frame ts station_type f code unit)
 said-frame ts station_type f code unit none fits = frame-reply (record { da = address_in f.sa; sa = ts; fc = 16 * station_type + code; unit = unit }) none fits
 
-said-data : (ts station_type : ℕ) (f : Fields) (high : Bool) (unit : List ℕ) → HasType station_type → Fits unit → IsSaid (data_reply ts station_type f high unit)
-said-data ts station_type f high unit type fits =
+said-data : (ts station_type : ℕ) (f : Fields) (priority : Priority) (unit : List ℕ) → HasType station_type → Fits unit → IsSaid (data_reply ts station_type f priority unit)
+said-data ts station_type f priority unit type fits =
     by_test IsSaid (length unit == 0) _ _ (λ _. said-frame ts station_type f 9 [] type.none (omega arith))
-    (λ _. by_test IsSaid high _ _ (λ _. said-frame ts station_type f 10 unit type.high fits) (λ _. said-frame ts station_type f 8 unit type.low fits))
+    (λ _. by_test IsSaid (is_high priority) _ _ (λ _. said-frame ts station_type f 10 unit type.high fits) (λ _. said-frame ts station_type f 8 unit type.low fits))
 
 said-acknowledge : IsSaid Acknowledge
 said-acknowledge = record { no_initiator = refl; some = omega arith; fits = omega arith }
 
-said-service : (ts station_type : ℕ) (f : Fields) (service : Service) (high : Bool) (unit : List ℕ) → HasType station_type → Fits unit
-    → IsSaid (service_reply ts station_type f service high unit)
-said-service ts station_type f Sda high unit type fits =
+said-service : (ts station_type : ℕ) (f : Fields) (service : Service) (priority : Priority) (unit : List ℕ) → HasType station_type → Fits unit
+    → IsSaid (service_reply ts station_type f service priority unit)
+said-service ts station_type f Sda priority unit type fits =
     by_test IsSaid (has_bit f.da 7) _ Acknowledge (λ _. said-frame ts station_type f 3 [] type.no_service (omega arith)) (λ _. said-acknowledge)
-said-service ts station_type f Sdn high unit type fits = said-acknowledge
-said-service ts station_type f Srd high unit type fits =
-    by_test IsSaid (has_bit f.da 7) _ _ (λ _. said-frame ts station_type f 3 [] type.no_service (omega arith)) (λ _. said-data ts station_type f high unit type fits)
+said-service ts station_type f Sdn priority unit type fits = said-acknowledge
+said-service ts station_type f Srd priority unit type fits =
+    by_test IsSaid (has_bit f.da 7) _ _ (λ _. said-frame ts station_type f 3 [] type.no_service (omega arith)) (λ _. said-data ts station_type f priority unit type fits)
 
 -- ---- a responder's table
 
@@ -90,31 +93,31 @@ reply-once t f reply is said = by_test (λ (o : Option Reply). IfSome o IsSaid) 
     by_kept None said = tt
     by_kept (Some k) said = said
 
-responder-service : (t : ResponderTable) (ts station_type : ℕ) (f : Fields) (service : Service) (high : Bool) → HasType station_type → IsResponder t
-    → IsResponder (after_service t ts station_type f service high)
-responder-service t ts station_type f Sda high type is =
-    by_test IsResponder (address_in f.da == ts) _ t (λ _. responder-once t f _ is (said-service ts station_type f Sda high t.reply type is.unit)) (λ _. is)
-responder-service t ts station_type f Sdn high type is =
+responder-service : (t : ResponderTable) (ts station_type : ℕ) (f : Fields) (service : Service) (priority : Priority) → HasType station_type → IsResponder t
+    → IsResponder (after_service t ts station_type f service priority)
+responder-service t ts station_type f Sda priority type is =
+    by_test IsResponder (address_in f.da == ts) _ t (λ _. responder-once t f _ is (said-service ts station_type f Sda priority t.reply type is.unit)) (λ _. is)
+responder-service t ts station_type f Sdn priority type is =
     by_test IsResponder _ (counted t) t (λ _. record { unit = is.unit; kept = is.kept }) (λ _. is)
-responder-service t ts station_type f Srd high type is =
-    by_test IsResponder (address_in f.da == ts) _ t (λ _. responder-once t f _ is (said-service ts station_type f Srd high t.reply type is.unit)) (λ _. is)
+responder-service t ts station_type f Srd priority type is =
+    by_test IsResponder (address_in f.da == ts) _ t (λ _. responder-once t f _ is (said-service ts station_type f Srd priority t.reply type is.unit)) (λ _. is)
 
-reply-service : (t : ResponderTable) (ts station_type : ℕ) (f : Fields) (service : Service) (high : Bool) → HasType station_type → IsResponder t
-    → IfSome (reply_to_service t ts station_type f service high) IsSaid
-reply-service t ts station_type f Sda high type is =
-    by_test (λ (o : Option Reply). IfSome o IsSaid) (address_in f.da == ts) _ None (λ _. reply-once t f _ is (said-service ts station_type f Sda high t.reply type is.unit)) (λ _. tt)
-reply-service t ts station_type f Sdn high type is = tt
-reply-service t ts station_type f Srd high type is =
-    by_test (λ (o : Option Reply). IfSome o IsSaid) (address_in f.da == ts) _ None (λ _. reply-once t f _ is (said-service ts station_type f Srd high t.reply type is.unit)) (λ _. tt)
+reply-service : (t : ResponderTable) (ts station_type : ℕ) (f : Fields) (service : Service) (priority : Priority) → HasType station_type → IsResponder t
+    → IfSome (reply_to_service t ts station_type f service priority) IsSaid
+reply-service t ts station_type f Sda priority type is =
+    by_test (λ (o : Option Reply). IfSome o IsSaid) (address_in f.da == ts) _ None (λ _. reply-once t f _ is (said-service ts station_type f Sda priority t.reply type is.unit)) (λ _. tt)
+reply-service t ts station_type f Sdn priority type is = tt
+reply-service t ts station_type f Srd priority type is =
+    by_test (λ (o : Option Reply). IfSome o IsSaid) (address_in f.da == ts) _ None (λ _. reply-once t f _ is (said-service ts station_type f Srd priority t.reply type is.unit)) (λ _. tt)
 
 responder-asked : (t : ResponderTable) (ts station_type : ℕ) (f : Fields) (asked : Asked) → HasType station_type → IsResponder t → IsResponder (after_asked t ts station_type f asked)
-responder-asked t ts station_type f (Send service high) type is = responder-service t ts station_type f service high type is
+responder-asked t ts station_type f (Send service priority) type is = responder-service t ts station_type f service priority type is
 responder-asked t ts station_type f Status type is = is
 responder-asked t ts station_type f Unknown type is = is
 
 reply-asked : (t : ResponderTable) (ts station_type : ℕ) (f : Fields) (asked : Asked) → HasType station_type → IsResponder t
     → IfSome (reply_to_asked t ts station_type f asked) IsSaid
-reply-asked t ts station_type f (Send service high) type is = reply-service t ts station_type f service high type is
+reply-asked t ts station_type f (Send service priority) type is = reply-service t ts station_type f service priority type is
 reply-asked t ts station_type f Status type is =
     by_test (λ (o : Option Reply). IfSome o IsSaid) (address_in f.da == ts) _ None (λ _. said-frame ts station_type f 0 [] type.ok (omega arith)) (λ _. tt)
 reply-asked t ts station_type f Unknown type is = tt
@@ -200,25 +203,25 @@ answered-address da Sdn addressed e = absurd (let wrong : false ≡ true = e in 
 answered-address da Srd addressed e = addressed
 
 -- the control octet of a request has bit 6
-code-bit : (service : Service) (high : Bool) (count : FrameCount) → has_bit (0x40 + (if is_answered service then count_bits count else 0) + code_of service high) 6 ≡ true
-code-bit Sda true First = refl
-code-bit Sda true Clear = refl
-code-bit Sda true Set = refl
-code-bit Sda false First = refl
-code-bit Sda false Clear = refl
-code-bit Sda false Set = refl
-code-bit Sdn true count = refl
-code-bit Sdn false count = refl
-code-bit Srd true First = refl
-code-bit Srd true Clear = refl
-code-bit Srd true Set = refl
-code-bit Srd false First = refl
-code-bit Srd false Clear = refl
-code-bit Srd false Set = refl
+code-bit : (service : Service) (priority : Priority) (count : FrameCount) → has_bit (0x40 + (if is_answered service then count_bits count else 0) + code_of service priority) 6 ≡ true
+code-bit Sda High First = refl
+code-bit Sda High Clear = refl
+code-bit Sda High Set = refl
+code-bit Sda Low First = refl
+code-bit Sda Low Clear = refl
+code-bit Sda Low Set = refl
+code-bit Sdn High count = refl
+code-bit Sdn Low count = refl
+code-bit Srd High First = refl
+code-bit Srd High Clear = refl
+code-bit Srd High Set = refl
+code-bit Srd Low First = refl
+code-bit Srd Low Clear = refl
+code-bit Srd Low Set = refl
 
 pub open-request : (t : InitiatorTable) (ts : ℕ) (r : RequestFields) → IsRequest r → MayBeOpen (after_request t ts r)
 open-request t ts r is =
-    by_test MayBeOpen (is_answered r.service) _ _ (λ e. record { addressed = answered-address r.da r.service is.addressed e; fits = is.fits; request = code-bit r.service r.high (count_at t.counts r.da) }) (λ _. tt)
+    by_test MayBeOpen (is_answered r.service) _ _ (λ e. record { addressed = answered-address r.da r.service is.addressed e; fits = is.fits; request = code-bit r.service (priority_of r.high) (count_at t.counts r.da) }) (λ _. tt)
 
 -- ---- the requests that wait
 

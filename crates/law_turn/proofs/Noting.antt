@@ -7,6 +7,7 @@ use Rattle.pb_telegram.specs.declared.chars.RxChar.{RxChar}
 use Rattle.pb_timers.specs.Timers.{Params}
 use Rattle.pb_ring.specs.Las as las
 use Rattle.pb_ring.specs.Las.{is_complete}
+use Rattle.pb_cycles.specs.declared.services.Priority.TheVariants.{Low, High}
 use Rattle.pb_cycles.specs.Fields.{Fields}
 use Rattle.pb_cycles.specs.Messages.{has_bit, address_in}
 use Rattle.pb_cycles.specs.Requests.{asked_by}
@@ -210,13 +211,13 @@ no-status a n other asks = absurd (let wrong : false ≡ true = sym other ∙ as
 status-code : (n : ℕ) → is_status (asked_by n) ≡ true → n ≡ 9
 status-code n =
     let Q : Asked → Type 0 = λ a. is_status a ≡ true → n ≡ 9 in
-    by_test Q (n == 3) (Send Sda false) _ (λ _. no-status (Send Sda false) n refl)
-    (λ _. by_test Q (n == 4) (Send Sdn false) _ (λ _. no-status (Send Sdn false) n refl)
-    (λ _. by_test Q (n == 5) (Send Sda true) _ (λ _. no-status (Send Sda true) n refl)
-    (λ _. by_test Q (n == 6) (Send Sdn true) _ (λ _. no-status (Send Sdn true) n refl)
+    by_test Q (n == 3) (Send Sda Low) _ (λ _. no-status (Send Sda Low) n refl)
+    (λ _. by_test Q (n == 4) (Send Sdn Low) _ (λ _. no-status (Send Sdn Low) n refl)
+    (λ _. by_test Q (n == 5) (Send Sda High) _ (λ _. no-status (Send Sda High) n refl)
+    (λ _. by_test Q (n == 6) (Send Sdn High) _ (λ _. no-status (Send Sdn High) n refl)
     (λ _. by_test Q (n == 9) Status _ (λ nine asks. eqb-true n 9 nine)
-    (λ _. by_test Q (n == 12) (Send Srd false) _ (λ _. no-status (Send Srd false) n refl)
-    (λ _. by_test Q (n == 13) (Send Srd true) Unknown (λ _. no-status (Send Srd true) n refl) (λ _. no-status Unknown n refl)))))))
+    (λ _. by_test Q (n == 12) (Send Srd Low) _ (λ _. no-status (Send Srd Low) n refl)
+    (λ _. by_test Q (n == 13) (Send Srd High) Unknown (λ _. no-status (Send Srd High) n refl) (λ _. no-status Unknown n refl)))))))
 
 asks-parts : (ts : ℕ) (f : Fields) → asks_status ts f ≡ true → (has_bit f.fc 6 ≡ true) × (is_status (asked_by (f.fc % 16)) ≡ true) × ((address_in f.da == ts) ≡ true)
 asks-parts ts f asks =

@@ -154,7 +154,7 @@ says-ready p s doubled at f asks complete =
 
 status-asked : (t : ResponderTable) (ts station_type : ℕ) (f : Fields) (asked : Asked) → is_status asked ≡ true → (address_in f.da == ts) ≡ true
     → reply_to_asked t ts station_type f asked ≡ Some (reply_frame ts station_type f 0 [])
-status-asked t ts station_type f (Send service high) e here = absurd (let wrong : false ≡ true = e in cc)
+status-asked t ts station_type f (Send service priority) e here = absurd (let wrong : false ≡ true = e in cc)
 status-asked t ts station_type f Status e here = ap (λ (b : Bool). if b then Some (reply_frame ts station_type f 0 []) else None) here
 status-asked t ts station_type f Unknown e here = absurd (let wrong : false ≡ true = e in cc)
 

@@ -15,12 +15,13 @@ use Rattle.pb_cycles.specs.declared.messages.Reply as cycles
 use Rattle.pb_cycles.specs.Queued.{Queued, put}
 use Rattle.pb_cycles.specs.RequestFields.{RequestFields}
 use Rattle.pb_cycles.specs.Requests.{is_answered}
-use Rattle.pb_cycles.specs.Counts.{count_at, count_bits}
+use Rattle.pb_cycles.specs.Counts.{count_at}
+use Rattle.pb_telegram.specs.Control.{count_bits}
 use Rattle.pb_cycles.specs.Initiating.{bits_for, first_sending, after_request, retry_of, message_outcome, outcome_of}
 use Rattle.pb_cycles.specs.Outcomes.{reply_outcome}
 use Rattle.pb_cycles.specs.Responding.{reply_to_framed}
-use Rattle.pb_cycles.specs.declared.counts.FrameCount.{FrameCount}
-use Rattle.pb_cycles.specs.declared.counts.FrameCount.TheVariants.{First}
+use Rattle.pb_telegram.specs.declared.control.FrameCount.{FrameCount}
+use Rattle.pb_telegram.specs.declared.control.FrameCount.TheVariants.{First}
 use Rattle.pb_cycles.specs.declared.initiators.OpenRequest.{OpenRequest}
 use Rattle.pb_cycles.specs.declared.outcomes.Outcome.{Outcome}
 use Rattle.pb_cycles.specs.declared.outcomes.Outcome.TheVariants.{Acked, NoAnswer}

@@ -127,7 +127,7 @@ abbrev pub in_ring : ℕ
 in_ring = 3
 
 abbrev pub is_status : Asked → Bool
-is_status (Send service high) = false
+is_status (Send service priority) = false
 is_status Status = true
 is_status Unknown = false
 

@@ -9,7 +9,7 @@ use Rattle.pb_rotation.specs.Rotation.{Rotation, fresh}
 use Rattle.pb_cycles.specs.Queued.{Queued, put}
 use Rattle.pb_cycles.specs.RequestFields.{RequestFields}
 use Rattle.pb_cycles.specs.Tables.{InitiatorTable, ResponderTable}
-use Rattle.pb_cycles.specs.declared.counts.FrameCount.TheVariants.{First}
+use Rattle.pb_telegram.specs.declared.control.FrameCount.TheVariants.{First}
 use Rattle.pb_cycles.specs.declared.outcomes.Outcome.{Outcome}
 use Rattle.law_turn.specs.Spans.{Span}
 use Rattle.law_turn.specs.Marks.{Mark, seen_at}

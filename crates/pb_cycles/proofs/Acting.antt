@@ -13,12 +13,13 @@ use Rattle.pb_cycles.specs.declared.services.Service.{Service}
 use Rattle.pb_cycles.specs.declared.services.Service.TheVariants.{Sda, Sdn, Srd}
 use Rattle.pb_cycles.proofs.NewestActs.{reverse-more, after_last-more, after_last-ends, count_by-more}
 use Rattle.pb_cycles.specs.Acts.{Act, Told, Opened, Closed, sending_act, is_opening_to, is_unanswered_at, is_no_answer, number_to, count_of, open_in, retries_in, InitiatorStandsFor}
-use Rattle.pb_cycles.specs.Counts.{count_after, count_at}
+use Rattle.pb_cycles.specs.Counts.{count_at}
+use Rattle.pb_telegram.specs.Control.{count_after}
 use Rattle.pb_cycles.specs.Initiating.{first_sending, with_request, without_request, without_answer, after_request, outcome_of, after_outcome, closed_by}
 use Rattle.pb_cycles.specs.Outcomes.{code_outcome, reply_outcome, is_reply_between}
 use Rattle.pb_cycles.specs.Tables.{InitiatorTable}
-use Rattle.pb_cycles.specs.declared.counts.FrameCount.{FrameCount}
-use Rattle.pb_cycles.specs.declared.counts.FrameCount.TheVariants.{First}
+use Rattle.pb_telegram.specs.declared.control.FrameCount.{FrameCount}
+use Rattle.pb_telegram.specs.declared.control.FrameCount.TheVariants.{First}
 use Rattle.pb_cycles.specs.declared.initiators.OpenRequest.{OpenRequest}
 use Rattle.pb_cycles.specs.declared.outcomes.Outcome.{Outcome}
 use Rattle.pb_cycles.specs.declared.outcomes.Outcome.TheVariants.{Acked, Data, NoResource, NoAnswer}

@@ -166,9 +166,9 @@ told_effect ts t false = inl (refl, refl, refl)
 
 asked_effect : (ts station_type : ℕ) (t : ResponderTable) (f : Fields) (asked : Asked)
     → Effect ts t (asked_calls ts station_type f asked) (is_told_by ts f asked) (after_asked t ts station_type f asked)
-asked_effect ts station_type t f (Send Sda high) = call_effect ts t (record { station_type = station_type; frame = f; service = Sda; high = high }) (address_in f.da == ts)
-asked_effect ts station_type t f (Send Sdn high) = told_effect ts t (address_in f.da == ts || address_in f.da == 127)
-asked_effect ts station_type t f (Send Srd high) = call_effect ts t (record { station_type = station_type; frame = f; service = Srd; high = high }) (address_in f.da == ts)
+asked_effect ts station_type t f (Send Sda priority) = call_effect ts t (record { station_type = station_type; frame = f; service = Sda; priority = priority }) (address_in f.da == ts)
+asked_effect ts station_type t f (Send Sdn priority) = told_effect ts t (address_in f.da == ts || address_in f.da == 127)
+asked_effect ts station_type t f (Send Srd priority) = call_effect ts t (record { station_type = station_type; frame = f; service = Srd; priority = priority }) (address_in f.da == ts)
 asked_effect ts station_type t f Status = inl (refl, refl, refl)
 asked_effect ts station_type t f Unknown = inl (refl, refl, refl)
 

@@ -6,21 +6,24 @@ use Rattle.std.proofs.lemmas.List.Elements.{All-append}
 use Rattle.pb_cycles.specs.Fields.{Fields}
 use Rattle.pb_cycles.specs.Messages.{has_bit, address_in, heard_as}
 use Rattle.pb_cycles.specs.RequestFields.{RequestFields}
-use Rattle.pb_cycles.specs.Requests.{is_answered, asked_by, code_of}
+use Rattle.pb_cycles.specs.Requests.{is_answered, priority_of, asked_by, code_of}
 use Rattle.pb_cycles.specs.declared.messages.Message.{Message}
 use Rattle.pb_cycles.specs.declared.messages.Message.TheVariants.{Framed}
 use Rattle.pb_cycles.specs.declared.messages.Reply.{Reply}
 use Rattle.pb_cycles.specs.declared.services.Asked.{Asked}
 use Rattle.pb_cycles.specs.declared.services.Asked.TheVariants.{Send}
+use Rattle.pb_cycles.specs.declared.services.Priority.{Priority}
+use Rattle.pb_cycles.specs.declared.services.Priority.TheVariants.{Low, High}
 use Rattle.pb_cycles.specs.declared.services.Service.{Service}
 use Rattle.pb_cycles.specs.declared.services.Service.TheVariants.{Sda, Sdn, Srd}
-use Rattle.pb_cycles.specs.Counts.{count_bits, count_after, count_at}
+use Rattle.pb_cycles.specs.Counts.{count_at}
+use Rattle.pb_telegram.specs.Control.{count_bits, count_after}
 use Rattle.pb_cycles.specs.Initiating.{with_request, without_request, retry_of, retried, silence_outcome, after_silence, closed_by, outcome_of}
 use Rattle.pb_cycles.specs.Link.{Link, Fate, RequestLost, ReplyLost, Delivered, Cycle, arrive, unanswered, resend, retry, conclude, receive, sendings, cycle, cycles, IsCallTo, ExecutesOnce}
 use Rattle.pb_cycles.specs.Responding.{same_bit, is_repeat, executed, once, reply_once, kept_reply, service_reply, after_service, reply_to_service, after_asked, reply_to_asked, after_message, reply_to_message}
 use Rattle.pb_cycles.specs.Tables.{InitiatorTable, ResponderTable}
-use Rattle.pb_cycles.specs.declared.counts.FrameCount.{FrameCount}
-use Rattle.pb_cycles.specs.declared.counts.FrameCount.TheVariants.{First, Clear, Set}
+use Rattle.pb_telegram.specs.declared.control.FrameCount.{FrameCount}
+use Rattle.pb_telegram.specs.declared.control.FrameCount.TheVariants.{First, Clear, Set}
 use Rattle.pb_cycles.specs.declared.initiators.OpenRequest.{OpenRequest}
 use Rattle.pb_cycles.specs.declared.outcomes.Outcome.{Outcome}
 use Rattle.pb_cycles.specs.declared.responders.Kept.{Kept}
@@ -28,45 +31,45 @@ use Rattle.pb_cycles.specs.declared.responders.Kept.{Kept}
 -- ---- a call at the responder
 
 -- the telegram of an SDA or SRD over the link
-record IsCall (l : Link) (f : Fields) (service : Service) (high : Bool) : Type 0 where
+record IsCall (l : Link) (f : Fields) (service : Service) (priority : Priority) : Type 0 where
   da : f.da ≡ l.d
   station : l.d ≤ 126
   request : has_bit f.fc 6 ≡ true
-  asks : asked_by (f.fc % 16) ≡ Send service high
+  asks : asked_by (f.fc % 16) ≡ Send service priority
   is_call : is_answered service ≡ true
 
 is_here : (l : Link) (f : Fields) → f.da ≡ l.d → l.d ≤ 126 → (address_in f.da == l.d) ≡ true
 is_here l f e b = eq-eqb _ _ (omega arith)
 
-service_here : (t : ResponderTable) (ts station_type : ℕ) (f : Fields) (service : Service) (high : Bool) → is_answered service ≡ true → (address_in f.da == ts) ≡ true
-    → after_service t ts station_type f service high ≡ once t f (service_reply ts station_type f service high t.reply)
-service_here t ts station_type f Sda high e h =
-    subst (λ b. (if b then once t f (service_reply ts station_type f Sda high t.reply) else t) ≡ once t f (service_reply ts station_type f Sda high t.reply)) (sym h) refl
-service_here t ts station_type f Sdn high e h = absurd cc
-service_here t ts station_type f Srd high e h =
-    subst (λ b. (if b then once t f (service_reply ts station_type f Srd high t.reply) else t) ≡ once t f (service_reply ts station_type f Srd high t.reply)) (sym h) refl
+service_here : (t : ResponderTable) (ts station_type : ℕ) (f : Fields) (service : Service) (priority : Priority) → is_answered service ≡ true → (address_in f.da == ts) ≡ true
+    → after_service t ts station_type f service priority ≡ once t f (service_reply ts station_type f service priority t.reply)
+service_here t ts station_type f Sda priority e h =
+    subst (λ b. (if b then once t f (service_reply ts station_type f Sda priority t.reply) else t) ≡ once t f (service_reply ts station_type f Sda priority t.reply)) (sym h) refl
+service_here t ts station_type f Sdn priority e h = absurd cc
+service_here t ts station_type f Srd priority e h =
+    subst (λ b. (if b then once t f (service_reply ts station_type f Srd priority t.reply) else t) ≡ once t f (service_reply ts station_type f Srd priority t.reply)) (sym h) refl
 
-reply_here : (t : ResponderTable) (ts station_type : ℕ) (f : Fields) (service : Service) (high : Bool) → is_answered service ≡ true → (address_in f.da == ts) ≡ true
-    → reply_to_service t ts station_type f service high ≡ reply_once t f (service_reply ts station_type f service high t.reply)
-reply_here t ts station_type f Sda high e h =
-    subst (λ b. (if b then reply_once t f (service_reply ts station_type f Sda high t.reply) else None) ≡ reply_once t f (service_reply ts station_type f Sda high t.reply)) (sym h) refl
-reply_here t ts station_type f Sdn high e h = absurd cc
-reply_here t ts station_type f Srd high e h =
-    subst (λ b. (if b then reply_once t f (service_reply ts station_type f Srd high t.reply) else None) ≡ reply_once t f (service_reply ts station_type f Srd high t.reply)) (sym h) refl
+reply_here : (t : ResponderTable) (ts station_type : ℕ) (f : Fields) (service : Service) (priority : Priority) → is_answered service ≡ true → (address_in f.da == ts) ≡ true
+    → reply_to_service t ts station_type f service priority ≡ reply_once t f (service_reply ts station_type f service priority t.reply)
+reply_here t ts station_type f Sda priority e h =
+    subst (λ b. (if b then reply_once t f (service_reply ts station_type f Sda priority t.reply) else None) ≡ reply_once t f (service_reply ts station_type f Sda priority t.reply)) (sym h) refl
+reply_here t ts station_type f Sdn priority e h = absurd cc
+reply_here t ts station_type f Srd priority e h =
+    subst (λ b. (if b then reply_once t f (service_reply ts station_type f Srd priority t.reply) else None) ≡ reply_once t f (service_reply ts station_type f Srd priority t.reply)) (sym h) refl
 
-call_after : (l : Link) (f : Fields) (service : Service) (high : Bool) (t : ResponderTable) → IsCall l f service high
-    → after_message t l.d l.station_type (Framed f) ≡ once t f (service_reply l.d l.station_type f service high t.reply)
-call_after l f service high t c =
-    subst (λ b. (if b then after_asked t l.d l.station_type f (asked_by (f.fc % 16)) else t) ≡ once t f (service_reply l.d l.station_type f service high t.reply)) (sym c.request)
-    (subst (λ (a : Asked). after_asked t l.d l.station_type f a ≡ once t f (service_reply l.d l.station_type f service high t.reply)) (sym c.asks)
-    (service_here t l.d l.station_type f service high c.is_call (is_here l f c.da c.station)))
+call_after : (l : Link) (f : Fields) (service : Service) (priority : Priority) (t : ResponderTable) → IsCall l f service priority
+    → after_message t l.d l.station_type (Framed f) ≡ once t f (service_reply l.d l.station_type f service priority t.reply)
+call_after l f service priority t c =
+    subst (λ b. (if b then after_asked t l.d l.station_type f (asked_by (f.fc % 16)) else t) ≡ once t f (service_reply l.d l.station_type f service priority t.reply)) (sym c.request)
+    (subst (λ (a : Asked). after_asked t l.d l.station_type f a ≡ once t f (service_reply l.d l.station_type f service priority t.reply)) (sym c.asks)
+    (service_here t l.d l.station_type f service priority c.is_call (is_here l f c.da c.station)))
 
-call_reply : (l : Link) (f : Fields) (service : Service) (high : Bool) (t : ResponderTable) → IsCall l f service high
-    → reply_to_message t l.d l.station_type (Framed f) ≡ reply_once t f (service_reply l.d l.station_type f service high t.reply)
-call_reply l f service high t c =
-    subst (λ b. (if b then reply_to_asked t l.d l.station_type f (asked_by (f.fc % 16)) else None) ≡ reply_once t f (service_reply l.d l.station_type f service high t.reply)) (sym c.request)
-    (subst (λ (a : Asked). reply_to_asked t l.d l.station_type f a ≡ reply_once t f (service_reply l.d l.station_type f service high t.reply)) (sym c.asks)
-    (reply_here t l.d l.station_type f service high c.is_call (is_here l f c.da c.station)))
+call_reply : (l : Link) (f : Fields) (service : Service) (priority : Priority) (t : ResponderTable) → IsCall l f service priority
+    → reply_to_message t l.d l.station_type (Framed f) ≡ reply_once t f (service_reply l.d l.station_type f service priority t.reply)
+call_reply l f service priority t c =
+    subst (λ b. (if b then reply_to_asked t l.d l.station_type f (asked_by (f.fc % 16)) else None) ≡ reply_once t f (service_reply l.d l.station_type f service priority t.reply)) (sym c.request)
+    (subst (λ (a : Asked). reply_to_asked t l.d l.station_type f a ≡ reply_once t f (service_reply l.d l.station_type f service priority t.reply)) (sym c.asks)
+    (reply_here t l.d l.station_type f service priority c.is_call (is_here l f c.da c.station)))
 
 -- ---- repeats
 
@@ -261,29 +264,29 @@ module _ (l : Link) (f : Fields) (next : FrameCount) (reply : Reply) (unit : Lis
     one r e zero d h = e
     one r e (suc k) d h = absurd (omega arith)
 
-module _ (l : Link) (f : Fields) (next : FrameCount) (unit : List ℕ) (service : Service) (high : Bool) (call : IsCall l f service high)
-    (fits : Matches next l.ts (kept_of f (service_reply l.d l.station_type f service high unit))) where
-  some-arrived : (c : Cycle) → Going l f next (service_reply l.d l.station_type f service high unit) unit c
-      → SomeArrived f (service_reply l.d l.station_type f service high unit) (arrive l c f).responder.kept (arrive l c f).arrived (arrive l c f).executed
+module _ (l : Link) (f : Fields) (next : FrameCount) (unit : List ℕ) (service : Service) (priority : Priority) (call : IsCall l f service priority)
+    (fits : Matches next l.ts (kept_of f (service_reply l.d l.station_type f service priority unit))) where
+  some-arrived : (c : Cycle) → Going l f next (service_reply l.d l.station_type f service priority unit) unit c
+      → SomeArrived f (service_reply l.d l.station_type f service priority unit) (arrive l c f).responder.kept (arrive l c f).arrived (arrive l c f).executed
   some-arrived c g =
-      subst (λ (t : ResponderTable). SomeArrived f (service_reply l.d l.station_type f service high unit) t.kept (c.arrived + 1) (c.executed + (if is_repeat c.responder.kept f then 0 else 1)))
-      (sym (call_after l f service high c.responder call))
-      (subst (λ (u : List ℕ). SomeArrived f (service_reply l.d l.station_type f service high unit) (once c.responder f (service_reply l.d l.station_type f service high u)).kept
+      subst (λ (t : ResponderTable). SomeArrived f (service_reply l.d l.station_type f service priority unit) t.kept (c.arrived + 1) (c.executed + (if is_repeat c.responder.kept f then 0 else 1)))
+      (sym (call_after l f service priority c.responder call))
+      (subst (λ (u : List ℕ). SomeArrived f (service_reply l.d l.station_type f service priority unit) (once c.responder f (service_reply l.d l.station_type f service priority u)).kept
       (c.arrived + 1) (c.executed + (if is_repeat c.responder.kept f then 0 else 1))) (sym g.data_unit)
-      (one_arrives f (service_reply l.d l.station_type f service high unit) c.responder c.arrived c.executed (is_repeat c.responder.kept f) refl g.arrivals))
+      (one_arrives f (service_reply l.d l.station_type f service priority unit) c.responder c.arrived c.executed (is_repeat c.responder.kept f) refl g.arrivals))
 
-  arrive-going : (c : Cycle) → Going l f next (service_reply l.d l.station_type f service high unit) unit c
-      → Going l f next (service_reply l.d l.station_type f service high unit) unit (arrive l c f)
+  arrive-going : (c : Cycle) → Going l f next (service_reply l.d l.station_type f service priority unit) unit c
+      → Going l f next (service_reply l.d l.station_type f service priority unit) unit (arrive l c f)
   arrive-going c g =
-      arrived-by l f next (service_reply l.d l.station_type f service high unit) unit c _ _ _ g
-      (ap (λ (t : ResponderTable). t.reply) (call_after l f service high c.responder call)
+      arrived-by l f next (service_reply l.d l.station_type f service priority unit) unit c _ _ _ g
+      (ap (λ (t : ResponderTable). t.reply) (call_after l f service priority c.responder call)
       ∙ same_data c.responder f _ (is_repeat c.responder.kept f) ∙ g.data_unit)
-      (call_reply l f service high c.responder call
-      ∙ ap (λ (u : List ℕ). reply_once c.responder f (service_reply l.d l.station_type f service high u)) g.data_unit
+      (call_reply l f service priority c.responder call
+      ∙ ap (λ (u : List ℕ). reply_once c.responder f (service_reply l.d l.station_type f service priority u)) g.data_unit
       ∙ one_reply f _ c.responder c.arrived c.executed (is_repeat c.responder.kept f) refl g.arrivals)
       (some-arrived c g)
 
-  sendings-done : (c : Cycle) (fates : List Fate) → Going l f next (service_reply l.d l.station_type f service high unit) unit c → Done l (sendings l c f fates)
+  sendings-done : (c : Cycle) (fates : List Fate) → Going l f next (service_reply l.d l.station_type f service priority unit) unit c → Done l (sendings l c f fates)
   sendings-done c [] g = unanswered-done l f next _ unit c g call.da call.station
   sendings-done c (RequestLost ∷ fates) g =
       retry-done l f next _ unit c _ g call.da call.station (λ q h. sendings-done q fates h)
@@ -294,24 +297,24 @@ module _ (l : Link) (f : Fields) (next : FrameCount) (unit : List ℕ) (service 
 
 -- ---- a cycle, from its request on
 
-abbrev call_frame : Link → Service → Bool → List ℕ → FrameCount → Fields
-call_frame l service high unit count = record { da = l.d; sa = l.ts; fc = 0x40 + count_bits count + code_of service high; unit = unit }
+abbrev call_frame : Link → Service → Priority → List ℕ → FrameCount → Fields
+call_frame l service priority unit count = record { da = l.d; sa = l.ts; fc = 0x40 + count_bits count + code_of service priority; unit = unit }
 
-is_call : (l : Link) (service : Service) (high : Bool) (unit : List ℕ) (count : FrameCount) → l.d ≤ 126 → is_answered service ≡ true
-    → IsCall l (call_frame l service high unit count) service high
-is_call l Sda true unit First b e = record { da = refl; station = b; request = refl; asks = refl; is_call = refl }
-is_call l Sda true unit Clear b e = record { da = refl; station = b; request = refl; asks = refl; is_call = refl }
-is_call l Sda true unit Set b e = record { da = refl; station = b; request = refl; asks = refl; is_call = refl }
-is_call l Sda false unit First b e = record { da = refl; station = b; request = refl; asks = refl; is_call = refl }
-is_call l Sda false unit Clear b e = record { da = refl; station = b; request = refl; asks = refl; is_call = refl }
-is_call l Sda false unit Set b e = record { da = refl; station = b; request = refl; asks = refl; is_call = refl }
-is_call l Sdn high unit count b e = absurd cc
-is_call l Srd true unit First b e = record { da = refl; station = b; request = refl; asks = refl; is_call = refl }
-is_call l Srd true unit Clear b e = record { da = refl; station = b; request = refl; asks = refl; is_call = refl }
-is_call l Srd true unit Set b e = record { da = refl; station = b; request = refl; asks = refl; is_call = refl }
-is_call l Srd false unit First b e = record { da = refl; station = b; request = refl; asks = refl; is_call = refl }
-is_call l Srd false unit Clear b e = record { da = refl; station = b; request = refl; asks = refl; is_call = refl }
-is_call l Srd false unit Set b e = record { da = refl; station = b; request = refl; asks = refl; is_call = refl }
+is_call : (l : Link) (service : Service) (priority : Priority) (unit : List ℕ) (count : FrameCount) → l.d ≤ 126 → is_answered service ≡ true
+    → IsCall l (call_frame l service priority unit count) service priority
+is_call l Sda High unit First b e = record { da = refl; station = b; request = refl; asks = refl; is_call = refl }
+is_call l Sda High unit Clear b e = record { da = refl; station = b; request = refl; asks = refl; is_call = refl }
+is_call l Sda High unit Set b e = record { da = refl; station = b; request = refl; asks = refl; is_call = refl }
+is_call l Sda Low unit First b e = record { da = refl; station = b; request = refl; asks = refl; is_call = refl }
+is_call l Sda Low unit Clear b e = record { da = refl; station = b; request = refl; asks = refl; is_call = refl }
+is_call l Sda Low unit Set b e = record { da = refl; station = b; request = refl; asks = refl; is_call = refl }
+is_call l Sdn priority unit count b e = absurd cc
+is_call l Srd High unit First b e = record { da = refl; station = b; request = refl; asks = refl; is_call = refl }
+is_call l Srd High unit Clear b e = record { da = refl; station = b; request = refl; asks = refl; is_call = refl }
+is_call l Srd High unit Set b e = record { da = refl; station = b; request = refl; asks = refl; is_call = refl }
+is_call l Srd Low unit First b e = record { da = refl; station = b; request = refl; asks = refl; is_call = refl }
+is_call l Srd Low unit Clear b e = record { da = refl; station = b; request = refl; asks = refl; is_call = refl }
+is_call l Srd Low unit Set b e = record { da = refl; station = b; request = refl; asks = refl; is_call = refl }
 
 -- bits 4 and 5 of the control octet
 abbrev counts_of : FrameCount → Bool
@@ -324,21 +327,21 @@ bit_of First = true
 bit_of Clear = false
 bit_of Set = true
 
-bits_are : (service : Service) (high : Bool) (count : FrameCount) → is_answered service ≡ true
-    → (has_bit (0x40 + count_bits count + code_of service high) 4 ≡ counts_of count) × (has_bit (0x40 + count_bits count + code_of service high) 5 ≡ bit_of count)
-bits_are Sda true First e = (refl, refl)
-bits_are Sda true Clear e = (refl, refl)
-bits_are Sda true Set e = (refl, refl)
-bits_are Sda false First e = (refl, refl)
-bits_are Sda false Clear e = (refl, refl)
-bits_are Sda false Set e = (refl, refl)
-bits_are Sdn high count e = absurd cc
-bits_are Srd true First e = (refl, refl)
-bits_are Srd true Clear e = (refl, refl)
-bits_are Srd true Set e = (refl, refl)
-bits_are Srd false First e = (refl, refl)
-bits_are Srd false Clear e = (refl, refl)
-bits_are Srd false Set e = (refl, refl)
+bits_are : (service : Service) (priority : Priority) (count : FrameCount) → is_answered service ≡ true
+    → (has_bit (0x40 + count_bits count + code_of service priority) 4 ≡ counts_of count) × (has_bit (0x40 + count_bits count + code_of service priority) 5 ≡ bit_of count)
+bits_are Sda High First e = (refl, refl)
+bits_are Sda High Clear e = (refl, refl)
+bits_are Sda High Set e = (refl, refl)
+bits_are Sda Low First e = (refl, refl)
+bits_are Sda Low Clear e = (refl, refl)
+bits_are Sda Low Set e = (refl, refl)
+bits_are Sdn priority count e = absurd cc
+bits_are Srd High First e = (refl, refl)
+bits_are Srd High Clear e = (refl, refl)
+bits_are Srd High Set e = (refl, refl)
+bits_are Srd Low First e = (refl, refl)
+bits_are Srd Low Clear e = (refl, refl)
+bits_are Srd Low Set e = (refl, refl)
 
 abbrev kept_as : ℕ → Reply → Bool → Option Kept
 kept_as a reply bit = Some (record { requester = a; bit = bit; reply = reply })
@@ -368,11 +371,11 @@ none P k d h = absurd (omega arith)
 
 module _ (l : Link) (i : InitiatorTable) (t : ResponderTable) (bound : l.d ≤ 126) (ready : Ready l i t) where
   started : (service : Service) (high : Bool) (unit : List ℕ) (reply : Reply) → is_answered service ≡ true
-      → Going l (call_frame l service high unit (count_at i.counts l.d)) (count_after (count_at i.counts l.d)) reply t.reply
+      → Going l (call_frame l service (priority_of high) unit (count_at i.counts l.d)) (count_after (count_at i.counts l.d)) reply t.reply
       (record {
-        initiator = with_request i (record { da = l.d; service = service; high = high; unit = unit }) (call_frame l service high unit (count_at i.counts l.d));
+        initiator = with_request i (record { da = l.d; service = service; high = high; unit = unit }) (call_frame l service (priority_of high) unit (count_at i.counts l.d));
         responder = t;
-        sent = call_frame l service high unit (count_at i.counts l.d);
+        sent = call_frame l service (priority_of high) unit (count_at i.counts l.d);
         arrived = 0;
         executed = 0;
         replies = [];
@@ -380,7 +383,7 @@ module _ (l : Link) (i : InitiatorTable) (t : ResponderTable) (bound : l.d ≤ 1
       })
   started service high unit reply e =
       let many : length i.counts ≡ 127 = ready.stations in
-      let bits = bits_are service high (count_at i.counts l.d) e in
+      let bits = bits_are service (priority_of high) (count_at i.counts l.d) e in
       record {
         stations = length-set i.counts l.d _ ∙ ready.stations;
         counts = get_or-set_same i.counts l.d _ First (omega arith);
@@ -395,12 +398,12 @@ module _ (l : Link) (i : InitiatorTable) (t : ResponderTable) (bound : l.d ≤ 1
   call-done : (service : Service) (high : Bool) (unit : List ℕ) (fates : List Fate) → is_answered service ≡ true
       → Done l (cycle l i t (record { da = l.d; service = service; high = high; unit = unit }) fates)
   call-done Sda high unit fates e =
-      sendings-done l _ (count_after (count_at i.counts l.d)) t.reply Sda high (is_call l Sda high unit (count_at i.counts l.d) bound e)
-      (followed l.ts (count_at i.counts l.d) _ _ (bits_are Sda high (count_at i.counts l.d) e).1) _ fates (started Sda high unit _ e)
+      sendings-done l _ (count_after (count_at i.counts l.d)) t.reply Sda (priority_of high) (is_call l Sda (priority_of high) unit (count_at i.counts l.d) bound e)
+      (followed l.ts (count_at i.counts l.d) _ _ (bits_are Sda (priority_of high) (count_at i.counts l.d) e).1) _ fates (started Sda high unit _ e)
   call-done Sdn high unit fates e = absurd cc
   call-done Srd high unit fates e =
-      sendings-done l _ (count_after (count_at i.counts l.d)) t.reply Srd high (is_call l Srd high unit (count_at i.counts l.d) bound e)
-      (followed l.ts (count_at i.counts l.d) _ _ (bits_are Srd high (count_at i.counts l.d) e).1) _ fates (started Srd high unit _ e)
+      sendings-done l _ (count_after (count_at i.counts l.d)) t.reply Srd (priority_of high) (is_call l Srd (priority_of high) unit (count_at i.counts l.d) bound e)
+      (followed l.ts (count_at i.counts l.d) _ _ (bits_are Srd (priority_of high) (count_at i.counts l.d) e).1) _ fates (started Srd high unit _ e)
 
   cycle-done : (r : RequestFields) (fates : List Fate) → IsCallTo l r → Done l (cycle l i t r fates)
   cycle-done r fates (e, at) =

@@ -3,9 +3,11 @@ use Rattle.std.proofs.Common.{◌≡◌, ◌∙◌, refl, ap, ℕ, ◌+◌, ◌*
 use Rattle.std.proofs.lemmas.Bool.{eq-eqb, ne_eqb}
 use Rattle.pb_cycles.specs.Fields.{Fields}
 use Rattle.pb_cycles.specs.Messages.{has_bit, address_in, heard_as}
-use Rattle.pb_cycles.specs.Requests.{is_answered}
+use Rattle.pb_cycles.specs.Requests.{is_answered, is_high}
 use Rattle.pb_cycles.specs.declared.messages.Reply.{Reply}
 use Rattle.pb_cycles.specs.declared.messages.Reply.TheVariants.{Acknowledge}
+use Rattle.pb_cycles.specs.declared.services.Priority.{Priority}
+use Rattle.pb_cycles.specs.declared.services.Priority.TheVariants.{Low, High}
 use Rattle.pb_cycles.specs.declared.services.Service.{Service}
 use Rattle.pb_cycles.specs.declared.services.Service.TheVariants.{Sda, Sdn, Srd}
 use Rattle.pb_cycles.specs.Outcomes.{code_outcome, reply_outcome}
@@ -65,38 +67,38 @@ extended : (ts d station_type : ℕ) (f : Fields) (otherwise : Reply) (extension
 extended ts d station_type f otherwise true e t b h s = understood ts d station_type f 3 [] t b h s replied_3
 extended ts d station_type f otherwise false e t b h s = absurd cc
 
-pub extension : (ts d station_type : ℕ) (f : Fields) (service : Service) (high : Bool) (unit : List ℕ) → ts ≤ 126 → d ≤ 126 → station_type ≤ 3 → f.sa ≡ ts
-    → is_answered service ≡ true → has_bit f.da 7 ≡ true → reply_outcome ts d (heard_as (service_reply d station_type f service high unit)) ≡ Some NoResource
-extension ts d station_type f Sda high unit t b h s a e = extended ts d station_type f Acknowledge (has_bit f.da 7) e t b h s
-extension ts d station_type f Sdn high unit t b h s a e = absurd cc
-extension ts d station_type f Srd high unit t b h s a e = extended ts d station_type f (data_reply d station_type f high unit) (has_bit f.da 7) e t b h s
+pub extension : (ts d station_type : ℕ) (f : Fields) (service : Service) (priority : Priority) (unit : List ℕ) → ts ≤ 126 → d ≤ 126 → station_type ≤ 3 → f.sa ≡ ts
+    → is_answered service ≡ true → has_bit f.da 7 ≡ true → reply_outcome ts d (heard_as (service_reply d station_type f service priority unit)) ≡ Some NoResource
+extension ts d station_type f Sda priority unit t b h s a e = extended ts d station_type f Acknowledge (has_bit f.da 7) e t b h s
+extension ts d station_type f Sdn priority unit t b h s a e = absurd cc
+extension ts d station_type f Srd priority unit t b h s a e = extended ts d station_type f (data_reply d station_type f priority unit) (has_bit f.da 7) e t b h s
 
 plain : (ts d : ℕ) (extended otherwise : Reply) (extension : Bool) → extension ≡ false
     → reply_outcome ts d (heard_as (if extension then extended else otherwise)) ≡ reply_outcome ts d (heard_as otherwise)
 plain ts d extended otherwise true e = absurd cc
 plain ts d extended otherwise false e = refl
 
-pub sda : (ts d station_type : ℕ) (f : Fields) (high : Bool) (unit : List ℕ) → has_bit f.da 7 ≡ false
-    → reply_outcome ts d (heard_as (service_reply d station_type f Sda high unit)) ≡ Some Acked
-sda ts d station_type f high unit e = plain ts d (reply_frame d station_type f 3 []) Acknowledge (has_bit f.da 7) e
+pub sda : (ts d station_type : ℕ) (f : Fields) (priority : Priority) (unit : List ℕ) → has_bit f.da 7 ≡ false
+    → reply_outcome ts d (heard_as (service_reply d station_type f Sda priority unit)) ≡ Some Acked
+sda ts d station_type f priority unit e = plain ts d (reply_frame d station_type f 3 []) Acknowledge (has_bit f.da 7) e
 
-pub srd : (ts d station_type : ℕ) (f : Fields) (high : Bool) (x : ℕ) (unit : List ℕ) → ts ≤ 126 → d ≤ 126 → station_type ≤ 3 → f.sa ≡ ts → has_bit f.da 7 ≡ false
-    → reply_outcome ts d (heard_as (service_reply d station_type f Srd high (x ∷ unit))) ≡ Some (Data (record { items = x ∷ unit }))
-srd ts d station_type f high x unit t b h s e =
-    plain ts d (reply_frame d station_type f 3 []) (data_reply d station_type f high (x ∷ unit)) (has_bit f.da 7) e
-    ∙ plain ts d (reply_frame d station_type f 9 []) (if high then reply_frame d station_type f 10 (x ∷ unit) else reply_frame d station_type f 8 (x ∷ unit)) (length (x ∷ unit) == 0)
+pub srd : (ts d station_type : ℕ) (f : Fields) (priority : Priority) (x : ℕ) (unit : List ℕ) → ts ≤ 126 → d ≤ 126 → station_type ≤ 3 → f.sa ≡ ts → has_bit f.da 7 ≡ false
+    → reply_outcome ts d (heard_as (service_reply d station_type f Srd priority (x ∷ unit))) ≡ Some (Data (record { items = x ∷ unit }))
+srd ts d station_type f priority x unit t b h s e =
+    plain ts d (reply_frame d station_type f 3 []) (data_reply d station_type f priority (x ∷ unit)) (has_bit f.da 7) e
+    ∙ plain ts d (reply_frame d station_type f 9 []) (if is_high priority then reply_frame d station_type f 10 (x ∷ unit) else reply_frame d station_type f 8 (x ∷ unit)) (length (x ∷ unit) == 0)
     (ne_eqb _ _ some)
-    ∙ prioritised high
+    ∙ prioritised priority
   where
     some : length (x ∷ unit) ≡ 0 → ⊥
     some none = omega arith
 
-    prioritised : (high : Bool)
-        → reply_outcome ts d (heard_as (if high then reply_frame d station_type f 10 (x ∷ unit) else reply_frame d station_type f 8 (x ∷ unit))) ≡ Some (Data (record { items = x ∷ unit }))
-    prioritised true = understood ts d station_type f 10 (x ∷ unit) t b h s replied_10
-    prioritised false = understood ts d station_type f 8 (x ∷ unit) t b h s replied_8
+    prioritised : (priority : Priority)
+        → reply_outcome ts d (heard_as (if is_high priority then reply_frame d station_type f 10 (x ∷ unit) else reply_frame d station_type f 8 (x ∷ unit))) ≡ Some (Data (record { items = x ∷ unit }))
+    prioritised High = understood ts d station_type f 10 (x ∷ unit) t b h s replied_10
+    prioritised Low = understood ts d station_type f 8 (x ∷ unit) t b h s replied_8
 
-pub srd_without_data : (ts d station_type : ℕ) (f : Fields) (high : Bool) → ts ≤ 126 → d ≤ 126 → station_type ≤ 3 → f.sa ≡ ts → has_bit f.da 7 ≡ false
-    → reply_outcome ts d (heard_as (service_reply d station_type f Srd high [])) ≡ Some Acked
-srd_without_data ts d station_type f high t b h s e =
-    plain ts d (reply_frame d station_type f 3 []) (data_reply d station_type f high []) (has_bit f.da 7) e ∙ understood ts d station_type f 9 [] t b h s replied_9
+pub srd_without_data : (ts d station_type : ℕ) (f : Fields) (priority : Priority) → ts ≤ 126 → d ≤ 126 → station_type ≤ 3 → f.sa ≡ ts → has_bit f.da 7 ≡ false
+    → reply_outcome ts d (heard_as (service_reply d station_type f Srd priority [])) ≡ Some Acked
+srd_without_data ts d station_type f priority t b h s e =
+    plain ts d (reply_frame d station_type f 3 []) (data_reply d station_type f priority []) (has_bit f.da 7) e ∙ understood ts d station_type f 9 [] t b h s replied_9

@@ -6,8 +6,8 @@ use Rattle.pb_cycles.specs.RequestFields.{RequestFields}
 use Rattle.pb_cycles.specs.Requests.{is_answered}
 use Rattle.pb_cycles.specs.Counts.{count_at}
 use Rattle.pb_cycles.specs.Tables.{InitiatorTable}
-use Rattle.pb_cycles.specs.declared.counts.FrameCount.{FrameCount}
-use Rattle.pb_cycles.specs.declared.counts.FrameCount.TheVariants.{First, Clear, Set}
+use Rattle.pb_telegram.specs.declared.control.FrameCount.{FrameCount}
+use Rattle.pb_telegram.specs.declared.control.FrameCount.TheVariants.{First, Clear, Set}
 use Rattle.pb_cycles.specs.declared.outcomes.Outcome.{Outcome}
 use Rattle.pb_cycles.specs.declared.outcomes.Outcome.TheVariants.{Acked, Data, NoResource, NoAnswer}
 

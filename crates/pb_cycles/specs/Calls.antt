@@ -9,6 +9,7 @@ use Rattle.pb_cycles.specs.declared.messages.Message.TheVariants.{Framed, Acknow
 use Rattle.pb_cycles.specs.declared.messages.Reply.{Reply}
 use Rattle.pb_cycles.specs.declared.services.Asked.{Asked}
 use Rattle.pb_cycles.specs.declared.services.Asked.TheVariants.{Send, Status, Unknown}
+use Rattle.pb_cycles.specs.declared.services.Priority.{Priority}
 use Rattle.pb_cycles.specs.declared.services.Service.{Service}
 use Rattle.pb_cycles.specs.declared.services.Service.TheVariants.{Sda, Sdn, Srd}
 use Rattle.pb_cycles.specs.Responding.{same_bit, service_reply}
@@ -25,17 +26,17 @@ pub record Call : Type 0 where
   pub station_type : ℕ
   pub frame : Fields
   pub service : Service
-  pub high : Bool
+  pub priority : Priority
 
 -- ---- the calls among what was heard
 
-abbrev pub service_calls : ℕ → ℕ → Fields → Service → Bool → List Call
-service_calls ts station_type f Sda high = if address_in f.da == ts then record { station_type = station_type; frame = f; service = Sda; high = high } ∷ [] else []
-service_calls ts station_type f Sdn high = []
-service_calls ts station_type f Srd high = if address_in f.da == ts then record { station_type = station_type; frame = f; service = Srd; high = high } ∷ [] else []
+abbrev pub service_calls : ℕ → ℕ → Fields → Service → Priority → List Call
+service_calls ts station_type f Sda priority = if address_in f.da == ts then record { station_type = station_type; frame = f; service = Sda; priority = priority } ∷ [] else []
+service_calls ts station_type f Sdn priority = []
+service_calls ts station_type f Srd priority = if address_in f.da == ts then record { station_type = station_type; frame = f; service = Srd; priority = priority } ∷ [] else []
 
 abbrev pub asked_calls : ℕ → ℕ → Fields → Asked → List Call
-asked_calls ts station_type f (Send service high) = service_calls ts station_type f service high
+asked_calls ts station_type f (Send service priority) = service_calls ts station_type f service priority
 asked_calls ts station_type f Status = []
 asked_calls ts station_type f Unknown = []
 
@@ -50,9 +51,9 @@ calls ts heard = flat_map (λ h. message_calls ts h.station_type h.message) hear
 -- ---- the SDN among what was heard, to the station or to all
 
 abbrev pub is_told_by : ℕ → Fields → Asked → Bool
-is_told_by ts f (Send Sda high) = false
-is_told_by ts f (Send Sdn high) = address_in f.da == ts || address_in f.da == 127
-is_told_by ts f (Send Srd high) = false
+is_told_by ts f (Send Sda priority) = false
+is_told_by ts f (Send Sdn priority) = address_in f.da == ts || address_in f.da == 127
+is_told_by ts f (Send Srd priority) = false
 is_told_by ts f Status = false
 is_told_by ts f Unknown = false
 
@@ -94,7 +95,7 @@ last_new_behind newest before [] = newest
 last_new_behind newest before (c ∷ cs) = last_new_behind (if repeats before c then newest else c) c cs
 
 abbrev pub call_reply : ℕ → List ℕ → Call → Reply
-call_reply ts unit c = service_reply ts c.station_type c.frame c.service c.high unit
+call_reply ts unit c = service_reply ts c.station_type c.frame c.service c.priority unit
 
 -- requester and bit of the last call, and the reply to the last one that is no repeat
 abbrev pub kept_in : ℕ → List ℕ → List Call → Option Kept

@@ -4,10 +4,11 @@ use Rattle.pb_cycles.specs.Fields.{Fields}
 use Rattle.pb_cycles.specs.RequestFields.{RequestFields}
 use Rattle.pb_cycles.specs.Requests.{is_answered, request_frame}
 use Rattle.pb_cycles.specs.declared.messages.Message.{Message}
-use Rattle.pb_cycles.specs.Counts.{count_bits, count_after, count_at}
+use Rattle.pb_cycles.specs.Counts.{count_at}
+use Rattle.pb_telegram.specs.Control.{count_bits, count_after}
 use Rattle.pb_cycles.specs.Outcomes.{reply_outcome}
 use Rattle.pb_cycles.specs.Tables.{InitiatorTable}
-use Rattle.pb_cycles.specs.declared.counts.FrameCount.TheVariants.{First}
+use Rattle.pb_telegram.specs.declared.control.FrameCount.TheVariants.{First}
 use Rattle.pb_cycles.specs.declared.initiators.OpenRequest.{OpenRequest}
 use Rattle.pb_cycles.specs.declared.outcomes.Outcome.{Outcome}
 use Rattle.pb_cycles.specs.declared.outcomes.Outcome.TheVariants.{NoAnswer}

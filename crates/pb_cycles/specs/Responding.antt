@@ -2,13 +2,14 @@
 use Rattle.std.specs.Prelude.{ℕ, ◌+◌, ◌*◌, ◌%◌, ◌^◌, ◌-◌, ◌==◌, min, Bool, false, not, ◌&&◌, ◌||◌, if◌then◌else◌, List, [], length, Option, Some, None}
 use Rattle.pb_cycles.specs.Fields.{Fields}
 use Rattle.pb_cycles.specs.Messages.{has_bit, address_in}
-use Rattle.pb_cycles.specs.Requests.{asked_by}
+use Rattle.pb_cycles.specs.Requests.{is_high, asked_by}
 use Rattle.pb_cycles.specs.declared.messages.Message.{Message}
 use Rattle.pb_cycles.specs.declared.messages.Message.TheVariants.{Framed, Acknowledgement, TokenPass}
 use Rattle.pb_cycles.specs.declared.messages.Reply.{Reply}
 use Rattle.pb_cycles.specs.declared.messages.Reply.TheVariants.{Answer, Acknowledge}
 use Rattle.pb_cycles.specs.declared.services.Asked.{Asked}
 use Rattle.pb_cycles.specs.declared.services.Asked.TheVariants.{Send, Status, Unknown}
+use Rattle.pb_cycles.specs.declared.services.Priority.{Priority}
 use Rattle.pb_cycles.specs.declared.services.Service.{Service}
 use Rattle.pb_cycles.specs.declared.services.Service.TheVariants.{Sda, Sdn, Srd}
 use Rattle.pb_cycles.specs.Tables.{ResponderTable}
@@ -21,17 +22,17 @@ abbrev pub reply_frame : ℕ → ℕ → Fields → ℕ → List ℕ → Reply
 reply_frame ts station_type f code unit = Answer (record { da = address_in f.sa; sa = ts; fc = 16 * station_type + code; unit = unit })
 
 -- the reply to an SRD: the reply data with the priority of the request, or NR if there is none
-abbrev pub data_reply : ℕ → ℕ → Fields → Bool → List ℕ → Reply
-data_reply ts station_type f high data_unit =
+abbrev pub data_reply : ℕ → ℕ → Fields → Priority → List ℕ → Reply
+data_reply ts station_type f priority data_unit =
     if length data_unit == 0 then reply_frame ts station_type f 9 []
-    else if high then reply_frame ts station_type f 10 data_unit
+    else if is_high priority then reply_frame ts station_type f 10 data_unit
     else reply_frame ts station_type f 8 data_unit
 
 -- the reply to an executed SDA or SRD (an SDN has no reply); neither supports an address extension
-abbrev pub service_reply : ℕ → ℕ → Fields → Service → Bool → List ℕ → Reply
-service_reply ts station_type f Sda high unit = if has_bit f.da 7 then reply_frame ts station_type f 3 [] else Acknowledge
-service_reply ts station_type f Sdn high unit = Acknowledge
-service_reply ts station_type f Srd high unit = if has_bit f.da 7 then reply_frame ts station_type f 3 [] else data_reply ts station_type f high unit
+abbrev pub service_reply : ℕ → ℕ → Fields → Service → Priority → List ℕ → Reply
+service_reply ts station_type f Sda priority unit = if has_bit f.da 7 then reply_frame ts station_type f 3 [] else Acknowledge
+service_reply ts station_type f Sdn priority unit = Acknowledge
+service_reply ts station_type f Srd priority unit = if has_bit f.da 7 then reply_frame ts station_type f 3 [] else data_reply ts station_type f priority unit
 
 -- ---- execution
 
@@ -71,24 +72,24 @@ abbrev pub reply_once : ResponderTable → Fields → Reply → Option Reply
 reply_once t f reply = if is_repeat t.kept f then kept_reply t.kept else Some reply
 
 -- the table after a request for a service; an SDN to all stations is also one to this station
-abbrev pub after_service : ResponderTable → ℕ → ℕ → Fields → Service → Bool → ResponderTable
-after_service t ts station_type f Sda high = if address_in f.da == ts then once t f (service_reply ts station_type f Sda high t.reply) else t
-after_service t ts station_type f Sdn high = if address_in f.da == ts || address_in f.da == 127 then counted t else t
-after_service t ts station_type f Srd high = if address_in f.da == ts then once t f (service_reply ts station_type f Srd high t.reply) else t
+abbrev pub after_service : ResponderTable → ℕ → ℕ → Fields → Service → Priority → ResponderTable
+after_service t ts station_type f Sda priority = if address_in f.da == ts then once t f (service_reply ts station_type f Sda priority t.reply) else t
+after_service t ts station_type f Sdn priority = if address_in f.da == ts || address_in f.da == 127 then counted t else t
+after_service t ts station_type f Srd priority = if address_in f.da == ts then once t f (service_reply ts station_type f Srd priority t.reply) else t
 
 -- the reply to it
-abbrev pub reply_to_service : ResponderTable → ℕ → ℕ → Fields → Service → Bool → Option Reply
-reply_to_service t ts station_type f Sda high = if address_in f.da == ts then reply_once t f (service_reply ts station_type f Sda high t.reply) else None
-reply_to_service t ts station_type f Sdn high = None
-reply_to_service t ts station_type f Srd high = if address_in f.da == ts then reply_once t f (service_reply ts station_type f Srd high t.reply) else None
+abbrev pub reply_to_service : ResponderTable → ℕ → ℕ → Fields → Service → Priority → Option Reply
+reply_to_service t ts station_type f Sda priority = if address_in f.da == ts then reply_once t f (service_reply ts station_type f Sda priority t.reply) else None
+reply_to_service t ts station_type f Sdn priority = None
+reply_to_service t ts station_type f Srd priority = if address_in f.da == ts then reply_once t f (service_reply ts station_type f Srd priority t.reply) else None
 
 abbrev pub after_asked : ResponderTable → ℕ → ℕ → Fields → Asked → ResponderTable
-after_asked t ts station_type f (Send service high) = after_service t ts station_type f service high
+after_asked t ts station_type f (Send service priority) = after_service t ts station_type f service priority
 after_asked t ts station_type f Status = t
 after_asked t ts station_type f Unknown = t
 
 abbrev pub reply_to_asked : ResponderTable → ℕ → ℕ → Fields → Asked → Option Reply
-reply_to_asked t ts station_type f (Send service high) = reply_to_service t ts station_type f service high
+reply_to_asked t ts station_type f (Send service priority) = reply_to_service t ts station_type f service priority
 reply_to_asked t ts station_type f Status = if address_in f.da == ts then Some (reply_frame ts station_type f 0 []) else None
 reply_to_asked t ts station_type f Unknown = None
 

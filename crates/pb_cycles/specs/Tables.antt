@@ -1,6 +1,6 @@
 -- The tables as plain data.
 use Rattle.std.specs.Prelude.{ℕ, List, Option}
-use Rattle.pb_cycles.specs.declared.counts.FrameCount.{FrameCount}
+use Rattle.pb_telegram.specs.declared.control.FrameCount.{FrameCount}
 use Rattle.pb_cycles.specs.declared.initiators.OpenRequest.{OpenRequest}
 use Rattle.pb_cycles.specs.declared.responders.Kept.{Kept}
 

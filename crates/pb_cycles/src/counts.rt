@@ -3,46 +3,10 @@
 ghost use Rattle.std.specs.Prelude.{◌≡◌, ◌≢◌, ◌≤◌, ◌<◌, ◌^◌, ◌==◌, ℕ, true, false, bit_and};
 ghost use Rattle.std.specs.Bool.{Decides};
 ghost use Rattle.std.specs.Int.{bit_at};
-ghost use Rattle.pb_cycles.specs.Counts.{count_bits, count_after};
 ghost use Rattle.pb_cycles.specs.CountMasks.{count_of};
 
+use pb_telegram::FrameCount;
 use std::marker::Model;
-
-/// The frame count bits of the next SDA or SRD to an address.
-#[derive(Clone, Copy, Debug, Default, PartialEq, Eq)]
-pub enum FrameCount {
-    /// A first request: its frame count bit is 1 and not valid.
-    #[default]
-    First,
-    /// The frame count bit is valid, and is 0.
-    Clear,
-    /// The frame count bit is valid, and is 1.
-    Set,
-}
-
-impl FrameCount {
-    /// Bits 5 and 4 of the request's control octet: the frame count bit, and whether it is valid.
-    pub(crate) fn bits(self) -> u8
-        ensures value { result ≡ count_bits self }
-        ensures fits { result ≤ 0x30 }
-    {
-        match self {
-            FrameCount::First => 0x20,
-            FrameCount::Clear => 0x10,
-            FrameCount::Set => 0x30,
-        }
-    }
-
-    /// The frame count bits of the request after this one.
-    pub(crate) fn next(self) -> FrameCount
-        ensures { result ≡ count_after self }
-    {
-        match self {
-            FrameCount::First | FrameCount::Set => FrameCount::Clear,
-            FrameCount::Clear => FrameCount::Set,
-        }
-    }
-}
 
 /// The next frame count bits for each station, as the bits of two numbers: these are quick to copy and compare.
 #[derive(Debug, Drop)]
@@ -56,7 +20,7 @@ pub(crate) struct FrameCounts {
 impl Model for FrameCounts {
     ghost use Rattle.std.specs.Prelude.{List, ◌<◌, ◌^◌};
     ghost use Rattle.pb_cycles.specs.CountMasks.{counts_in};
-    ghost use Rattle.pb_cycles.specs.declared.counts.FrameCount.{FrameCount};
+    ghost use Rattle.pb_telegram.specs.declared.control.FrameCount.{FrameCount};
 
     ghost Value = { List FrameCount };
 
@@ -68,7 +32,7 @@ impl Model for FrameCounts {
 impl FrameCounts {
     ghost use Rattle.std.specs.Prelude.{◌≡◌, ◌<◌, replicate, slice_set, IsTrue, ◌↔◌};
     ghost use Rattle.pb_cycles.specs.Counts.{count_at};
-    ghost use Rattle.pb_cycles.specs.declared.counts.FrameCount.TheVariants.{First, Clear, Set};
+    ghost use Rattle.pb_telegram.specs.declared.control.FrameCount.TheVariants.{First, Clear, Set};
 
     /// The next request to each station is a first request.
     pub(crate) fn new() -> FrameCounts

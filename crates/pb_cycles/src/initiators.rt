@@ -6,14 +6,14 @@ ghost use Rattle.pb_telegram.specs.Initiators as telegram;
 ghost use Rattle.pb_cycles.specs.Messages.{frame_octets, message_of};
 ghost use Rattle.pb_cycles.specs.declared.messages.Message.TheVariants.{Framed};
 ghost use Rattle.pb_cycles.specs.Initiating.{first_sending, after_request, retry_of, after_retry, outcome_of, after_outcome};
-ghost use Rattle.pb_cycles.specs.declared.counts.FrameCount.TheVariants.{First};
+ghost use Rattle.pb_telegram.specs.declared.control.FrameCount.TheVariants.{First};
 
-use crate::counts::{FrameCount, FrameCounts};
+use crate::counts::FrameCounts;
 use crate::frames::Frame;
 use crate::messages::Message;
 use crate::outcomes::{Outcome, reply_outcome};
 use crate::requests::Request;
-use pb_telegram::{Fc, Telegram};
+use pb_telegram::{Fc, FrameCount, Telegram};
 use std::marker::Model;
 
 /// A request that waits for its reply.
@@ -95,14 +95,14 @@ impl Initiator {
     {
         let da = request.da();
         let service = request.service();
-        let code = service.code(request.high());
+        let code = service.code(request.priority());
         if !service.is_answered() {
             self.pending = None;
-            let fc = Fc::request(0, code);
+            let fc = Fc::request(None, code);
             return Frame::new(da, ts, fc.0, request.into_unit()).telegram();
         }
         let count = self.counts.at(da);
-        let fc = Fc::request(count.bits(), code);
+        let fc = Fc::request(Some(count), code);
         let sent = Frame::new(da, ts, fc.0, request.into_unit());
         let telegram = sent.telegram();
         self.counts.put(da, count.next());

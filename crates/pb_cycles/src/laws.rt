@@ -1,11 +1,12 @@
 //! Laws of message cycles: what replies mean, what the tables represent, and that a request is executed once.
 
-ghost use Rattle.std.specs.Prelude.{◌≡◌, ℕ, ◌+◌, ◌≤◌, List, [], ◌∷◌, ◌++◌, Some, None, Option, Bool, replicate, IsTrue, IsFalse, All, reverse};
+ghost use Rattle.std.specs.Prelude.{◌≡◌, ℕ, ◌+◌, ◌≤◌, List, [], ◌∷◌, ◌++◌, Some, None, Option, replicate, IsTrue, IsFalse, All, reverse};
 ghost use Rattle.pb_cycles.specs.Fields.{Fields};
 ghost use Rattle.pb_cycles.specs.RequestFields.{RequestFields};
 ghost use Rattle.pb_cycles.specs.Messages.{has_bit, heard_as};
 ghost use Rattle.pb_cycles.specs.Requests.{is_answered, IsAddressed};
 ghost use Rattle.pb_cycles.specs.declared.messages.Message.{Message};
+ghost use Rattle.pb_cycles.specs.declared.services.Priority.{Priority};
 ghost use Rattle.pb_cycles.specs.declared.services.Service.{Service};
 ghost use Rattle.pb_cycles.specs.declared.services.Service.TheVariants.{Sda, Srd};
 ghost use Rattle.pb_cycles.specs.Acts.{Act, Resent, Closed, sending_act, number_to, kth_bits, open_in, InitiatorStandsFor};
@@ -15,7 +16,7 @@ ghost use Rattle.pb_cycles.specs.Link.{Link, Fate, Cycle, IsCallTo, ExecutesOnce
 ghost use Rattle.pb_cycles.specs.Outcomes.{code_outcome, reply_outcome};
 ghost use Rattle.pb_cycles.specs.Responding.{after_message, service_reply};
 ghost use Rattle.pb_cycles.specs.Tables.{InitiatorTable, ResponderTable};
-ghost use Rattle.pb_cycles.specs.declared.counts.FrameCount.TheVariants.{First};
+ghost use Rattle.pb_telegram.specs.declared.control.FrameCount.TheVariants.{First};
 ghost use Rattle.pb_cycles.specs.declared.initiators.OpenRequest.{OpenRequest};
 ghost use Rattle.pb_cycles.specs.declared.outcomes.Outcome.{Outcome};
 ghost use Rattle.pb_cycles.specs.declared.outcomes.Outcome.TheVariants.{Acked, Data, NoResource};
@@ -44,22 +45,22 @@ pub fn what_reply_codes_mean()
 /// acknowledged; an SRD gets the reply data, or an acknowledgement if there is none; a request with an address
 /// extension gets no resource.
 pub fn a_reply_means_what_was_meant()
-    ensures extension { (ts d station_type : ℕ) (f : Fields) (service : Service) (high : Bool)
+    ensures extension { (ts d station_type : ℕ) (f : Fields) (service : Service) (priority : Priority)
         (unit : List ℕ) → ts ≤ 126 → d ≤ 126 → station_type ≤ 3 → f.sa ≡ ts
         → IsTrue (is_answered service) → IsTrue (has_bit f.da 7)
-        → reply_outcome ts d (heard_as (service_reply d station_type f service high unit)) ≡ Some NoResource }
-    ensures sda { (ts d station_type : ℕ) (f : Fields) (high : Bool) (unit : List ℕ)
+        → reply_outcome ts d (heard_as (service_reply d station_type f service priority unit)) ≡ Some NoResource }
+    ensures sda { (ts d station_type : ℕ) (f : Fields) (priority : Priority) (unit : List ℕ)
         → IsFalse (has_bit f.da 7)
-        → reply_outcome ts d (heard_as (service_reply d station_type f Sda high unit)) ≡ Some Acked }
-    ensures srd { (ts d station_type : ℕ) (f : Fields) (high : Bool) (x : ℕ) (unit : List ℕ) → ts ≤ 126
+        → reply_outcome ts d (heard_as (service_reply d station_type f Sda priority unit)) ≡ Some Acked }
+    ensures srd { (ts d station_type : ℕ) (f : Fields) (priority : Priority) (x : ℕ) (unit : List ℕ) → ts ≤ 126
         → d ≤ 126 → station_type ≤ 3 → f.sa ≡ ts
         → IsFalse (has_bit f.da 7)
-        → reply_outcome ts d (heard_as (service_reply d station_type f Srd high (x ∷ unit)))
+        → reply_outcome ts d (heard_as (service_reply d station_type f Srd priority (x ∷ unit)))
         ≡ Some (Data (record { items = x ∷ unit })) }
-    ensures srd_without_data { (ts d station_type : ℕ) (f : Fields) (high : Bool) → ts ≤ 126 → d ≤ 126
+    ensures srd_without_data { (ts d station_type : ℕ) (f : Fields) (priority : Priority) → ts ≤ 126 → d ≤ 126
         → station_type ≤ 3 → f.sa ≡ ts
         → IsFalse (has_bit f.da 7)
-        → reply_outcome ts d (heard_as (service_reply d station_type f Srd high [])) ≡ Some Acked }
+        → reply_outcome ts d (heard_as (service_reply d station_type f Srd priority [])) ≡ Some Acked }
 {}
 
 /// An initiator's table represents the list of its acts: a new table represents the empty list, and each call appends

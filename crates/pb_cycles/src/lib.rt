@@ -26,4 +26,4 @@ pub use outcomes::{Outcome, status_reply};
 pub use queues::{Queue, QueueFull};
 pub use requests::{Request, RequestFault};
 pub use responders::Responder;
-pub use services::{Asked, Service};
+pub use services::{Asked, Priority, Service};

@@ -2,9 +2,9 @@
 
 ghost use Rattle.std.specs.Prelude.{◌≡◌, Some, None, IfOk, IfErr, OnOk};
 ghost use Rattle.pb_faults.specs.FirstFault.{first_fault};
-ghost use Rattle.pb_cycles.specs.Requests.{request_faults};
+ghost use Rattle.pb_cycles.specs.Requests.{request_faults, priority_of};
 
-use crate::services::Service;
+use crate::services::{Priority, Service};
 use arrayvec::ArrayVec;
 use pb_telegram::{copy_octets, put_octets};
 use std::marker::Model;
@@ -115,6 +115,13 @@ impl Request {
         ensures { result ≡ self.now.high }
     {
         self.high
+    }
+
+    /// Its priority.
+    pub fn priority(&self) -> Priority
+        ensures { result ≡ priority_of self.now.high }
+    {
+        Priority::of(self.high)
     }
 
     /// The data, at most 246 octets.

@@ -7,7 +7,7 @@ ghost use Rattle.pb_cycles.specs.Responding.{reply_frame, data_reply, service_re
 
 use crate::frames::Frame;
 use crate::messages::{Message, Reply};
-use crate::services::{Asked, Service};
+use crate::services::{Asked, Priority, Service};
 use arrayvec::ArrayVec;
 use pb_telegram::{Fc, Telegram, copy_octets, put_octets};
 use std::marker::Model;
@@ -168,8 +168,8 @@ impl Responder {
             return None;
         }
         match Asked::by(fc.code()) {
-            Asked::Send(service, high) => {
-                self.answer_service(ts, station_type, frame, service, high)
+            Asked::Send(service, priority) => {
+                self.answer_service(ts, station_type, frame, service, priority)
             }
             Asked::Status if frame.da() % 128 == ts => {
                 Some(reply_frame(ts, station_type, frame, 0, &[]))
@@ -185,12 +185,12 @@ impl Responder {
         station_type: u8,
         frame: &Frame,
         service: Service,
-        high: bool,
+        priority: Priority,
     ) -> Option<Reply>
         requires station { ts ≤ 126 }
         requires type_bits { station_type ≤ 3 }
-        ensures reply { result ≡ reply_to_service self.old ts station_type frame.now service high }
-        ensures table { self.new ≡ after_service self.old ts station_type frame.now service high }
+        ensures reply { result ≡ reply_to_service self.old ts station_type frame.now service priority }
+        ensures table { self.new ≡ after_service self.old ts station_type frame.now service priority }
     {
         let to = frame.da() % 128;
         if !service.is_answered() {
@@ -202,7 +202,7 @@ impl Responder {
         if to != ts {
             return None;
         }
-        let reply = service_reply(ts, station_type, frame, service, high, &self.reply);
+        let reply = service_reply(ts, station_type, frame, service, priority, &self.reply);
         Some(self.once(frame, reply))
     }
 
@@ -269,16 +269,16 @@ fn reply_frame(ts: u8, station_type: u8, request: &Frame, code: u8, unit: &[u8])
 }
 
 /// The reply to an SRD: the reply data with the priority of the request, or NR if there is none.
-fn data_reply(ts: u8, station_type: u8, request: &Frame, high: bool, unit: &[u8]) -> Reply
+fn data_reply(ts: u8, station_type: u8, request: &Frame, priority: Priority, unit: &[u8]) -> Reply
     requires station { ts ≤ 126 }
     requires type_bits { station_type ≤ 3 }
     requires unit_fits { length unit.now ≤ 246 }
-    ensures { result ≡ data_reply ts station_type request.now high unit.now }
+    ensures { result ≡ data_reply ts station_type request.now priority unit.now }
 {
     if unit.is_empty() {
         return reply_frame(ts, station_type, request, 9, &[]);
     }
-    let code = if high { 10 } else { 8 };
+    let code = if priority.is_high() { 10 } else { 8 };
     reply_frame(ts, station_type, request, code, unit)
 }
 
@@ -288,13 +288,13 @@ fn service_reply(
     station_type: u8,
     request: &Frame,
     service: Service,
-    high: bool,
+    priority: Priority,
     unit: &[u8],
 ) -> Reply
     requires station { ts ≤ 126 }
     requires type_bits { station_type ≤ 3 }
     requires unit_fits { length unit.now ≤ 246 }
-    ensures { result ≡ service_reply ts station_type request.now service high unit.now }
+    ensures { result ≡ service_reply ts station_type request.now service priority unit.now }
 {
     match service {
         Service::Sdn => Reply::Acknowledge,
@@ -302,7 +302,7 @@ fn service_reply(
             reply_frame(ts, station_type, request, 3, &[])
         }
         Service::Sda => Reply::Acknowledge,
-        Service::Srd => data_reply(ts, station_type, request, high, unit),
+        Service::Srd => data_reply(ts, station_type, request, priority, unit),
     }
 }
 

@@ -1,7 +1,7 @@
 //! The services, and the function codes that name them in a request.
 
 ghost use Rattle.std.specs.Prelude.{◌≡◌, ◌<◌, Some, None};
-ghost use Rattle.pb_cycles.specs.Requests.{is_answered, may_go_to, code_of, asked_by};
+ghost use Rattle.pb_cycles.specs.Requests.{is_answered, may_go_to, is_high, priority_of, code_of, asked_by};
 
 /// A service of the data link layer (IEC 61158-4-3, data link service).
 #[derive(Clone, Copy, Debug, Default, PartialEq, Eq)]
@@ -15,11 +15,21 @@ pub enum Service {
     Srd,
 }
 
+/// The priority of a request, and of the data in its reply (IEC 61158-4-3, data link service).
+#[derive(Clone, Copy, Debug, Default, PartialEq, Eq)]
+pub enum Priority {
+    /// Low priority.
+    #[default]
+    Low,
+    /// High priority.
+    High,
+}
+
 /// What the function code of a request asks for.
 #[derive(Clone, Copy, Debug, PartialEq, Eq)]
 pub enum Asked {
-    /// A service, and whether its priority is high.
-    Send(Service, bool),
+    /// A service, with a priority.
+    Send(Service, Priority),
     /// Request FDL Status.
     Status,
     /// Any other function code, which no station answers.
@@ -45,15 +55,37 @@ impl Service {
         address < 127 || (address == 127 && !self.is_answered())
     }
 
-    /// The function code of the service with high or low priority, 0 to 15.
-    pub fn code(self, high: bool) -> u8
-        ensures value { result ≡ code_of self high }
+    /// The function code of the service with a priority, 0 to 15.
+    pub fn code(self, priority: Priority) -> u8
+        ensures value { result ≡ code_of self priority }
         ensures bits { result < 16 }
     {
+        match (self, priority) {
+            (Service::Sda, Priority::Low) => 3,
+            (Service::Sdn, Priority::Low) => 4,
+            (Service::Sda, Priority::High) => 5,
+            (Service::Sdn, Priority::High) => 6,
+            (Service::Srd, Priority::Low) => 12,
+            (Service::Srd, Priority::High) => 13,
+        }
+    }
+}
+
+impl Priority {
+    /// High priority if `high`, else low priority.
+    pub fn of(high: bool) -> Priority
+        ensures { result ≡ priority_of high }
+    {
+        if high { Priority::High } else { Priority::Low }
+    }
+
+    /// Whether it is high priority.
+    pub fn is_high(self) -> bool
+        ensures { result ≡ is_high self }
+    {
         match self {
-            Service::Sda => if high { 5 } else { 3 },
-            Service::Sdn => if high { 6 } else { 4 },
-            Service::Srd => if high { 13 } else { 12 },
+            Priority::Low => false,
+            Priority::High => true,
         }
     }
 }
@@ -64,13 +96,13 @@ impl Asked {
         ensures { result ≡ asked_by code }
     {
         match code {
-            3 => Asked::Send(Service::Sda, false),
-            4 => Asked::Send(Service::Sdn, false),
-            5 => Asked::Send(Service::Sda, true),
-            6 => Asked::Send(Service::Sdn, true),
+            3 => Asked::Send(Service::Sda, Priority::Low),
+            4 => Asked::Send(Service::Sdn, Priority::Low),
+            5 => Asked::Send(Service::Sda, Priority::High),
+            6 => Asked::Send(Service::Sdn, Priority::High),
             9 => Asked::Status,
-            12 => Asked::Send(Service::Srd, false),
-            13 => Asked::Send(Service::Srd, true),
+            12 => Asked::Send(Service::Srd, Priority::Low),
+            13 => Asked::Send(Service::Srd, Priority::High),
             _ => Asked::Unknown,
         }
     }

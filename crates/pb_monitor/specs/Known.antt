@@ -246,12 +246,12 @@ forgotten_by claims stations = if claims then map without_receipt stations else 
 
 -- what is asked for is answered
 abbrev pub wants_answer : Asked → Bool
-wants_answer (Send service high) = is_answered service
+wants_answer (Send service priority) = is_answered service
 wants_answer Status = true
 wants_answer Unknown = false
 
 abbrev pub is_poll : Asked → Bool
-is_poll (Send service high) = false
+is_poll (Send service priority) = false
 is_poll Status = true
 is_poll Unknown = false
 

@@ -1,7 +1,7 @@
 -- What a telegram says, in words.
 use Rattle.std.specs.Prelude.{ℕ, ◌%◌, ◌/◌, ◌==◌, ◌&&◌, Bool, true, false, if◌then◌else◌, List, [], ◌++◌, codes, decimal, Option, Some, None}
 use Rattle.pb_cycles.specs.Messages.{has_bit}
-use Rattle.pb_cycles.specs.Requests.{asked_by}
+use Rattle.pb_cycles.specs.Requests.{is_high, asked_by}
 use Rattle.pb_cycles.specs.declared.services.Asked.{Asked}
 use Rattle.pb_cycles.specs.declared.services.Asked.TheVariants.{Send, Status, Unknown}
 use Rattle.pb_cycles.specs.declared.services.Service.{Service}
@@ -18,7 +18,7 @@ service_words Srd = codes "SRD"
 
 -- what a request asks for, by its function code
 abbrev pub asked_words : Asked → (code : ℕ) → List ℕ
-asked_words (Send service high) code = service_words service ++ (if high then codes " high" else codes " low")
+asked_words (Send service priority) code = service_words service ++ (if is_high priority then codes " high" else codes " low")
 asked_words Status code = codes "FDL status request"
 asked_words Unknown code = codes "request with function code " ++ decimal code
 

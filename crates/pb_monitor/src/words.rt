@@ -75,9 +75,9 @@ fn push_request(text: &mut Vec<u8>, fc: Fc) -> Result<(), AllocError> {
 /// Appends what a request asks for, by its function code.
 fn push_asked(text: &mut Vec<u8>, asked: Asked, code: u8) -> Result<(), AllocError> {
     match asked {
-        Asked::Send(service, high) => {
+        Asked::Send(service, priority) => {
             text.extend_from_slice(service_name(service).as_bytes())?;
-            text.extend_from_slice(if high { " high" } else { " low" }.as_bytes())
+            text.extend_from_slice(if priority.is_high() { " high" } else { " low" }.as_bytes())
         }
         Asked::Status => text.extend_from_slice(b"FDL status request"),
         Asked::Unknown => {

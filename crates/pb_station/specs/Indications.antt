@@ -3,7 +3,7 @@ use Rattle.std.specs.Prelude.{ℕ, ◌==◌, ◌%◌, Bool, if◌then◌else◌,
 use Rattle.pb_timers.specs.Timers.{Params}
 use Rattle.pb_cycles.specs.Fields.{Fields}
 use Rattle.pb_cycles.specs.Messages.{address_in}
-use Rattle.pb_cycles.specs.Requests.{asked_by}
+use Rattle.pb_cycles.specs.Requests.{is_high, asked_by}
 use Rattle.pb_cycles.specs.declared.services.Asked.{Asked}
 use Rattle.pb_cycles.specs.declared.services.Asked.TheVariants.{Send, Status, Unknown}
 use Rattle.pb_cycles.specs.declared.services.Service.{Service}
@@ -25,7 +25,7 @@ fields_of i = record { source = i.source; service = i.service; high = i.high; un
 
 -- the request for a service in a telegram
 abbrev pub asked_in : Fields → Asked → Option IndicationFields
-asked_in f (Send service high) = Some (record { source = address_in f.sa; service = service; high = high; unit = f.unit })
+asked_in f (Send service priority) = Some (record { source = address_in f.sa; service = service; high = is_high priority; unit = f.unit })
 asked_in f Status = None
 asked_in f Unknown = None
 

@@ -105,10 +105,10 @@ fn asked_in(frame: &Frame) -> Option<Indication>
     ensures { option_map fields_of result ≡ asked_in frame.now (asked_by (frame.now.fc % 16)) }
 {
     match Asked::by(Fc(frame.fc()).code()) {
-        Asked::Send(service, high) => Some(Indication {
+        Asked::Send(service, priority) => Some(Indication {
             source: frame.sa() % 128,
             service,
-            high,
+            high: priority.is_high(),
             unit: copy_octets(frame.unit()),
         }),
         Asked::Status | Asked::Unknown => None,

@@ -1,7 +1,7 @@
 //! The frame control octet (FC) and the check octet (FCS).
 
 ghost use Rattle.std.specs.Prelude.{◌≡◌, ◌≤◌, ◌<◌, ◌↔◌, ◌+◌, ◌*◌, ◌/◌, ◌%◌, IsTrue, IsBitSet};
-ghost use Rattle.pb_telegram.specs.Control.{type_bits};
+ghost use Rattle.pb_telegram.specs.Control.{type_bits, count_bits, count_after, bits_of_count};
 ghost use Rattle.pb_telegram.specs.Grammar.{fcs_of};
 
 /// A frame control octet (IEC 61158-4-3, frame control field).
@@ -39,18 +39,56 @@ impl StationType {
     }
 }
 
+/// The frame count bits of a request (IEC 61158-4-3, frame control field).
+#[derive(Clone, Copy, Debug, Default, PartialEq, Eq)]
+pub enum FrameCount {
+    /// A first request: its frame count bit is 1 and not valid.
+    #[default]
+    First,
+    /// The frame count bit is valid, and is 0.
+    Clear,
+    /// The frame count bit is valid, and is 1.
+    Set,
+}
+
+impl FrameCount {
+    /// Bits 5 and 4 where they stand in the control octet: 0x20, 0x10 or 0x30.
+    pub fn bits(self) -> u8
+        ensures value { result ≡ count_bits self }
+        ensures bound { result ≤ 0x30 }
+    {
+        match self {
+            FrameCount::First => 0x20,
+            FrameCount::Clear => 0x10,
+            FrameCount::Set => 0x30,
+        }
+    }
+
+    /// The frame count bits of the request after this one: 0 after a first request, then 1 and 0 in turn.
+    pub fn next(self) -> FrameCount
+        ensures { result ≡ count_after self }
+    {
+        match self {
+            FrameCount::First | FrameCount::Set => FrameCount::Clear,
+            FrameCount::Clear => FrameCount::Set,
+        }
+    }
+}
+
 impl Fc {
     /// Request FDL Status: function code 9, without a frame count bit.
     pub const STATUS_REQUEST: Fc = Fc(0x49);
 
-    /// The control octet of a request with a function code, 0 to 15. `count` is bits 5 and 4 where they stand: 0 without
-    /// a frame count bit, else 0x10 or 0x30 for a valid one that is 0 or 1, and 0x20 for the first request.
-    pub fn request(count: u8, code: u8) -> Fc
-        requires count_bits { count ≤ 0x30 }
-        requires code_bits { code < 16 }
-        ensures { result.0 ≡ 0x40 + count + code }
+    /// The control octet of a request with a function code, 0 to 15. `count` is `None` where the service has no frame
+    /// count bits: bits 5 and 4 are 0 then.
+    pub fn request(count: Option<FrameCount>, code: u8) -> Fc
+        requires { code < 16 }
+        ensures { result.0 ≡ 0x40 + bits_of_count count + code }
     {
-        Fc(0x40 + count + code)
+        match count {
+            Some(count) => Fc(0x40 + count.bits() + code),
+            None => Fc(0x40 + code),
+        }
     }
 
     /// The control octet of a reply with a station type, as [`StationType::bits`] has it, and a function code, 0 to 15.

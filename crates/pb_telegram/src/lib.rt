@@ -15,11 +15,12 @@ mod laws;
 mod parsing;
 mod reading;
 mod receiving;
+mod showing;
 mod telegrams;
 mod writing;
 
 pub use chars::RxChar;
-pub use control::{Fc, StationType, fcs};
+pub use control::{Fc, FrameCount, StationType, fcs};
 pub use copying::{copy_octets, put_octets};
 pub use faults::TelegramFault;
 pub use heads::Head;

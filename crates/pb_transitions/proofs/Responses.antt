@@ -3,6 +3,7 @@ use Rattle.std.proofs.Common.{◌≡◌, ◌∙◌, ap, refl, sym, ℕ, ◌+◌,
 use Rattle.std.specs.Prelude.{◌||◌, if◌then◌else◌}
 use Rattle.std.specs.Option.{option_map, option_or}
 use Rattle.pb_timers.specs.Timers.{Params}
+use Rattle.pb_cycles.specs.declared.services.Priority.{Priority}
 use Rattle.pb_cycles.specs.Fields.{Fields}
 use Rattle.pb_cycles.specs.Messages.{message_of, reply_octets, has_bit, address_in}
 use Rattle.pb_cycles.specs.Requests.{asked_by}
@@ -73,28 +74,28 @@ either : {X : Type 0} (b : Bool) (x y : X) → x ≡ y → (if b then x else y) 
 either true x y e = e
 either false x y e = refl
 
-service-none : (t : ResponderTable) (ts code : ℕ) (f : Fields) (s : Service) (high : Bool) → is_for ts f.da ≡ false → reply_to_service t ts code f s high ≡ None
-service-none t ts code f Sda high e =
-    ap (λ (b : Bool). if b then reply_once t f (service_reply ts code f Sda high t.reply) else None) (not_this (address_in f.da == ts) (address_in f.da == 127) e)
-service-none t ts code f Sdn high e = refl
-service-none t ts code f Srd high e =
-    ap (λ (b : Bool). if b then reply_once t f (service_reply ts code f Srd high t.reply) else None) (not_this (address_in f.da == ts) (address_in f.da == 127) e)
+service-none : (t : ResponderTable) (ts code : ℕ) (f : Fields) (s : Service) (priority : Priority) → is_for ts f.da ≡ false → reply_to_service t ts code f s priority ≡ None
+service-none t ts code f Sda priority e =
+    ap (λ (b : Bool). if b then reply_once t f (service_reply ts code f Sda priority t.reply) else None) (not_this (address_in f.da == ts) (address_in f.da == 127) e)
+service-none t ts code f Sdn priority e = refl
+service-none t ts code f Srd priority e =
+    ap (λ (b : Bool). if b then reply_once t f (service_reply ts code f Srd priority t.reply) else None) (not_this (address_in f.da == ts) (address_in f.da == 127) e)
 
-service-same : (t : ResponderTable) (ts code : ℕ) (f : Fields) (s : Service) (high : Bool) → is_for ts f.da ≡ false → after_service t ts code f s high ≡ t
-service-same t ts code f Sda high e =
-    ap (λ (b : Bool). if b then once t f (service_reply ts code f Sda high t.reply) else t) (not_this (address_in f.da == ts) (address_in f.da == 127) e)
-service-same t ts code f Sdn high e = ap (λ (b : Bool). if b then counted t else t) e
-service-same t ts code f Srd high e =
-    ap (λ (b : Bool). if b then once t f (service_reply ts code f Srd high t.reply) else t) (not_this (address_in f.da == ts) (address_in f.da == 127) e)
+service-same : (t : ResponderTable) (ts code : ℕ) (f : Fields) (s : Service) (priority : Priority) → is_for ts f.da ≡ false → after_service t ts code f s priority ≡ t
+service-same t ts code f Sda priority e =
+    ap (λ (b : Bool). if b then once t f (service_reply ts code f Sda priority t.reply) else t) (not_this (address_in f.da == ts) (address_in f.da == 127) e)
+service-same t ts code f Sdn priority e = ap (λ (b : Bool). if b then counted t else t) e
+service-same t ts code f Srd priority e =
+    ap (λ (b : Bool). if b then once t f (service_reply ts code f Srd priority t.reply) else t) (not_this (address_in f.da == ts) (address_in f.da == 127) e)
 
 asked-none : (t : ResponderTable) (ts code : ℕ) (f : Fields) (a : Asked) → is_for ts f.da ≡ false → reply_to_asked t ts code f a ≡ None
-asked-none t ts code f (Send service high) e = service-none t ts code f service high e
+asked-none t ts code f (Send service priority) e = service-none t ts code f service priority e
 asked-none t ts code f Status e =
     ap (λ (b : Bool). if b then Some (reply_frame ts code f 0 []) else None) (not_this (address_in f.da == ts) (address_in f.da == 127) e)
 asked-none t ts code f Unknown e = refl
 
 asked-same : (t : ResponderTable) (ts code : ℕ) (f : Fields) (a : Asked) → is_for ts f.da ≡ false → after_asked t ts code f a ≡ t
-asked-same t ts code f (Send service high) e = service-same t ts code f service high e
+asked-same t ts code f (Send service priority) e = service-same t ts code f service priority e
 asked-same t ts code f Status e = refl
 asked-same t ts code f Unknown e = refl
 

@@ -3,10 +3,11 @@ use Rattle.std.proofs.Common.{ℕ, ◌+◌, ◌*◌, ◌==◌, ◌%◌, List, []
 use Rattle.std.specs.Option.{option_map}
 use Rattle.std.specs.Prelude.{IfSome, nat_lt, is_some, nat_le, max}
 use Rattle.pb_timers.specs.Timers.{Params}
+use Rattle.pb_cycles.specs.declared.services.Priority.{Priority}
 use Rattle.pb_cycles.specs.Fields.{Fields}
 use Rattle.pb_cycles.specs.Messages.{has_bit, address_in}
 use Rattle.pb_cycles.specs.RequestFields.{RequestFields}
-use Rattle.pb_cycles.specs.Requests.{is_answered, asked_by}
+use Rattle.pb_cycles.specs.Requests.{is_answered, asked_by, is_high, priority_of}
 use Rattle.pb_cycles.specs.declared.messages.Message.{Message}
 use Rattle.pb_cycles.specs.declared.messages.Reply.{Reply}
 use Rattle.pb_cycles.specs.declared.messages.Reply.TheVariants.{Acknowledge}
@@ -62,21 +63,21 @@ said-frame : (ts station_type : ℕ) (f : Fields) (code : ℕ) (unit : List ℕ)
     → IsSaid (reply_frame ts station_type f code unit)
 said-frame ts station_type f code unit here none fits = frame_spelled (record { da = address_in f.sa; sa = ts; fc = 16 * station_type + code; unit = unit }) (low_address ts here) none fits
 
-said-data : (ts station_type : ℕ) (f : Fields) (high : Bool) (unit : List ℕ) → HasType ts station_type → Fits unit → IsSaid (data_reply ts station_type f high unit)
-said-data ts station_type f high unit type fits =
+said-data : (ts station_type : ℕ) (f : Fields) (priority : Priority) (unit : List ℕ) → HasType ts station_type → Fits unit → IsSaid (data_reply ts station_type f priority unit)
+said-data ts station_type f priority unit type fits =
     by_test IsSaid (length unit == 0) _ _ (λ _. said-frame ts station_type f 9 [] type.here type.none (omega arith))
-    (λ _. by_test IsSaid high _ _ (λ _. said-frame ts station_type f 10 unit type.here type.high fits) (λ _. said-frame ts station_type f 8 unit type.here type.low fits))
+    (λ _. by_test IsSaid (is_high priority) _ _ (λ _. said-frame ts station_type f 10 unit type.here type.high fits) (λ _. said-frame ts station_type f 8 unit type.here type.low fits))
 
 said-acknowledge : IsSaid Acknowledge
 said-acknowledge = refl
 
-said-service : (ts station_type : ℕ) (f : Fields) (service : Service) (high : Bool) (unit : List ℕ) → HasType ts station_type → Fits unit
-    → IsSaid (service_reply ts station_type f service high unit)
-said-service ts station_type f Sda high unit type fits =
+said-service : (ts station_type : ℕ) (f : Fields) (service : Service) (priority : Priority) (unit : List ℕ) → HasType ts station_type → Fits unit
+    → IsSaid (service_reply ts station_type f service priority unit)
+said-service ts station_type f Sda priority unit type fits =
     by_test IsSaid (has_bit f.da 7) _ Acknowledge (λ _. said-frame ts station_type f 3 [] type.here type.no_service (omega arith)) (λ _. said-acknowledge)
-said-service ts station_type f Sdn high unit type fits = said-acknowledge
-said-service ts station_type f Srd high unit type fits =
-    by_test IsSaid (has_bit f.da 7) _ _ (λ _. said-frame ts station_type f 3 [] type.here type.no_service (omega arith)) (λ _. said-data ts station_type f high unit type fits)
+said-service ts station_type f Sdn priority unit type fits = said-acknowledge
+said-service ts station_type f Srd priority unit type fits =
+    by_test IsSaid (has_bit f.da 7) _ _ (λ _. said-frame ts station_type f 3 [] type.here type.no_service (omega arith)) (λ _. said-data ts station_type f priority unit type fits)
 
 -- ---- a responder's table
 
@@ -95,31 +96,31 @@ reply-once t f reply is said = by_test (λ (o : Option Reply). IfSome o IsSaid) 
     by_kept None said = tt
     by_kept (Some k) said = said
 
-responder-service : (t : ResponderTable) (ts station_type : ℕ) (f : Fields) (service : Service) (high : Bool) → HasType ts station_type → IsResponder t
-    → IsResponder (after_service t ts station_type f service high)
-responder-service t ts station_type f Sda high type is =
-    by_test IsResponder (address_in f.da == ts) _ t (λ _. responder-once t f _ is (said-service ts station_type f Sda high t.reply type is.unit)) (λ _. is)
-responder-service t ts station_type f Sdn high type is =
+responder-service : (t : ResponderTable) (ts station_type : ℕ) (f : Fields) (service : Service) (priority : Priority) → HasType ts station_type → IsResponder t
+    → IsResponder (after_service t ts station_type f service priority)
+responder-service t ts station_type f Sda priority type is =
+    by_test IsResponder (address_in f.da == ts) _ t (λ _. responder-once t f _ is (said-service ts station_type f Sda priority t.reply type is.unit)) (λ _. is)
+responder-service t ts station_type f Sdn priority type is =
     by_test IsResponder _ (counted t) t (λ _. record { unit = is.unit; kept = is.kept }) (λ _. is)
-responder-service t ts station_type f Srd high type is =
-    by_test IsResponder (address_in f.da == ts) _ t (λ _. responder-once t f _ is (said-service ts station_type f Srd high t.reply type is.unit)) (λ _. is)
+responder-service t ts station_type f Srd priority type is =
+    by_test IsResponder (address_in f.da == ts) _ t (λ _. responder-once t f _ is (said-service ts station_type f Srd priority t.reply type is.unit)) (λ _. is)
 
-reply-service : (t : ResponderTable) (ts station_type : ℕ) (f : Fields) (service : Service) (high : Bool) → HasType ts station_type → IsResponder t
-    → IfSome (reply_to_service t ts station_type f service high) IsSaid
-reply-service t ts station_type f Sda high type is =
-    by_test (λ (o : Option Reply). IfSome o IsSaid) (address_in f.da == ts) _ None (λ _. reply-once t f _ is (said-service ts station_type f Sda high t.reply type is.unit)) (λ _. tt)
-reply-service t ts station_type f Sdn high type is = tt
-reply-service t ts station_type f Srd high type is =
-    by_test (λ (o : Option Reply). IfSome o IsSaid) (address_in f.da == ts) _ None (λ _. reply-once t f _ is (said-service ts station_type f Srd high t.reply type is.unit)) (λ _. tt)
+reply-service : (t : ResponderTable) (ts station_type : ℕ) (f : Fields) (service : Service) (priority : Priority) → HasType ts station_type → IsResponder t
+    → IfSome (reply_to_service t ts station_type f service priority) IsSaid
+reply-service t ts station_type f Sda priority type is =
+    by_test (λ (o : Option Reply). IfSome o IsSaid) (address_in f.da == ts) _ None (λ _. reply-once t f _ is (said-service ts station_type f Sda priority t.reply type is.unit)) (λ _. tt)
+reply-service t ts station_type f Sdn priority type is = tt
+reply-service t ts station_type f Srd priority type is =
+    by_test (λ (o : Option Reply). IfSome o IsSaid) (address_in f.da == ts) _ None (λ _. reply-once t f _ is (said-service ts station_type f Srd priority t.reply type is.unit)) (λ _. tt)
 
 responder-asked : (t : ResponderTable) (ts station_type : ℕ) (f : Fields) (asked : Asked) → HasType ts station_type → IsResponder t → IsResponder (after_asked t ts station_type f asked)
-responder-asked t ts station_type f (Send service high) type is = responder-service t ts station_type f service high type is
+responder-asked t ts station_type f (Send service priority) type is = responder-service t ts station_type f service priority type is
 responder-asked t ts station_type f Status type is = is
 responder-asked t ts station_type f Unknown type is = is
 
 reply-asked : (t : ResponderTable) (ts station_type : ℕ) (f : Fields) (asked : Asked) → HasType ts station_type → IsResponder t
     → IfSome (reply_to_asked t ts station_type f asked) IsSaid
-reply-asked t ts station_type f (Send service high) type is = reply-service t ts station_type f service high type is
+reply-asked t ts station_type f (Send service priority) type is = reply-service t ts station_type f service priority type is
 reply-asked t ts station_type f Status type is =
     by_test (λ (o : Option Reply). IfSome o IsSaid) (address_in f.da == ts) _ None (λ _. said-frame ts station_type f 0 [] type.here type.ok (omega arith)) (λ _. tt)
 reply-asked t ts station_type f Unknown type is = tt
@@ -186,7 +187,7 @@ open-retried None is = tt
 open-retried (Some o) is = is
 
 open-request : (t : InitiatorTable) (ts : ℕ) (r : RequestFields) → ts < 127 → MayBeOpen (after_request t ts r)
-open-request t ts r here = by_test MayBeOpen (is_answered r.service) _ _ (λ e. (low_address ts here, code_small r.service r.high (count_at t.counts r.da))) (λ _. tt)
+open-request t ts r here = by_test MayBeOpen (is_answered r.service) _ _ (λ e. (low_address ts here, code_small r.service (priority_of r.high) (count_at t.counts r.da))) (λ _. tt)
 
 abbrev AreReply : Option station.Reply → Type 0
 AreReply o = IfSome o (λ r. IsGood r.octets)

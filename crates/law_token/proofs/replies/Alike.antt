@@ -4,6 +4,7 @@ use Rattle.std.specs.Prelude.{nat_lt, nat_le, max, is_some}
 use Rattle.std.specs.Option.{option_map, option_or}
 use Rattle.pb_timers.specs.Timers.{Params}
 use Rattle.pb_ring.specs.Las.{place_of, skips_of}
+use Rattle.pb_cycles.specs.declared.services.Priority.{Priority}
 use Rattle.pb_cycles.specs.Fields.{Fields}
 use Rattle.pb_cycles.specs.Messages.{has_bit, address_in, reply_octets}
 use Rattle.pb_cycles.specs.Requests.{asked_by}
@@ -44,9 +45,9 @@ pub record OfService (octets : List ℕ) : Type 0 where
   pub station_type : ℕ
   pub f : Fields
   pub service : Service
-  pub high : Bool
+  pub priority : Priority
   pub unit : List ℕ
-  pub is : octets ≡ reply_octets (service_reply ts station_type f service high unit)
+  pub is : octets ≡ reply_octets (service_reply ts station_type f service priority unit)
 
 -- the same octets, or the second ones are of a reply to a service
 abbrev pub AlikeOctets : List ℕ → List ℕ → Type 0
@@ -118,8 +119,8 @@ AreBoth K None (Some b) = ⊥
 AreBoth K (Some a) None = ⊥
 AreBoth K (Some a) (Some b) = K → AlikeOctets (reply_octets a) (reply_octets b)
 
-of_service : (ts station_type : ℕ) (f : Fields) (service : Service) (high : Bool) (unit : List ℕ) → OfService (reply_octets (service_reply ts station_type f service high unit))
-of_service ts station_type f service high unit = record { ts = ts; station_type = station_type; f = f; service = service; high = high; unit = unit; is = refl }
+of_service : (ts station_type : ℕ) (f : Fields) (service : Service) (priority : Priority) (unit : List ℕ) → OfService (reply_octets (service_reply ts station_type f service priority unit))
+of_service ts station_type f service priority unit = record { ts = ts; station_type = station_type; f = f; service = service; priority = priority; unit = unit; is = refl }
 
 same_repeat : (f : Fields) (k l : Option Kept) → AlikeKept k l → is_repeat k f ≡ is_repeat l f
 same_repeat f None None h = refl
@@ -145,15 +146,15 @@ both_once K f x y service (Some a) (Some b) h =
     (λ e. by_test (AreBoth K (Some x)) (is_repeat (Some b) f) (Some b.reply) (Some y)
     (λ g k. absurd (apart (is_repeat (Some b) f) (is_repeat (Some a) f) (sym (same_repeat f (Some a) (Some b) (h k))) g e)) (λ _ _. inr service))
 
-both_service : (K : Type 0) (t u : ResponderTable) (ts station_type : ℕ) (f : Fields) (service : Service) (high : Bool) → (K → AlikeKept t.kept u.kept)
-    → AreBoth K (reply_to_service t ts station_type f service high) (reply_to_service u ts station_type f service high)
-both_service K t u ts station_type f Sda high h =
-    by_one_test (AreBoth K) (address_in f.da == ts) (reply_once t f (service_reply ts station_type f Sda high t.reply)) None (reply_once u f (service_reply ts station_type f Sda high u.reply)) None
-    (λ _. both_once K f (service_reply ts station_type f Sda high t.reply) (service_reply ts station_type f Sda high u.reply) (of_service ts station_type f Sda high u.reply) t.kept u.kept h) (λ _. tt)
-both_service K t u ts station_type f Sdn high h = tt
-both_service K t u ts station_type f Srd high h =
-    by_one_test (AreBoth K) (address_in f.da == ts) (reply_once t f (service_reply ts station_type f Srd high t.reply)) None (reply_once u f (service_reply ts station_type f Srd high u.reply)) None
-    (λ _. both_once K f (service_reply ts station_type f Srd high t.reply) (service_reply ts station_type f Srd high u.reply) (of_service ts station_type f Srd high u.reply) t.kept u.kept h) (λ _. tt)
+both_service : (K : Type 0) (t u : ResponderTable) (ts station_type : ℕ) (f : Fields) (service : Service) (priority : Priority) → (K → AlikeKept t.kept u.kept)
+    → AreBoth K (reply_to_service t ts station_type f service priority) (reply_to_service u ts station_type f service priority)
+both_service K t u ts station_type f Sda priority h =
+    by_one_test (AreBoth K) (address_in f.da == ts) (reply_once t f (service_reply ts station_type f Sda priority t.reply)) None (reply_once u f (service_reply ts station_type f Sda priority u.reply)) None
+    (λ _. both_once K f (service_reply ts station_type f Sda priority t.reply) (service_reply ts station_type f Sda priority u.reply) (of_service ts station_type f Sda priority u.reply) t.kept u.kept h) (λ _. tt)
+both_service K t u ts station_type f Sdn priority h = tt
+both_service K t u ts station_type f Srd priority h =
+    by_one_test (AreBoth K) (address_in f.da == ts) (reply_once t f (service_reply ts station_type f Srd priority t.reply)) None (reply_once u f (service_reply ts station_type f Srd priority u.reply)) None
+    (λ _. both_once K f (service_reply ts station_type f Srd priority t.reply) (service_reply ts station_type f Srd priority u.reply) (of_service ts station_type f Srd priority u.reply) t.kept u.kept h) (λ _. tt)
 
 both_self : (K : Type 0) (o : Option messages.Reply) → AreBoth K o o
 both_self K None = tt
@@ -161,7 +162,7 @@ both_self K (Some a) = λ _. inl refl
 
 both_asked : (K : Type 0) (t u : ResponderTable) (ts station_type : ℕ) (f : Fields) (what : Asked) → (K → AlikeKept t.kept u.kept)
     → AreBoth K (reply_to_asked t ts station_type f what) (reply_to_asked u ts station_type f what)
-both_asked K t u ts station_type f (Send service high) h = both_service K t u ts station_type f service high h
+both_asked K t u ts station_type f (Send service priority) h = both_service K t u ts station_type f service priority h
 both_asked K t u ts station_type f Status h = both_self K (reply_to_asked t ts station_type f Status)
 both_asked K t u ts station_type f Unknown h = tt
 
@@ -195,17 +196,17 @@ kept_once t u f x y service h =
     subst (λ b. KeepAlike (once t f x) (if b then u else executed u f y)) (same_repeat f t.kept u.kept h)
     (by_one_test KeepAlike (is_repeat t.kept f) t (executed t f x) u (executed u f y) (λ _. h) (λ _. (refl, refl, inr service)))
 
-kept_service : (t u : ResponderTable) (ts station_type : ℕ) (f : Fields) (service : Service) (high : Bool) → KeepAlike t u → KeepAlike (after_service t ts station_type f service high) (after_service u ts station_type f service high)
-kept_service t u ts station_type f Sda high h =
+kept_service : (t u : ResponderTable) (ts station_type : ℕ) (f : Fields) (service : Service) (priority : Priority) → KeepAlike t u → KeepAlike (after_service t ts station_type f service priority) (after_service u ts station_type f service priority)
+kept_service t u ts station_type f Sda priority h =
     by_one_test KeepAlike (address_in f.da == ts) _ t _ u
-    (λ _. kept_once t u f (service_reply ts station_type f Sda high t.reply) (service_reply ts station_type f Sda high u.reply) (of_service ts station_type f Sda high u.reply) h) (λ _. h)
-kept_service t u ts station_type f Sdn high h = by_one_test KeepAlike (address_in f.da == ts || address_in f.da == 127) _ t _ u (λ _. h) (λ _. h)
-kept_service t u ts station_type f Srd high h =
+    (λ _. kept_once t u f (service_reply ts station_type f Sda priority t.reply) (service_reply ts station_type f Sda priority u.reply) (of_service ts station_type f Sda priority u.reply) h) (λ _. h)
+kept_service t u ts station_type f Sdn priority h = by_one_test KeepAlike (address_in f.da == ts || address_in f.da == 127) _ t _ u (λ _. h) (λ _. h)
+kept_service t u ts station_type f Srd priority h =
     by_one_test KeepAlike (address_in f.da == ts) _ t _ u
-    (λ _. kept_once t u f (service_reply ts station_type f Srd high t.reply) (service_reply ts station_type f Srd high u.reply) (of_service ts station_type f Srd high u.reply) h) (λ _. h)
+    (λ _. kept_once t u f (service_reply ts station_type f Srd priority t.reply) (service_reply ts station_type f Srd priority u.reply) (of_service ts station_type f Srd priority u.reply) h) (λ _. h)
 
 kept_asked : (t u : ResponderTable) (ts station_type : ℕ) (f : Fields) (what : Asked) → KeepAlike t u → KeepAlike (after_asked t ts station_type f what) (after_asked u ts station_type f what)
-kept_asked t u ts station_type f (Send service high) h = kept_service t u ts station_type f service high h
+kept_asked t u ts station_type f (Send service priority) h = kept_service t u ts station_type f service priority h
 kept_asked t u ts station_type f Status h = h
 kept_asked t u ts station_type f Unknown h = h
 

@@ -4,16 +4,19 @@ use Rattle.std.specs.Prelude.{max, min}
 use Rattle.std.proofs.lemmas.Bool.{eq-eqb}
 use Rattle.pb_timers.specs.Timers.{bits}
 use Rattle.pb_ring.specs.Gap.{next_asked, last_asked, round_after}
+use Rattle.pb_cycles.specs.declared.services.Priority.{Priority}
+use Rattle.pb_cycles.specs.declared.services.Priority.TheVariants.{Low, High}
 use Rattle.pb_cycles.specs.Fields.{Fields}
 use Rattle.pb_cycles.specs.Messages.{has_bit, frame_octets}
 use Rattle.pb_cycles.specs.RequestFields.{RequestFields}
-use Rattle.pb_cycles.specs.Requests.{is_answered, code_of}
+use Rattle.pb_cycles.specs.Requests.{is_answered, code_of, priority_of}
 use Rattle.pb_cycles.specs.declared.services.Service.{Service}
 use Rattle.pb_cycles.specs.declared.services.Service.TheVariants.{Sda, Sdn, Srd}
-use Rattle.pb_cycles.specs.Counts.{count_bits, count_at}
+use Rattle.pb_cycles.specs.Counts.{count_at}
+use Rattle.pb_telegram.specs.Control.{count_bits}
 use Rattle.pb_cycles.specs.Initiating.{first_sending, after_request}
-use Rattle.pb_cycles.specs.declared.counts.FrameCount.{FrameCount}
-use Rattle.pb_cycles.specs.declared.counts.FrameCount.TheVariants.{First, Clear, Set}
+use Rattle.pb_telegram.specs.declared.control.FrameCount.{FrameCount}
+use Rattle.pb_telegram.specs.declared.control.FrameCount.TheVariants.{First, Clear, Set}
 use Rattle.law_turn.specs.Spans.{Span}
 use Rattle.law_turn.specs.Phases.{Claim, Use, AwaitData, Checking}
 use Rattle.law_turn.specs.Stations.{Station, next_station}
@@ -105,21 +108,21 @@ speech_claim c s sent =
 
 -- ---- requests
 
-pub code_bit : (service : Service) (high : Bool) (count : FrameCount) → has_bit (0x40 + (if is_answered service then count_bits count else 0) + code_of service high) 6 ≡ true
-code_bit Sda true First = refl
-code_bit Sda true Clear = refl
-code_bit Sda true Set = refl
-code_bit Sda false First = refl
-code_bit Sda false Clear = refl
-code_bit Sda false Set = refl
-code_bit Sdn true count = refl
-code_bit Sdn false count = refl
-code_bit Srd true First = refl
-code_bit Srd true Clear = refl
-code_bit Srd true Set = refl
-code_bit Srd false First = refl
-code_bit Srd false Clear = refl
-code_bit Srd false Set = refl
+pub code_bit : (service : Service) (priority : Priority) (count : FrameCount) → has_bit (0x40 + (if is_answered service then count_bits count else 0) + code_of service priority) 6 ≡ true
+code_bit Sda High First = refl
+code_bit Sda High Clear = refl
+code_bit Sda High Set = refl
+code_bit Sda Low First = refl
+code_bit Sda Low Clear = refl
+code_bit Sda Low Set = refl
+code_bit Sdn High count = refl
+code_bit Sdn Low count = refl
+code_bit Srd High First = refl
+code_bit Srd High Clear = refl
+code_bit Srd High Set = refl
+code_bit Srd Low First = refl
+code_bit Srd Low Clear = refl
+code_bit Srd Low Set = refl
 
 pub speech_request : (c : Place) (s : Station) (asked : Bool) (r : RequestFields) → Speech c s.address s.busy s.quiet (says_request c.p s asked r c.now)
 speech_request c s asked r =
@@ -130,7 +133,7 @@ speech_request c s asked r =
       refl,
       record {
         offered = None;
-        meant = MeansRequest f refl (code_bit r.service r.high (count_at s.cycles.initiator.counts r.da)) refl;
+        meant = MeansRequest f refl (code_bit r.service (priority_of r.high) (count_at s.cycles.initiator.counts r.da)) refl;
         stands = λ x begin end offers. by_test (Stands c x s.address s.busy s.quiet) (is_answered r.service) (record y { phase = AwaitData asked None true }) (record y { phase = Use asked (y.own.end + c.p.tid2) })
             (λ _. stands_in c x s (record y { phase = AwaitData asked None true }) octets begin end refl refl refl refl (λ e same own. SaidData offers))
             (λ _. stands_in c x s (record y { phase = Use asked (y.own.end + c.p.tid2) }) octets begin end refl refl refl refl (λ e same own. subst (λ n. SaidPhase c x (Use asked (n + c.p.tid2))) (same ∙ sym own) (SaidLast offers)));

@@ -5,15 +5,18 @@ use Rattle.pb_telegram.specs.Faults.{fault_of}
 use Rattle.pb_telegram.specs.declared.chars.RxChar.TheVariants.{Good}
 use Rattle.pb_timers.specs.Timers.{Params}
 use Rattle.pb_ring.specs.Gap.{next_asked, last_asked}
+use Rattle.pb_cycles.specs.declared.services.Priority.{Priority}
+use Rattle.pb_cycles.specs.declared.services.Priority.TheVariants.{Low, High}
 use Rattle.pb_cycles.specs.Fields.{Fields}
 use Rattle.pb_cycles.specs.RequestFields.{RequestFields}
-use Rattle.pb_cycles.specs.Requests.{is_answered, code_of}
+use Rattle.pb_cycles.specs.Requests.{is_answered, code_of, priority_of}
 use Rattle.pb_cycles.specs.declared.services.Service.{Service}
 use Rattle.pb_cycles.specs.declared.services.Service.TheVariants.{Sda, Sdn, Srd}
-use Rattle.pb_cycles.specs.Counts.{count_bits, count_at}
+use Rattle.pb_cycles.specs.Counts.{count_at}
+use Rattle.pb_telegram.specs.Control.{count_bits}
 use Rattle.pb_cycles.specs.Initiating.{first_sending, retry_of}
-use Rattle.pb_cycles.specs.declared.counts.FrameCount.{FrameCount}
-use Rattle.pb_cycles.specs.declared.counts.FrameCount.TheVariants.{First, Clear, Set}
+use Rattle.pb_telegram.specs.declared.control.FrameCount.{FrameCount}
+use Rattle.pb_telegram.specs.declared.control.FrameCount.TheVariants.{First, Clear, Set}
 use Rattle.pb_cycles.specs.declared.initiators.OpenRequest.{OpenRequest}
 use Rattle.law_turn.specs.Marks.{Mark}
 use Rattle.law_turn.specs.Phases.{Phase, Offline, PassiveIdle, Listening, Idle, Claim, Use, AwaitData, AwaitStatus, Pass, Checking}
@@ -50,25 +53,25 @@ spelled_no_request p s asked now a n =
     by_test (λ (turn : Station × Option (List ℕ)). Spelled turn.1) (looks_at_gap p s asked now) (says_look p s (next_asked s.address (next_station s) p.hsa (last_asked s.gap)) now) (says_token p s 0 now)
     (λ _. spelled_look p s (next_asked s.address (next_station s) p.hsa (last_asked s.gap)) now a n) (λ _. spelled_token p s 0 now a n)
 
-pub code_small : (service : Service) (high : Bool) (count : FrameCount) → 0x40 + (if is_answered service then count_bits count else 0) + code_of service high < 128
-code_small Sda true First = omega arith
-code_small Sda true Clear = omega arith
-code_small Sda true Set = omega arith
-code_small Sda false First = omega arith
-code_small Sda false Clear = omega arith
-code_small Sda false Set = omega arith
-code_small Sdn true count = omega arith
-code_small Sdn false count = omega arith
-code_small Srd true First = omega arith
-code_small Srd true Clear = omega arith
-code_small Srd true Set = omega arith
-code_small Srd false First = omega arith
-code_small Srd false Clear = omega arith
-code_small Srd false Set = omega arith
+pub code_small : (service : Service) (priority : Priority) (count : FrameCount) → 0x40 + (if is_answered service then count_bits count else 0) + code_of service priority < 128
+code_small Sda High First = omega arith
+code_small Sda High Clear = omega arith
+code_small Sda High Set = omega arith
+code_small Sda Low First = omega arith
+code_small Sda Low Clear = omega arith
+code_small Sda Low Set = omega arith
+code_small Sdn High count = omega arith
+code_small Sdn Low count = omega arith
+code_small Srd High First = omega arith
+code_small Srd High Clear = omega arith
+code_small Srd High Set = omega arith
+code_small Srd Low First = omega arith
+code_small Srd Low Clear = omega arith
+code_small Srd Low Set = omega arith
 
 spelled_request : (p : Params) (s : Station) (asked : Bool) (r : RequestFields) (now : ℕ) → s.address < 127 → IsRequest r → Spelled (says_request p s asked r now).1
 spelled_request p s asked r now a is =
-    frame_spelled (first_sending s.cycles.initiator s.address r) (low_address s.address a) (code_small r.service r.high (count_at s.cycles.initiator.counts r.da)) is.fits
+    frame_spelled (first_sending s.cycles.initiator s.address r) (low_address s.address a) (code_small r.service (priority_of r.high) (count_at s.cycles.initiator.counts r.da)) is.fits
 
 spelled_low : (p : Params) (s : Station) (asked : Bool) (r : Option RequestFields) (now : ℕ) → s.address < 127 → next_station s < 127 → IfSome r IsRequest → Spelled (says_low p s asked r now).1
 spelled_low p s asked None now a n is = spelled_no_request p s asked now a n

@@ -3,6 +3,7 @@ use Rattle.std.proofs.Common.{◌≡◌, ◌∙◌, refl, ℕ, ◌+◌, ◌%◌,
 use Rattle.std.specs.Prelude.{is_some, max}
 use Rattle.pb_timers.specs.Timers.{Params}
 use Rattle.pb_ring.specs.Gap.{last_asked, next_asked, round_after}
+use Rattle.pb_cycles.specs.declared.services.Priority.{Priority}
 use Rattle.pb_cycles.specs.Messages.{has_bit}
 use Rattle.pb_cycles.specs.Fields.{Fields}
 use Rattle.pb_cycles.specs.RequestFields.{RequestFields}
@@ -37,15 +38,15 @@ Has a s = s.cycles.responder.reply ≡ a
 same-executed : (t : ResponderTable) (f : Fields) (reply : messages.Reply) → (once t f reply).reply ≡ t.reply
 same-executed t f reply = by_test (λ (x : ResponderTable). x.reply ≡ t.reply) (is_repeat t.kept f) t (executed t f reply) (λ _. refl) (λ _. refl)
 
-served : (t : ResponderTable) (ts station_type : ℕ) (f : Fields) (service : Service) (high : Bool) → (after_service t ts station_type f service high).reply ≡ t.reply
-served t ts station_type f Sda high =
-    by_test (λ (x : ResponderTable). x.reply ≡ t.reply) (address_in f.da == ts) _ t (λ _. same-executed t f (service_reply ts station_type f Sda high t.reply)) (λ _. refl)
-served t ts station_type f Sdn high = by_test (λ (x : ResponderTable). x.reply ≡ t.reply) _ (counted t) t (λ _. refl) (λ _. refl)
-served t ts station_type f Srd high =
-    by_test (λ (x : ResponderTable). x.reply ≡ t.reply) (address_in f.da == ts) _ t (λ _. same-executed t f (service_reply ts station_type f Srd high t.reply)) (λ _. refl)
+served : (t : ResponderTable) (ts station_type : ℕ) (f : Fields) (service : Service) (priority : Priority) → (after_service t ts station_type f service priority).reply ≡ t.reply
+served t ts station_type f Sda priority =
+    by_test (λ (x : ResponderTable). x.reply ≡ t.reply) (address_in f.da == ts) _ t (λ _. same-executed t f (service_reply ts station_type f Sda priority t.reply)) (λ _. refl)
+served t ts station_type f Sdn priority = by_test (λ (x : ResponderTable). x.reply ≡ t.reply) _ (counted t) t (λ _. refl) (λ _. refl)
+served t ts station_type f Srd priority =
+    by_test (λ (x : ResponderTable). x.reply ≡ t.reply) (address_in f.da == ts) _ t (λ _. same-executed t f (service_reply ts station_type f Srd priority t.reply)) (λ _. refl)
 
 asked : (t : ResponderTable) (ts station_type : ℕ) (f : Fields) (what : Asked) → (after_asked t ts station_type f what).reply ≡ t.reply
-asked t ts station_type f (Send service high) = served t ts station_type f service high
+asked t ts station_type f (Send service priority) = served t ts station_type f service priority
 asked t ts station_type f Status = refl
 asked t ts station_type f Unknown = refl
 

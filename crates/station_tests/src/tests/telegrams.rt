@@ -2,8 +2,9 @@
 
 use super::equal;
 use arrayvec::ArrayVec;
+use pb_decode::push_telegram;
 use pb_telegram::{
-    Fc, Fixed8Telegram, Head, Receiver, RxChar, ShortTelegram, StationType, Telegram,
+    Fc, Fixed8Telegram, FrameCount, Head, Receiver, RxChar, ShortTelegram, StationType, Telegram,
     TelegramFault, TokenTelegram, VarTelegram, fcs, parse, read_octets, spelled_by,
     spelled_telegram, spelled_token, token_in, write,
 };
@@ -88,6 +89,34 @@ fn telegrams_are_read_and_written(rt: HostRuntime) -> Result<(), Fail> {
             &parse(&good(rt.alloc(), octets)?).as_ref(),
             &Ok(telegram),
         );
+    }
+    Ok(())
+}
+
+#[test]
+fn a_telegram_is_shown_as_decode_prints_it(rt: HostRuntime) -> Result<(), Fail> {
+    let spellings = [
+        ([0xdc, 3, 2].as_slice(), "token da=3 sa=2"),
+        (&[0x10, 0x83, 2, 0x09, 0x8e, 0x16], "short da=3+ sa=2 fc=09"),
+        (
+            &[0x68, 5, 5, 0x68, 127, 0x82, 0x44, 1, 0xff, 0x45, 0x16],
+            "var da=127 sa=2+ fc=44 unit=01ff",
+        ),
+        (
+            &[0xa2, 5, 2, 0x7d, 1, 2, 3, 4, 5, 6, 7, 8, 0xa8, 0x16],
+            "fixed da=5 sa=2 fc=7d unit=0102030405060708",
+        ),
+        (&[0xe5], "ack"),
+    ];
+    for (octets, wanted) in spellings {
+        equal(&rt, &spelled_telegram(octets).is_some(), &true);
+        if let Some(telegram) = spelled_telegram(octets) {
+            let mut decoded = Vec::new(rt.alloc());
+            push_telegram(&mut decoded, &telegram)?;
+            equal(&rt, &decoded.as_slice(), &wanted.as_bytes());
+            let shown = format!(in rt.alloc(); "{telegram}")?;
+            equal(&rt, &shown.as_bytes(), &wanted.as_bytes());
+        }
     }
     Ok(())
 }
@@ -290,9 +319,13 @@ fn a_control_octet_is_read(rt: HostRuntime) {
 #[test]
 fn a_control_octet_is_made(rt: HostRuntime) {
     equal(&rt, &Fc::STATUS_REQUEST, &Fc(0x49));
-    equal(&rt, &Fc::request(0, 9), &Fc::STATUS_REQUEST);
-    equal(&rt, &Fc::request(0x20, 13), &Fc(0x6d));
-    equal(&rt, &Fc::request(0x30, 12), &Fc(0x7c));
+    equal(&rt, &Fc::request(None, 9), &Fc::STATUS_REQUEST);
+    equal(&rt, &Fc::request(Some(FrameCount::First), 13), &Fc(0x6d));
+    equal(&rt, &Fc::request(Some(FrameCount::Clear), 12), &Fc(0x5c));
+    equal(&rt, &Fc::request(Some(FrameCount::Set), 12), &Fc(0x7c));
+    equal(&rt, &FrameCount::First.next(), &FrameCount::Clear);
+    equal(&rt, &FrameCount::Clear.next(), &FrameCount::Set);
+    equal(&rt, &FrameCount::Set.next(), &FrameCount::Clear);
     equal(&rt, &Fc::reply(StationType::Passive.bits(), 8), &Fc(0x08));
     equal(&rt, &Fc::reply(StationType::NotReady.bits(), 0), &Fc(0x10));
     equal(&rt, &Fc::reply(StationType::Ready.bits(), 0), &Fc(0x20));

@@ -1,7 +1,7 @@
 use Rattle.std.proofs.Common.{ℕ, ◌≤◌, refl, arith}
 use Rattle.std.proofs.lemmas.List.{get_or-replicate}
 use Rattle.pb_cycles.proofs.Acting.{requested, closed}
-use Rattle.pb_cycles.specs.declared.counts.FrameCount.TheVariants.{First}
+use Rattle.pb_telegram.specs.declared.control.FrameCount.TheVariants.{First}
 use Rattle.pb_cycles.proofs.laws.an_initiator_stands_for_its_acts.Goals as goal
 
 pub returns-clause-fresh : goal.returns-clause-fresh

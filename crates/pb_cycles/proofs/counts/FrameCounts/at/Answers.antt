@@ -2,8 +2,8 @@ use Rattle.std.proofs.Common.{◌∙◌, ap, sym, List, Bool, ◌==◌}
 use Rattle.std.specs.Int.{bit_at}
 use Rattle.pb_cycles.specs.Counts.{count_at}
 use Rattle.pb_cycles.specs.CountMasks.{count_of}
-use Rattle.pb_cycles.specs.declared.counts.FrameCount.{FrameCount}
-use Rattle.pb_cycles.specs.declared.counts.FrameCount.TheVariants.{First}
+use Rattle.pb_telegram.specs.declared.control.FrameCount.{FrameCount}
+use Rattle.pb_telegram.specs.declared.control.FrameCount.TheVariants.{First}
 use Rattle.pb_cycles.proofs.MaskLemmas.{get_or-counts_in}
 use Rattle.pb_cycles.proofs.counts.FrameCounts.at.Goals as goal
 
