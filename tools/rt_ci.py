@@ -82,6 +82,9 @@ def in_order(tasks):
                 left.remove(key)
                 back = 0 if key == first else BACK[key[1]]
                 running[begun(tasks[key][3], given, jobs, back)] = key, needs
+            elif key == first:
+                # Most wait for it: nothing is begun that takes the memory which it waits for.
+                break
         for it in concurrent.futures.wait(running, return_when=concurrent.futures.FIRST_COMPLETED).done:
             given[running.pop(it)[0]] = it.result()
     return given
