@@ -1,13 +1,14 @@
 -- Nothing is spoken in an event that is no turn, as its reply tells without a look at the world.
 use Rattle.std.proofs.Common.{◌≡◌, ℕ, ◌+◌, Bool, false, List, [], ◌∷◌, length, map, Some, None, Ok, sym, ap}
 use Rattle.std.specs.List.{list_any}
-use Rattle.std.specs.Prelude.{Option, Result, Err, OnOk, slice_get, slice_set, find, is_none, nat_le, not, ◌&&◌, ◌||◌, ◌==◌}
+use Rattle.std.specs.Prelude.{Option, Result, Err, OnOk, slice_get, slice_set, find, is_none, is_some, nat_le, not, ◌&&◌, ◌||◌, ◌==◌}
 use Rattle.pb_cycles.specs.RequestFields.{RequestFields}
-use Rattle.law_turn.specs.Stations.{list_for, pushed}
+use Rattle.law_turn.specs.Stations.{Station, list_for, pushed}
+use Rattle.law_turn.specs.Turns.{turn_of}
 use Rattle.law_model.specs.Medium.{Tap, entry_at}
 use Rattle.law_model.specs.Trace.{begins_from, cut_at, unheard_at}
 use Rattle.law_model.specs.World.{World, Event, Turn, Pass, Damage, Start, Stop, Queue, Noise, Unheard, Reply, Fault, NoSuchTap, Running, NotRunning, NothingInAir, ZeroTime, QueueFull, TraceFull, unless, is_in_air_by, queue_limit}
-use Rattle.law_model.specs.Step.{step, step_start, step_stop, step_queue, told, pass_faults, has_place, change_first, with_hit, started_tap, halted, with_noise, is_noisy}
+use Rattle.law_model.specs.Step.{step, step_turn, after_turn, with_said, step_start, step_stop, step_queue, told, pass_faults, has_place, change_first, with_hit, started_tap, halted, with_noise, is_noisy}
 use Rattle.law_model.proofs.Worlds.{unless-Ok}
 use Rattle.pb_segment.specs.Histories.{Receipt, is_turn}
 use Rattle.pb_segment.specs.Locked.{LockedView, AppendsTo}
@@ -56,6 +57,19 @@ driven_silent w u (Unheard tap speaker) reply driven ok =
 -- and so in what the conductor's seat is told of one
 pub driven_told : (old new : LockedView) (e : Event) (before after : List Receipt) → is_turn e ≡ false → AppendsTo old new e before after → IsTold before after IsSilent
 driven_told old new e before after driven (r, appends, tells) = (r, tells, driven_silent old.world new.world e r.reply driven appends.0)
+
+-- a turn takes no time
+after_turn_clock : (w u : World) (tap : ℕ) (t : Tap) (turn : Station × Option (List ℕ)) (reply : Reply) → after_turn w tap t turn ≡ Ok (u, reply) → reply.now ≡ w.now
+after_turn_clock w u tap t turn reply ok =
+    let next = record w { trace = with_said tap turn.1 w.now w.taps w.trace; taps = slice_set w.taps tap (record t { station = turn.0; marks = [] }) } in
+    sym (ap (λ (x : World × Reply). x.1.now) (unless-Ok {X = World × Reply} ((not t.running, NotRunning) ∷ (is_some turn.1 && nat_le w.limit (length w.trace), TraceFull) ∷ []) (next, record { now = w.now; spoke = turn.1 }) (u, reply) ok).1)
+
+step_turn_clock : (w u : World) (tap : ℕ) (o : Option Tap) (reply : Reply) → step_turn w tap o ≡ Ok (u, reply) → reply.now ≡ w.now
+step_turn_clock w u tap None reply ok = absurd cc
+step_turn_clock w u tap (Some t) reply ok = after_turn_clock w u tap t (turn_of w.params t.station t.marks w.now) reply ok
+
+pub turn_clock : (w u : World) (tap : ℕ) (reply : Reply) → step w (Turn tap) ≡ Ok (u, reply) → reply.now ≡ w.now
+turn_clock w u tap reply ok = step_turn_clock w u tap (slice_get w.taps tap) reply ok
 
 -- what follows from what holds at Ok holds at Ok
 pub on-ok : {X F : Type 0} {P Q : Type 0} (r : Result X F) → (P → Q) → OnOk r P → OnOk r Q

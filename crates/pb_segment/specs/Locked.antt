@@ -82,6 +82,14 @@ RefusesToKeep l event (commit.World fault) =
     MatchResult (step l.world event) (λ _. (fault ≡ world.NoMemory) × (length l.history < l.limit)) (λ reason. fault ≡ world_fault reason)
 RefusesToKeep l event commit.HistoryFull = IsOk (step l.world event) × (length l.history ≡ l.limit)
 
+-- why a turn that is taken in place is refused: as above, but memory may be refused before the world judges the turn
+abbrev pub RefusesToTake : LockedView → Event → CommitFault → Type 0
+RefusesToTake l event commit.WrongTap = ⊥
+RefusesToTake l event commit.Disagree = ⊥
+RefusesToTake l event (commit.Stale turns now) = ⊥
+RefusesToTake l event (commit.World fault) = fault ≢ world.NoMemory → RefusesToKeep l event (commit.World fault)
+RefusesToTake l event commit.HistoryFull = RefusesToKeep l event commit.HistoryFull
+
 -- ---- which seats and decisions are accepted
 
 -- the segment has accepted exactly the turns for which the tap's seat has receipts

@@ -1,7 +1,8 @@
 -- What is kept of an event, and why an event is not kept.
-use Rattle.std.specs.Prelude.{◌≡◌, ℕ, ◌<◌, Option, Some, None, Ok}
+use Rattle.std.specs.Prelude.{◌≡◌, ◌≢◌, ℕ, ◌<◌, Bool, Option, Some, None, Ok, if◌then◌else◌}
 use Rattle.law_model.specs.World.{World, Event, Reply}
 use Rattle.law_model.specs.Step.{step}
+use Rattle.pb_taps.specs.Faults.{Refuses}
 use Rattle.pb_taps.specs.declared.faults.WorldFault.{WorldFault}
 use Rattle.pb_taps.specs.declared.faults.WorldFault.TheVariants as world
 use Rattle.pb_segment.specs.declared.faults.CommitFault.{CommitFault}
@@ -21,6 +22,24 @@ pub record IsNoteOf (w : World) (of : Event) (place : ℕ) (n : Note) : Type 0 w
   pub event : n.happened.event ≡ of
   pub reply : IsReplyTo w of n.happened.reply
   pub kept : n.kept ≡ record { place = place; reply = n.happened.reply }
+
+-- what is kept of an event that has led from one world to another, at an index of the history
+pub record IsKeptOf (w : World) (of : Event) (place : ℕ) (next : World) (n : Note) : Type 0 where
+  pub event : n.happened.event ≡ of
+  pub reply : step w of ≡ Ok (next, n.happened.reply)
+  pub kept : n.kept ≡ record { place = place; reply = n.happened.reply }
+
+-- the reply to a turn, given whether octets are sent, the clock, and the reply with octets
+abbrev pub said_by : Bool → ℕ → Reply → Reply
+said_by sent now reply = if sent then reply else record { now = now; spoke = None }
+
+-- why a turn is not taken in place: by the world, or because memory is refused, which may come first
+abbrev pub IsRefused : World → Event → CommitFault → Type 0
+IsRefused w event commit.WrongTap = ⊥
+IsRefused w event commit.Disagree = ⊥
+IsRefused w event (commit.Stale turns now) = ⊥
+IsRefused w event (commit.World fault) = fault ≢ world.NoMemory → Refuses w event (step w event) fault
+IsRefused w event commit.HistoryFull = ⊥
 
 -- there is no room for one more event than this many, with this limit: the history is full; or else memory is refused
 abbrev pub IsWantOfRoom : ℕ → ℕ → CommitFault → Type 0

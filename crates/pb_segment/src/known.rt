@@ -26,6 +26,19 @@ pub(crate) struct Known {
     passes: Vec<Option<Arc<Event, Global>>>,
     /// The last reply without octets.
     silent: Arc<Reply, Global>,
+    /// Memory for the next reply with octets.
+    shared: Option<Arc<Reply, Global>>,
+    /// Memory for a seat's own copy of one. It is not used before a reply has 2^63 owners.
+    own: Option<Arc<Reply, Global>>,
+}
+
+/// Memory for a reply with octets, reserved before the station decides what it sends.
+#[derive(Drop)]
+pub(crate) struct Rooms {
+    /// For the history and the seat.
+    pub(crate) shared: Arc<Reply, Global>,
+    /// For the seat, if the other can't be shared.
+    pub(crate) own: Arc<Reply, Global>,
 }
 
 impl Known {
@@ -37,6 +50,8 @@ impl Known {
             turns: no_events(alloc)?,
             passes: no_events(alloc)?,
             silent: Arc::new(alloc, Reply { now, spoke: None })?,
+            shared: None,
+            own: None,
         })
     }
 
@@ -93,6 +108,43 @@ impl Known {
             self.silent = Arc::new(alloc, Reply { now, spoke: None })?;
         }
         Arc::try_clone(&self.silent)
+    }
+
+    /// Memory for the next reply with octets. It is allocated only where what was put back before is used up.
+    ///
+    /// Fault: memory was refused.
+    #[inline(always)]
+    pub(crate) fn rooms(&mut self, alloc: Global, now: Moment) -> Result<Rooms, AllocError> {
+        Ok(Rooms {
+            shared: room_in(alloc, &mut self.shared, now)?,
+            own: room_in(alloc, &mut self.own, now)?,
+        })
+    }
+
+    /// Takes back memory for the next reply with octets, as far as it is left.
+    #[inline(always)]
+    pub(crate) fn put_back(
+        &mut self,
+        shared: Option<Arc<Reply, Global>>,
+        own: Option<Arc<Reply, Global>>,
+    ) {
+        self.shared = shared;
+        self.own = own;
+    }
+}
+
+/// Takes the memory for a reply that is kept at a place, or allocates some.
+///
+/// Fault: memory was refused.
+#[inline(always)]
+fn room_in(
+    alloc: Global,
+    place: &mut Option<Arc<Reply, Global>>,
+    now: Moment,
+) -> Result<Arc<Reply, Global>, AllocError> {
+    match place.take() {
+        Some(room) => Ok(room),
+        None => Ok(Arc::new(alloc, Reply { now, spoke: None })?),
     }
 }
 

@@ -18,6 +18,7 @@ mod receipts;
 mod reports;
 mod seats;
 mod segments;
+mod turns;
 
 pub use drafts::{Closed, Draft};
 pub use faults::{CloseFault, CommitFault, GlanceFault};

@@ -9,13 +9,14 @@ use crate::blocks::Blocks;
 use crate::faults::{CommitFault, GlanceFault};
 use crate::histories::Happened;
 use crate::known::Known;
-use crate::notes::{Note, note_event, note_turn, refused, turn_refused};
+use crate::notes::{Note, make_room, note_event, note_turn, refused, turn_refused};
 use crate::origins::Origin;
 use crate::outlooks::Outlook;
 use crate::receipts::{KeptReceipt, is_turn};
 use crate::seats::{ConductorSeat, TapSeat};
+use crate::turns::take_turn;
 use pb_station::{Decided, Glance, SendBuffer, decide_in};
-use pb_world::{Event, World};
+use pb_world::{Event, World, WorldFault};
 use std::alloc::Global;
 use std::marker::Model;
 use std::sync::ledger::{Book, Ledger, Share};
@@ -62,7 +63,8 @@ impl<L: Ledger> Locked<L> {
     ghost use Rattle.pb_world.specs.Glances.{CanBeDecided, Fits, IsGlance};
     ghost use Rattle.pb_segment.specs.Histories.{is_turn};
     ghost use Rattle.pb_segment.specs.Locked.{AppendsTo, IsAllowed, IsPresent, KnowsDrives, KnowsTurns};
-    ghost use Rattle.pb_segment.specs.Locked.{RefusesDecision, RefusesEvent, RefusesToKeep, RefusesToShow, RefusesTurn};
+    ghost use Rattle.pb_segment.specs.Locked.{RefusesDecision, RefusesEvent, RefusesToKeep, RefusesToShow};
+    ghost use Rattle.pb_segment.specs.Locked.{RefusesToTake, RefusesTurn};
     ghost use Rattle.pb_segment.specs.Outlooks.{ShowsWorld};
     ghost use Rattle.pb_segment.specs.Seats.{Answers, CountsTurns, IsSilent, IsTold};
 
@@ -113,9 +115,10 @@ impl<L: Ledger> Locked<L> {
         self.keep_turn(alloc, decided, &mut seat.receipts, &mut seat.share)
     }
 
-    /// Takes the turn of a seat's tap, decided from the present state, which is not compared again. `out` is a buffer for
-    /// what the tap sends.
+    /// Takes the turn of a seat's tap in place. `out` is a buffer for what the tap would send, where there is no room for
+    /// the turn.
     #[inline(always)]
+    #[tactic(auto, using(crate::proofs::Noting::refused_turn))]
     pub(crate) fn turn(
         &mut self,
         alloc: Global,
@@ -132,9 +135,10 @@ impl<L: Ledger> Locked<L> {
         if self.turns[seat.tap] != seat.receipts.len() {
             return Err(CommitFault::Disagree);
         }
-        let glance = self.world.glance_in_room(alloc, seat.tap)?;
-        let decided = decide_in(alloc, glance, out)?;
-        self.keep_turn(alloc, decided, &mut seat.receipts, &mut seat.share)
+        if self.history.len() >= self.limit {
+            return Err(self.full_for_turn(alloc, seat.tap, out));
+        }
+        self.take_turn(alloc, seat.tap, &mut seat.receipts, &mut seat.share)
     }
 
     /// Applies an event that is no turn.
@@ -224,6 +228,52 @@ impl<L: Ledger> Locked<L> {
             Err(fault) => return Err(turn_refused(&self.world, &decided, fault)),
         };
         self.world.take_decided(alloc, decided)?;
+        count(&mut self.turns, &mut self.drives, &note.happened);
+        keep(note, &mut self.history, &mut self.book, receipts, share);
+        Ok(())
+    }
+
+    /// Why a turn is refused by a full history: the world's fault comes first. Kept out of line: it is rare, and decides
+    /// the turn to find out whether anything would be sent.
+    #[inline(never)]
+    #[tactic(auto, using(crate::proofs::Noting::full_refused))]
+    fn full_for_turn(&mut self, alloc: Global, tap: usize, out: &mut SendBuffer) -> CommitFault
+        requires there { tap < length self.old.world.taps }
+        requires full { length self.old.history ≡ self.old.limit }
+        ensures fault { RefusesToTake self.old (Turn tap) result }
+        ensures same { self.new ≡ self.old }
+    {
+        let Ok(glance) = self.world.glance_in_room(alloc, tap) else {
+            return CommitFault::World(WorldFault::NoMemory);
+        };
+        let Ok(decided) = decide_in(alloc, glance, out) else {
+            return CommitFault::World(WorldFault::NoMemory);
+        };
+        turn_refused(&self.world, &decided, CommitFault::HistoryFull)
+    }
+
+    /// Takes a tap's turn in place, and keeps event and receipt. All memory is reserved before anything changes.
+    #[inline(always)]
+    fn take_turn(
+        &mut self,
+        alloc: Global,
+        tap: usize,
+        receipts: &mut Vec<KeptReceipt>,
+        share: &mut Share<L>,
+    ) -> Result<(), CommitFault>
+        requires inside { length self.old.history < self.old.limit }
+        requires part { share.old.parts ≡ 1 }
+        ensures ok { OnOk result
+            (AppendsTo self.old self.new (Turn tap) receipts.old.items receipts.new.items) }
+        ensures counted { OnOk result (share.new.amount ≡ share.old.amount + 1) }
+        ensures part { share.new.parts ≡ 1 }
+        ensures err { IfErr result (RefusesToTake self.old (Turn tap)) }
+        ensures same { OnErr result ((self.new ≡ self.old)
+            × (receipts.new.items ≡ receipts.old.items) × (share.new.amount ≡ share.old.amount)) }
+    {
+        make_room(alloc, &mut self.history, receipts, self.limit)?;
+        let before = self.history.len();
+        let note = take_turn(alloc, &mut self.world, tap, &mut self.known, before)?;
         count(&mut self.turns, &mut self.drives, &note.happened);
         keep(note, &mut self.history, &mut self.book, receipts, share);
         Ok(())

@@ -114,7 +114,7 @@ pub(crate) fn refused(world: &World, event: &Event, speaks: bool, fault: CommitF
 
 /// Reserves memory for one more event, in a history of at most `limit`, and for its receipt.
 #[inline(always)]
-fn make_room(
+pub(crate) fn make_room(
     alloc: Global,
     history: &mut Blocks,
     receipts: &mut Vec<KeptReceipt>,

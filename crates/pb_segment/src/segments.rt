@@ -123,8 +123,8 @@ impl<L: Ledger> SharedSegment<L> {
     }
 
     /// The tap takes its turn, decided and taken while the lock is held: the same as a glance, a decision and a commit with
-    /// nothing between them, in less time. The seat gets a receipt. `out` is a buffer for what the tap sends; its old content
-    /// is discarded. It may block on the lock. A refused turn changes nothing but the buffer.
+    /// nothing between them, in less time, and in place: the station is not copied. The seat gets a receipt. `out` is a buffer
+    /// for octets, which the call may overwrite. It may block on the lock. A refused turn changes nothing but the buffer.
     ///
     /// Faults, the first that applies: `Disagree` if the segment has accepted another number of the tap's turns than the
     /// seat has receipts; `World` with the world's fault; `HistoryFull`. `World(NoMemory)` may come before the last two.
