@@ -571,15 +571,12 @@ fn push_alarm(text: &mut Vec<u8>, bus: &Bus, alarm: Alarm, said: Initiation, beg
         Alarm::SpokeAfterLoss => {
             push_counted(text, b"it spoke without claiming after a silence of ", silence);
             push_counted(text, b", and a token in use leaves at most ", bus.longest_silence());
+            push_had_last(text, before.last);
         }
-        Alarm::ClaimedTooEarlyAfterLoss => {
+        Alarm::ClaimedTooEarlyAfterLoss | Alarm::ClaimedTooEarly => {
             push_counted(text, b"it claimed after a silence of ", silence);
             push_counted(text, b", and its time-out is ", bus.timeout(said.source));
-        }
-        Alarm::ClaimedTooEarly => {
-            push_had(text, before.last.map(|last| last.said));
-            push_counted(text, b"; it claimed after a silence of ", silence);
-            push_counted(text, b", and its time-out is ", bus.timeout(said.source));
+            push_had_last(text, before.last);
         }
         _ => push_after_last(text, bus, alarm, begin, before.last),
     }
@@ -591,6 +588,14 @@ fn push_alarm_name(text: &mut Vec<u8>, alarm: Alarm, source: u8) {
     text.extend_from_slice(b": ");
     text.extend_from_slice(alarm.name());
     text.extend_from_slice(b": ");
+}
+
+/// Appends to the end of a sentence who had the token, or was offered it.
+fn push_had_last(text: &mut Vec<u8>, last: Option<Last>) {
+    if let Some(last) = last {
+        text.extend_from_slice(b"; ");
+        push_had(text, Some(last.said));
+    }
 }
 
 /// Appends who had the token, or was offered it.
@@ -611,7 +616,7 @@ fn push_after_last(text: &mut Vec<u8>, bus: &Bus, alarm: Alarm, begin: u64, last
     let (limit, bits): (&[u8], u64) = match alarm {
         Alarm::PassedAgainTooEarly => {
             push_counted(text, b" and spoke again ", after);
-            return push_counted(text, b" after its end; its slot is ", bus.tsl);
+            return push_counted(text, b" after the end of that token; the slot is ", bus.tsl);
         }
         Alarm::PassedAgainThoughHeard => {
             return text.extend_from_slice(b" and spoke again though something was heard in the slot");

@@ -10,3 +10,4 @@ pub mod Meant
 pub mod Fronts
 pub mod CutStreams
 pub mod Forgotten
+pub mod Appending

@@ -1,8 +1,8 @@
 //! The lines that a monitor prints for bursts and alarms.
 
-ghost use Rattle.std.specs.Prelude.{◌≡◌, ◌≤◌, ◌+◌, ◌++◌, codes, length, OnOk};
+ghost use Rattle.std.specs.Prelude.{◌≡◌, ◌≤◌, ◌+◌, ◌++◌, codes, length, None, OnOk, Some};
 ghost use Rattle.pb_decode.specs.Texts.{address_text, token_text};
-ghost use Rattle.pb_monitor.specs.BurstTexts.{alarm_head, holder_text, latest, refused_text, taken_text, timeout_text};
+ghost use Rattle.pb_monitor.specs.BurstTexts.{after_last_text, alarm_head, claimed_text, deed_text, had_last_text, had_text, holder_text, latest, measured_text, offered_text, order_text, refused_text, spoke_text, taken_text, why_text};
 ghost use Rattle.pb_monitor.specs.TelegramWords.{token_words};
 
 use crate::alarms::Alarm;
@@ -154,32 +154,22 @@ pub(crate) fn push_alarm(
     slack: u32,
     raised: &Raised,
     begin: u64,
-) -> Result<(), AllocError> {
-    push_alarm_head(text, raised.alarm, Some(begin), raised.telegram.source)?;
+) -> Result<(), AllocError>
+    ensures { OnOk result (text.new.items ≡ text.old.items
+        ++ alarm_head raised.now.alarm (Some begin) raised.now.telegram.source
+        ++ why_text params.now slack raised.now.before raised.now.alarm begin raised.now.telegram.source
+        ++ codes "\n") }
+{
+    let source = raised.telegram.source;
+    let last = raised.before.last;
+    push_alarm_head(text, raised.alarm, Some(begin), source)?;
     let silence = begin.saturating_sub(raised.before.quiet);
     match raised.alarm {
-        Alarm::SpokeAfterLoss => {
-            push_counted(
-                text,
-                b"it spoke without claiming after a silence of ",
-                silence,
-            )?;
-            push_counted(
-                text,
-                b", and a token in use leaves at most ",
-                live(params, slack),
-            )?;
+        Alarm::SpokeAfterLoss => push_spoke(text, params, slack, silence, last)?,
+        Alarm::ClaimedTooEarlyAfterLoss | Alarm::ClaimedTooEarly => {
+            push_claimed(text, params, source, silence, last)?
         }
-        Alarm::ClaimedTooEarlyAfterLoss => {
-            push_counted(text, b"it claimed after a silence of ", silence)?;
-            push_timeout(text, params, raised.telegram.source)?;
-        }
-        Alarm::ClaimedTooEarly => {
-            push_last(text, raised.before.last)?;
-            push_counted(text, b"; it claimed after a silence of ", silence)?;
-            push_timeout(text, params, raised.telegram.source)?;
-        }
-        _ => push_after_last(text, params, slack, raised, begin)?,
+        alarm => push_after_last(text, params, slack, alarm, begin, last)?,
     }
     text.extend_from_slice(b"\n")
 }
@@ -203,28 +193,71 @@ pub(crate) fn push_alarm_head(
     text.extend_from_slice(b": ")
 }
 
-/// Appends the time-out of a station.
-fn push_timeout(text: &mut Vec<u8>, params: &BusParams, source: u8) -> Result<(), AllocError>
-    ensures { OnOk result (text.new.items ≡ text.old.items ++ timeout_text params.now source) }
-{
-    push_counted(text, b", and its time-out is ", params.tto(source))
-}
-
-/// Appends who had the token or was offered it.
-pub(crate) fn push_last(text: &mut Vec<u8>, last: Option<LastHeard>) -> Result<(), AllocError> {
-    match last {
-        Some(last) => push_had(text, last.source, last.offered),
-        None => Ok(()),
-    }
-}
-
-/// Appends who had the token or was offered it.
-pub(crate) fn push_had(
+/// Appends that a station spoke after a loss, without claiming.
+fn push_spoke(
     text: &mut Vec<u8>,
+    params: &BusParams,
+    slack: u32,
+    silence: u64,
+    last: Option<LastHeard>,
+) -> Result<(), AllocError>
+    ensures { OnOk result (text.new.items
+        ≡ text.old.items ++ spoke_text params.now slack silence last) }
+{
+    push_measured(
+        text,
+        b"it spoke without claiming after a silence of ",
+        silence,
+        b", and a token in use leaves at most ",
+        live(params, slack),
+    )?;
+    push_had_last(text, last)
+}
+
+/// Appends that a station claimed too early.
+fn push_claimed(
+    text: &mut Vec<u8>,
+    params: &BusParams,
     source: u8,
-    offered: Option<u8>,
-) -> Result<(), AllocError> {
+    silence: u64,
+    last: Option<LastHeard>,
+) -> Result<(), AllocError>
+    ensures { OnOk result (text.new.items
+        ≡ text.old.items ++ claimed_text params.now source silence last) }
+{
+    push_measured(
+        text,
+        b"it claimed after a silence of ",
+        silence,
+        b", and its time-out is ",
+        params.tto(source),
+    )?;
+    push_had_last(text, last)
+}
+
+/// Appends to the end of a sentence who had the token or was offered it, if that is known.
+fn push_had_last(text: &mut Vec<u8>, last: Option<LastHeard>) -> Result<(), AllocError>
+    ensures { OnOk result (text.new.items ≡ text.old.items ++ had_last_text last) }
+{
+    let Some(last) = last else {
+        return Ok(());
+    };
+    text.extend_from_slice(b"; ")?;
+    push_had(text, last.source, last.offered)
+}
+
+/// Appends who had the token or was offered it.
+fn push_had(text: &mut Vec<u8>, source: u8, offered: Option<u8>) -> Result<(), AllocError>
+    ensures { OnOk result (text.new.items ≡ text.old.items ++ had_text source offered) }
+{
     push_counted(text, b"station ", u64::from(source))?;
+    push_offered(text, offered)
+}
+
+/// Appends that a station had the token, or to whom it had passed it.
+fn push_offered(text: &mut Vec<u8>, offered: Option<u8>) -> Result<(), AllocError>
+    ensures { OnOk result (text.new.items ≡ text.old.items ++ offered_text offered) }
+{
     match offered {
         Some(to) => push_counted(text, b" had passed the token to station ", u64::from(to)),
         None => text.extend_from_slice(b" had the token"),
@@ -236,43 +269,77 @@ fn push_after_last(
     text: &mut Vec<u8>,
     params: &BusParams,
     slack: u32,
-    raised: &Raised,
+    alarm: Alarm,
     begin: u64,
-) -> Result<(), AllocError> {
-    push_last(text, raised.before.last)?;
-    let end = match raised.before.last {
-        Some(last) => last.end,
-        None => return Ok(()),
+    last: Option<LastHeard>,
+) -> Result<(), AllocError>
+    ensures { OnOk result (text.new.items
+        ≡ text.old.items ++ after_last_text params.now slack alarm begin last) }
+{
+    let Some(last) = last else {
+        return Ok(());
     };
-    let after = begin.saturating_sub(end);
-    match raised.alarm {
+    push_had(text, last.source, last.offered)?;
+    push_deed(text, params, slack, alarm, begin.saturating_sub(last.end))
+}
+
+/// Appends what was done so long after the end of the last token.
+fn push_deed(
+    text: &mut Vec<u8>,
+    params: &BusParams,
+    slack: u32,
+    alarm: Alarm,
+    after: u64,
+) -> Result<(), AllocError>
+    ensures { OnOk result (text.new.items
+        ≡ text.old.items ++ deed_text params.now slack alarm after) }
+{
+    let tsl = u64::from(params.tsl());
+    match alarm {
         Alarm::PassedAgainTooEarly => {
-            push_counted(text, b" and spoke again ", after)?;
-            push_counted(
-                text,
-                b" after its end; its slot is ",
-                u64::from(params.tsl()),
-            )
+            let limit = b" after the end of that token; the slot is ";
+            push_measured(text, b" and spoke again ", after, limit, tsl)
         }
         Alarm::PassedAgainThoughHeard => {
             text.extend_from_slice(b" and spoke again though something was heard in the slot")
         }
-        Alarm::TookAfterSlot => push_taken(text, after, b"the slot is ", u64::from(params.tsl())),
-        Alarm::TookLate => push_taken(text, after, b"the latest is ", latest(params, slack)),
-        Alarm::TookTooSoon => {
-            push_taken(text, after, b"the earliest is ", u64::from(params.tid1()))
+        Alarm::TookAfterSlot => push_taken(text, after, b" after its end, and the slot is ", tsl),
+        Alarm::TookLate => {
+            let latest = latest(params, slack);
+            push_taken(text, after, b" after its end, and the latest is ", latest)
         }
-        _ => Ok(()),
+        Alarm::TookTooSoon => {
+            let tid1 = u64::from(params.tid1());
+            push_taken(text, after, b" after its end, and the earliest is ", tid1)
+        }
+        Alarm::SpokeWithoutToken
+        | Alarm::SpokeOutOfTurn
+        | Alarm::ClaimedTooEarly
+        | Alarm::SpokeAfterLoss
+        | Alarm::ClaimedTooEarlyAfterLoss => Ok(()),
     }
 }
 
 /// Appends when the token was taken, and when it should have been.
-fn push_taken(text: &mut Vec<u8>, after: u64, words: &[u8], bits: u64) -> Result<(), AllocError>
-    ensures { OnOk result (text.new.items ≡ text.old.items ++ taken_text after words.now bits) }
+fn push_taken(text: &mut Vec<u8>, after: u64, limit: &[u8], bits: u64) -> Result<(), AllocError>
+    ensures { OnOk result (text.new.items ≡ text.old.items ++ taken_text after limit.now bits) }
 {
-    push_counted(text, b"; it was taken ", after)?;
-    text.extend_from_slice(b" after its end, and ")?;
-    push_counted(text, words, bits)
+    push_measured(text, b"; it was taken ", after, limit, bits)
+}
+
+/// Appends a number of bit times, and what it should have been.
+fn push_measured(
+    text: &mut Vec<u8>,
+    what: &[u8],
+    found: u64,
+    limit: &[u8],
+    bits: u64,
+) -> Result<(), AllocError>
+    ensures { OnOk result (text.new.items
+        ≡ text.old.items ++ measured_text what.now found limit.now bits) }
+{
+    push_counted(text, what, found)?;
+    push_counted(text, limit, bits)
 }
 
 /// How long after a token's end a station takes it at the latest, in bit times.
@@ -302,7 +369,10 @@ pub(crate) fn push_untimed_alarm(
     alarm: Alarm,
     last: Option<InitiatorTelegram>,
     source: u8,
-) -> Result<(), AllocError> {
+) -> Result<(), AllocError>
+    ensures { OnOk result (text.new.items
+        ≡ text.old.items ++ alarm_head alarm None source ++ order_text last ++ codes "\n") }
+{
     push_alarm_head(text, alarm, None, source)?;
     if let Some(last) = last {
         push_had(text, last.source, last.offered)?;

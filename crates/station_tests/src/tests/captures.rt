@@ -77,7 +77,7 @@ fn raises_each_alarm_once(rt: HostRuntime) {
         },
         Case {
             capture: b"1252 1285 dc0201\n",
-            printed: b"1252 1285 token da=2 sa=1 | token to 2 | offered to 2\nalarm at 1252 by 1: PassedAgainTooEarly: station 1 had passed the token to station 2 and spoke again 99 after its end; its slot is 100\n",
+            printed: b"1252 1285 token da=2 sa=1 | token to 2 | offered to 2\nalarm at 1252 by 1: PassedAgainTooEarly: station 1 had passed the token to station 2 and spoke again 99 after the end of that token; the slot is 100\n",
         },
         Case {
             capture: b"1190 1256 100102202316\n1293 1326 dc0201\n",
@@ -89,11 +89,11 @@ fn raises_each_alarm_once(rt: HostRuntime) {
         },
         Case {
             capture: b"1254 1320 100302494e16\n",
-            printed: b"1254 1320 short da=3 sa=2 fc=49 | FDL status request | holder 2\nalarm at 1254 by 2: SpokeAfterLoss: it spoke without claiming after a silence of 101, and a token in use leaves at most 100\n",
+            printed: b"1254 1320 short da=3 sa=2 fc=49 | FDL status request | holder 2\nalarm at 1254 by 2: SpokeAfterLoss: it spoke without claiming after a silence of 101, and a token in use leaves at most 100; station 1 had passed the token to station 2\n",
         },
         Case {
             capture: b"2152 2185 dc0202\n",
-            printed: b"2152 2185 token da=2 sa=2 | token to itself | holder 2\nalarm at 2152 by 2: ClaimedTooEarlyAfterLoss: it claimed after a silence of 999, and its time-out is 1000\n",
+            printed: b"2152 2185 token da=2 sa=2 | token to itself | holder 2\nalarm at 2152 by 2: ClaimedTooEarlyAfterLoss: it claimed after a silence of 999, and its time-out is 1000; station 1 had passed the token to station 2\n",
         },
         Case {
             capture: b"1191 1257 100302494e16\n",
@@ -117,7 +117,7 @@ fn raises_each_alarm_once(rt: HostRuntime) {
         },
         Case {
             capture: b"1 2 --\n800 833 dc0101\n870 903 dc0101\n940 1006 100201494c16\n1017 1083 100102202316\n1120 1153 dc0201\n1253 1286 dc0303\n",
-            printed: b"1 2 fault 2 Faulty 0 | unknown\n800 833 token da=1 sa=1 | token to itself | holder 1\n870 903 token da=1 sa=1 | token to itself | holder 1\n940 1006 short da=2 sa=1 fc=49 | FDL status request | holder 1\n1017 1083 short da=1 sa=2 fc=20 | reply: OK, master ready | holder 1\n1120 1153 token da=2 sa=1 | token to 2 | offered to 2\n1253 1286 token da=3 sa=3 | token to itself | holder 3\nalarm at 1253 by 3: ClaimedTooEarly: station 1 had passed the token to station 2; it claimed after a silence of 100, and its time-out is 1200\n",
+            printed: b"1 2 fault 2 Faulty 0 | unknown\n800 833 token da=1 sa=1 | token to itself | holder 1\n870 903 token da=1 sa=1 | token to itself | holder 1\n940 1006 short da=2 sa=1 fc=49 | FDL status request | holder 1\n1017 1083 short da=1 sa=2 fc=20 | reply: OK, master ready | holder 1\n1120 1153 token da=2 sa=1 | token to 2 | offered to 2\n1253 1286 token da=3 sa=3 | token to itself | holder 3\nalarm at 1253 by 3: ClaimedTooEarly: it claimed after a silence of 100, and its time-out is 1200; station 1 had passed the token to station 2\n",
         },
     ];
     for case in cases {
