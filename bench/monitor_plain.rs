@@ -1109,9 +1109,9 @@ impl Monitor {
         }
         self.statistics.close();
         if self.is_json {
-            push_json(&mut self.text, &self.statistics);
+            push_json(&mut self.text, &self.statistics, &self.form);
         } else {
-            push_summary(&mut self.text, &self.statistics);
+            push_summary(&mut self.text, &self.statistics, &self.form);
         }
     }
 
@@ -1587,7 +1587,8 @@ fn push_reply(text: &mut Vec<u8>, control: Control, is_empty: bool) {
 
 // ---- summaries
 
-fn push_summary(text: &mut Vec<u8>, statistics: &Statistics) {
+/// Of raw octets none is judged.
+fn push_summary(text: &mut Vec<u8>, statistics: &Statistics, form: &Form) {
     push_counted(text, b"bus: bursts ", statistics.bursts);
     if let (Some(first), Some(last)) = (statistics.first, statistics.last) {
         push_counted(text, b", from ", first);
@@ -1602,7 +1603,10 @@ fn push_summary(text: &mut Vec<u8>, statistics: &Statistics) {
     push_counted(text, b", in place of a reply ", damage.replying);
     push_counted(text, b", in the slot of a token ", damage.taking);
     push_counted(text, b", other ", damage.other);
-    push_counted(text, b"), alarms ", statistics.alarms);
+    match form {
+        Form::Raw => text.extend_from_slice(b"), alarms not judged (raw octets)"),
+        Form::Lines | Form::Pcap => push_counted(text, b"), alarms ", statistics.alarms),
+    }
     push_counted(text, b", refused ", statistics.refused);
     text.extend_from_slice(b"\nactive stations:");
     match statistics.active() {
@@ -1655,7 +1659,7 @@ fn push_spread(text: &mut Vec<u8>, words: &[u8], spread: &Spread) {
     text.push(b')');
 }
 
-fn push_json(text: &mut Vec<u8>, statistics: &Statistics) {
+fn push_json(text: &mut Vec<u8>, statistics: &Statistics, form: &Form) {
     let damage = &statistics.damage;
     push_counted(text, b"{\"bursts\":", statistics.bursts);
     push_moment(text, b",\"first\":", statistics.first);
@@ -1666,7 +1670,10 @@ fn push_json(text: &mut Vec<u8>, statistics: &Statistics) {
     push_counted(text, b",\"reply\":", damage.replying);
     push_counted(text, b",\"token\":", damage.taking);
     push_counted(text, b",\"other\":", damage.other);
-    push_counted(text, b"},\"alarms\":", statistics.alarms);
+    match form {
+        Form::Raw => text.extend_from_slice(b"},\"alarms\":null"),
+        Form::Lines | Form::Pcap => push_counted(text, b"},\"alarms\":", statistics.alarms),
+    }
     push_counted(text, b",\"refused\":", statistics.refused);
     text.extend_from_slice(b",\"active\":");
     match statistics.active() {

@@ -12,3 +12,4 @@ pub mod Known
 pub mod Lines
 pub mod TelegramWords
 pub mod BurstTexts
+pub mod SummaryTexts

@@ -1,5 +1,8 @@
 //! The forms of a capture and of a summary, and what a monitor is asked for.
 
+ghost use Rattle.std.specs.Prelude.{◌≡◌};
+ghost use Rattle.pb_monitor.specs.SummaryTexts.{unjudged_by, unjudged_words};
+
 use crate::alarms::Classes;
 
 /// The form of a capture.
@@ -39,4 +42,42 @@ pub struct Options {
     pub baud: Option<u32>,
     /// How wrong the difference of two moments may be, in bit times.
     pub slack: u32,
+}
+
+/// Why no telegram of a capture is judged.
+#[derive(Clone, Copy, Debug, PartialEq, Eq)]
+pub(crate) enum Unjudged {
+    /// The parameters of the bus are not known.
+    NoParameters,
+    /// Octets without boundaries have no moments, and some may be missing between two telegrams.
+    RawOctets,
+    /// No class of alarms was chosen.
+    NoClass,
+}
+
+impl Unjudged {
+    /// What a summary for people says in place of the number of alarms.
+    pub(crate) fn words(&self) -> &'static str
+        ensures { result.now ≡ unjudged_words self.now }
+    {
+        match self {
+            Unjudged::NoParameters => "alarms not judged (no parameters)",
+            Unjudged::RawOctets => "alarms not judged (raw octets)",
+            Unjudged::NoClass => "alarms not judged (no class chosen)",
+        }
+    }
+}
+
+/// Why no telegram of a capture is judged, if none is.
+pub(crate) fn why_unjudged(is_bus_known: bool, form: Form, classes: Classes) -> Option<Unjudged>
+    ensures { result ≡ unjudged_by is_bus_known form classes }
+{
+    if !is_bus_known {
+        return Some(Unjudged::NoParameters);
+    }
+    match form {
+        Form::Raw => Some(Unjudged::RawOctets),
+        Form::Lines | Form::Pcap if classes.legality || classes.loss || classes.timing => None,
+        Form::Lines | Form::Pcap => Some(Unjudged::NoClass),
+    }
 }

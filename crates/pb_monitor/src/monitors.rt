@@ -8,7 +8,7 @@ use crate::alarms::Alarm;
 use crate::buffers::LineBuffer;
 use crate::bursts::{Burst, Rooms, octets_of};
 use crate::cutting::Cutter;
-use crate::formats::{Form, Options};
+use crate::formats::{Form, Options, why_unjudged};
 use crate::heard_bursts::{HeardBurst, Kept, Known, Named, bits, named_before};
 use crate::judges::Judge;
 use crate::lines::{
@@ -619,10 +619,12 @@ impl Monitor {
 
     /// Appends a summary in the form that is asked for.
     fn push_summary(&mut self, text: &mut Vec<u8>) -> Result<(), AllocError> {
+        let Options { form, classes, .. } = self.options;
+        let unjudged = why_unjudged(self.params.is_some(), form, classes);
         let form = self.options.summary;
         match &mut self.apart {
-            Some(kept) => push_summary(kept, &self.statistics, form),
-            None => push_summary(text, &self.statistics, form),
+            Some(kept) => push_summary(kept, &self.statistics, unjudged, form),
+            None => push_summary(text, &self.statistics, unjudged, form),
         }
     }
 

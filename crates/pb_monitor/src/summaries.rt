@@ -1,6 +1,9 @@
 //! The text of a summary: lines, one JSON object, or a table.
 
-use crate::formats::SummaryForm;
+ghost use Rattle.std.specs.Prelude.{◌≡◌, ◌++◌, OnOk};
+ghost use Rattle.pb_monitor.specs.SummaryTexts.{alarms_json, alarms_text};
+
+use crate::formats::{SummaryForm, Unjudged};
 use crate::spreads::Spread;
 use crate::stations::Station;
 use crate::statistics::Statistics;
@@ -8,24 +11,29 @@ use crate::texts::{push_counted, push_number};
 use crate::traffic::Traffic;
 use std::alloc::AllocError;
 
-/// Appends a summary of a form.
+/// Appends a summary of a form. It says why no telegram was judged, if none was.
 pub(crate) fn push_summary(
     text: &mut Vec<u8>,
     statistics: &Statistics,
+    unjudged: Option<Unjudged>,
     form: Option<SummaryForm>,
 ) -> Result<(), AllocError> {
     match form {
-        Some(SummaryForm::Json) => push_json(text, statistics),
+        Some(SummaryForm::Json) => push_json(text, statistics, unjudged),
         Some(SummaryForm::Csv) => push_table(text, statistics),
-        Some(SummaryForm::Text) | None => push_text(text, statistics),
+        Some(SummaryForm::Text) | None => push_text(text, statistics, unjudged),
     }
 }
 
 // ---- lines
 
 /// Appends a summary as lines: one for the bus, one for its active stations, one for each station.
-pub(crate) fn push_text(text: &mut Vec<u8>, statistics: &Statistics) -> Result<(), AllocError> {
-    push_traffic(text, statistics.traffic())?;
+fn push_text(
+    text: &mut Vec<u8>,
+    statistics: &Statistics,
+    unjudged: Option<Unjudged>,
+) -> Result<(), AllocError> {
+    push_traffic(text, statistics.traffic(), unjudged)?;
     push_active(text, statistics)?;
     for address in 0..127u8 {
         if let Some(station) = statistics.station(address) {
@@ -36,7 +44,11 @@ pub(crate) fn push_text(text: &mut Vec<u8>, statistics: &Statistics) -> Result<(
 }
 
 /// Appends the line of the bus.
-fn push_traffic(text: &mut Vec<u8>, traffic: &Traffic) -> Result<(), AllocError> {
+fn push_traffic(
+    text: &mut Vec<u8>,
+    traffic: &Traffic,
+    unjudged: Option<Unjudged>,
+) -> Result<(), AllocError> {
     push_counted(text, b"bus: bursts ", traffic.bursts)?;
     if let Some(first) = traffic.first {
         push_counted(text, b", from ", first)?;
@@ -51,9 +63,20 @@ fn push_traffic(text: &mut Vec<u8>, traffic: &Traffic) -> Result<(), AllocError>
     push_counted(text, b", in place of a reply ", damaged.replying)?;
     push_counted(text, b", in the slot of a token ", damaged.taking)?;
     push_counted(text, b", other ", damaged.other)?;
-    push_counted(text, b"), alarms ", traffic.alarms)?;
+    text.extend_from_slice(b"), ")?;
+    push_alarms(text, unjudged, traffic.alarms)?;
     push_counted(text, b", refused ", traffic.refused)?;
     text.extend_from_slice(b"\n")
+}
+
+/// Appends how many alarms there were, or why none could be.
+fn push_alarms(text: &mut Vec<u8>, unjudged: Option<Unjudged>, count: u64) -> Result<(), AllocError>
+    ensures { OnOk result (text.new.items ≡ text.old.items ++ alarms_text unjudged count) }
+{
+    match unjudged {
+        Some(why) => text.extend_from_slice(why.words().as_bytes()),
+        None => push_counted(text, b"alarms ", count),
+    }
 }
 
 /// Appends the line of the active stations, if they are known.
@@ -127,8 +150,12 @@ fn push_spread(text: &mut Vec<u8>, words: &[u8], spread: &Spread) -> Result<(), 
 // ---- one JSON object
 
 /// Appends a summary as one JSON object on a line.
-fn push_json(text: &mut Vec<u8>, statistics: &Statistics) -> Result<(), AllocError> {
-    push_json_traffic(text, statistics.traffic())?;
+fn push_json(
+    text: &mut Vec<u8>,
+    statistics: &Statistics,
+    unjudged: Option<Unjudged>,
+) -> Result<(), AllocError> {
+    push_json_traffic(text, statistics.traffic(), unjudged)?;
     text.extend_from_slice(b",\"active\":")?;
     push_json_active(text, statistics)?;
     text.extend_from_slice(b",\"stations\":[")?;
@@ -148,7 +175,11 @@ fn push_json(text: &mut Vec<u8>, statistics: &Statistics) -> Result<(), AllocErr
 }
 
 /// Appends the members of the bus.
-fn push_json_traffic(text: &mut Vec<u8>, traffic: &Traffic) -> Result<(), AllocError> {
+fn push_json_traffic(
+    text: &mut Vec<u8>,
+    traffic: &Traffic,
+    unjudged: Option<Unjudged>,
+) -> Result<(), AllocError> {
     push_counted(text, b"{\"bursts\":", traffic.bursts)?;
     push_moment(text, b",\"first\":", traffic.first)?;
     push_moment(text, b",\"last\":", traffic.last)?;
@@ -162,8 +193,23 @@ fn push_json_traffic(text: &mut Vec<u8>, traffic: &Traffic) -> Result<(), AllocE
     push_counted(text, b",\"reply\":", traffic.damaged.replying)?;
     push_counted(text, b",\"token\":", traffic.damaged.taking)?;
     push_counted(text, b",\"other\":", traffic.damaged.other)?;
-    push_counted(text, b"},\"alarms\":", traffic.alarms)?;
+    text.extend_from_slice(b"},\"alarms\":")?;
+    push_json_alarms(text, unjudged, traffic.alarms)?;
     push_counted(text, b",\"refused\":", traffic.refused)
+}
+
+/// Appends how many alarms there were, or `null` if none could be.
+fn push_json_alarms(
+    text: &mut Vec<u8>,
+    unjudged: Option<Unjudged>,
+    count: u64,
+) -> Result<(), AllocError>
+    ensures { OnOk result (text.new.items ≡ text.old.items ++ alarms_json unjudged count) }
+{
+    match unjudged {
+        Some(_) => text.extend_from_slice(b"null"),
+        None => push_number(text, count),
+    }
 }
 
 /// Appends the addresses of the active stations, or `null` if they are not known.

@@ -19,7 +19,7 @@ const CAPTURE: &[u8] = b"1 34 dc0201\ne5\nzz";
 
 /// What is printed, as bytes come.
 const PRINTED: &[u8] =
-    b"1 34 token da=2 sa=1 | token to 2\nack | short acknowledgement\nrefused line 3: 'zz' is not hex; wanted: two hex digits for each octet, -- for a damaged one\nbus: bursts 2, from 1 to 34, load 100.0 %, longest silence 0, damaged 0 (after a loss 0, in place of a reply 0, in the slot of a token 0, other 0), alarms 0, refused 1\nactive stations: not known\nstation 1: master in ring, last heard 34, telegrams 1, claims 0, tokens 1, requests 0 (polls 0, unanswered 0, damaged answers 0), repeats 0, polled 0, tokens not taken 0\n";
+    b"1 34 token da=2 sa=1 | token to 2\nack | short acknowledgement\nrefused line 3: 'zz' is not hex; wanted: two hex digits for each octet, -- for a damaged one\nbus: bursts 2, from 1 to 34, load 100.0 %, longest silence 0, damaged 0 (after a loss 0, in place of a reply 0, in the slot of a token 0, other 0), alarms not judged (no parameters), refused 1\nactive stations: not known\nstation 1: master in ring, last heard 34, telegrams 1, claims 0, tokens 1, requests 0 (polls 0, unanswered 0, damaged answers 0), repeats 0, polled 0, tokens not taken 0\n";
 
 /// How many bytes of the capture end the first line.
 const FIRST_LINE: usize = 12;
