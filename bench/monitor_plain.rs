@@ -943,7 +943,7 @@ impl Statistics {
         }
     }
 
-    /// Notes who took the token that was offered, or that it was sent again.
+    /// Notes who took the token that was offered, or that it was sent again after its slot.
     fn take_offer(&mut self, begin: u64, said: Initiation, is_repeat: bool) {
         let Some((to, end)) = self.offer else {
             return;
@@ -954,7 +954,7 @@ impl Statistics {
                 station.receive(end);
                 station.taking.add(begin.saturating_sub(end));
             }
-        } else if is_repeat {
+        } else if is_repeat && !(self.is_timed && begin.saturating_sub(end) < self.tsl) {
             station.tokens_not_taken += 1;
         }
     }

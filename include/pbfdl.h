@@ -674,7 +674,7 @@ struct fdl_station_counts {
     uint64_t unanswered;        /* how many of its requests nothing answered */
     uint64_t damaged_answers;   /* how many were answered with damage */
     uint64_t polled;            /* how often others have asked it for its status */
-    uint64_t tokens_not_taken;  /* how many tokens to it were sent again */
+    uint64_t tokens_not_taken;  /* how many tokens to it were sent again after their slot */
     struct fdl_spread rotation; /* the time between two receipts of the token */
     struct fdl_spread taking;   /* from the end of a token to it to its first telegram */
     struct fdl_spread replying; /* from the end of a request to it to its reply */

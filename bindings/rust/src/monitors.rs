@@ -155,7 +155,7 @@ pub struct StationCounts {
     pub damaged_answers: u64,
     /// How often others have asked it for its status.
     pub polled: u64,
-    /// How many tokens to it were sent again.
+    /// How many tokens to it were sent again after their slot.
     pub tokens_not_taken: u64,
     /// The time between two receipts of the token.
     pub rotation: Spread,

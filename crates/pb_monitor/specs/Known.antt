@@ -78,7 +78,7 @@ received moment s = record s { rotation = rotation_to moment s.receipt s.rotatio
 abbrev pub took : (end bits : ℕ) → Station → Station
 took end bits s = record (received end s) { taking = spread_with bits s.taking }
 
--- a token to it was sent again
+-- a token to it was sent again after its slot
 abbrev pub not_taken : Station → Station
 not_taken s = record s { tokens_not_taken = one_more s.tokens_not_taken }
 
@@ -173,6 +173,12 @@ is_in_slot None offer begin = false
 is_in_slot (Some l) None begin = false
 is_in_slot (Some l) (Some o) begin = nat_lt (begin - o.end) l.tsl
 
+-- A token that is sent again from a moment on could still be taken: its slot is not over. Without moments nobody can tell.
+abbrev pub is_early : Option Limits → (timed : Bool) → Option Offer → (begin : ℕ) → Bool
+is_early None timed offer begin = false
+is_early (Some l) timed None begin = false
+is_early (Some l) timed (Some o) begin = timed && nat_lt (begin - o.end) l.early
+
 -- A token to itself that begins at a moment is the first of a claim: after a silence that no token in use leaves, or as
 -- the first burst that has moments.
 abbrev pub begins_claim : Option Limits → (timed : Bool) → (before : Option ℕ) → (begin : ℕ) → Bool
@@ -226,16 +232,20 @@ heard_damage before begin k =
 
 -- ---- a token or a request
 
--- a token that was offered: the station takes it, if it is the next to speak; else it may be sent again
-abbrev pub taken_by : Offer → (begin : ℕ) → InitiatorTelegram → (again timed : Bool) → List Station → List Station
-taken_by o begin said again timed stations =
+-- a token that was offered: the station takes it, if it is the next to speak; else it may be sent again after its slot
+abbrev pub taken_by : Offer → (begin : ℕ) → InitiatorTelegram → (untaken timed : Bool) → List Station → List Station
+taken_by o begin said untaken timed stations =
     if o.to == said.source then (if not said.is_claim && timed then changed_at o.to (took o.end (begin - o.end)) stations else stations)
-    else if again then changed_at o.to not_taken stations
+    else if untaken then changed_at o.to not_taken stations
     else stations
 
-abbrev pub taken : Option Offer → (begin : ℕ) → InitiatorTelegram → (again timed : Bool) → List Station → List Station
-taken None begin said again timed stations = stations
-taken (Some o) begin said again timed stations = taken_by o begin said again timed stations
+abbrev pub taken : Option Offer → (begin : ℕ) → InitiatorTelegram → (untaken timed : Bool) → List Station → List Station
+taken None begin said untaken timed stations = stations
+taken (Some o) begin said untaken timed stations = taken_by o begin said untaken timed stations
+
+-- the last token was sent again, and not before its slot was over
+abbrev pub is_untaken : Known → (begin : ℕ) → (again : Bool) → Bool
+is_untaken k begin again = again && not (is_early k.limits k.timed k.offer begin)
 
 abbrev pub offer_to : (end : ℕ) → Option ℕ → Option Offer
 offer_to end to = option_map (λ (a : ℕ). record { to = a; end = end }) to
@@ -295,7 +305,7 @@ abbrev pub heard_sender : (begin end : ℕ) → Telegram → InitiatorTelegram �
 heard_sender begin end t said again k = record k {
   last = spelling t;
   offer = offer_to end said.offered;
-  stations = changed_at said.source (initiated k.timed again end) (taken k.offer begin said again k.timed k.stations);
+  stations = changed_at said.source (initiated k.timed again end) (taken k.offer begin said (is_untaken k begin again) k.timed k.stations);
 }
 
 abbrev pub heard_initiator : (begin end : ℕ) → Telegram → InitiatorTelegram → (claims : Bool) → Known → Known
@@ -388,7 +398,7 @@ new_traffic = record {
 
 abbrev pub new_known : Option Params → (slack : ℕ) → Known
 new_known params slack = record {
-  limits = option_map (λ (p : Params). record { tsl = p.tsl; live = live p slack }) params;
+  limits = option_map (λ (p : Params). record { tsl = p.tsl; live = live p slack; early = p.tsl - slack }) params;
   traffic = new_traffic;
   stations = replicate 127 new_station;
   ring = las.listening;

@@ -47,7 +47,8 @@ pub struct Station {
     pub damaged_answers: u64,
     /// How often others have asked it for its status.
     pub polled: u64,
-    /// How many tokens to it were sent again.
+    /// How many tokens to it were sent again after their slot; of those without moments, or on a bus whose parameters are
+    /// not known, how many were sent again.
     pub tokens_not_taken: u64,
     /// The time between two receipts of the token.
     pub rotation: Spread,

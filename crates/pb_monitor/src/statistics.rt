@@ -3,7 +3,7 @@
 ghost use Rattle.std.specs.Prelude.{◌≡◌, option_map};
 ghost use Rattle.pb_telegram.specs.Grammar.{spelling};
 ghost use Rattle.pb_telegram.specs.Heads.{head_of};
-ghost use Rattle.pb_monitor.specs.Known.{answers, damaged_open, is_awaited, is_in_slot, is_over, wants_answer};
+ghost use Rattle.pb_monitor.specs.Known.{answers, damaged_open, is_awaited, is_early, is_in_slot, is_over, wants_answer};
 
 use crate::bursts::{Burst, octets_of};
 use crate::meanings::{InitiatorTelegram, Meaning, meaning_in, passed};
@@ -54,6 +54,8 @@ pub(crate) enum Answer {
 pub(crate) struct Limits {
     pub tsl: u64,
     pub live: u64,
+    /// How long the slot of a token surely lasts after its end.
+    pub early: u64,
 }
 
 /// What is known of a bus after some bursts: counts for the bus and for each station, and the list of active stations,
@@ -96,7 +98,7 @@ impl Statistics {
     ghost use Rattle.std.specs.Prelude.{◌≡◌, ◌<◌, ◌&&◌, IfOk, Ok, Some, None, slice_get};
     ghost use Rattle.pb_ring.specs.AddressSets.{is_member};
     ghost use Rattle.pb_ring.specs.Las.{is_complete, members_of};
-    ghost use Rattle.pb_monitor.specs.Known.{alarmed, answered, changed_at, closed, begins_claim, forgotten, heard, heard_damage, heard_head, heard_sender, heard_telegram, heard_untimed, initiated, is_again, new_known, offer_to, refused, taken, without_telegrams};
+    ghost use Rattle.pb_monitor.specs.Known.{alarmed, answered, changed_at, closed, begins_claim, forgotten, heard, heard_damage, heard_head, heard_sender, heard_telegram, heard_untimed, initiated, is_again, is_untaken, new_known, offer_to, refused, taken, without_telegrams};
     ghost use Rattle.pb_telegram.specs.declared.telegrams.Telegram.TheVariants.{Token};
 
     /// No burst yet. Without parameters of the bus, no silence counts as long. `slack` is how wrong the difference of two
@@ -118,6 +120,7 @@ impl Statistics {
             limits: params.map(|params| Limits {
                 tsl: u64::from(params.tsl()),
                 live: live(params, slack),
+                early: u64::from(params.tsl()).saturating_sub(u64::from(slack)),
             }),
             traffic: Traffic::none(),
             stations,
@@ -260,15 +263,17 @@ impl Statistics {
         ensures { self.new ≡ record self.old {
           offer = offer_to end said.offered;
           stations = changed_at said.source (initiated self.old.timed is_repeat end)
-              (taken self.old.offer begin said is_repeat self.old.timed self.old.stations);
+              (taken self.old.offer begin said (is_untaken self.old begin is_repeat)
+              self.old.timed self.old.stations);
         } }
     {
+        let is_untaken = is_repeat && !is_early(begin, self.offer, self.limits, self.is_timed);
         take_offer(
             &mut self.stations,
             self.offer,
             begin,
             said,
-            is_repeat,
+            is_untaken,
             self.is_timed,
         );
         self.offer = said.offered.map(|to| Offer { to, end });
@@ -425,6 +430,19 @@ fn is_awaited(request: Option<Open>) -> bool
 {
     match request {
         Some(request) => request.answer == Answer::Awaited,
+        None => false,
+    }
+}
+
+/// Whether a token that is sent again from a moment on could still be taken.
+fn is_early(begin: u64, offer: Option<Offer>, limits: Option<Limits>, is_timed: bool) -> bool
+    ensures { result ≡ is_early limits is_timed offer begin }
+{
+    let Some(limits) = limits else {
+        return false;
+    };
+    match offer {
+        Some(offer) => is_timed && begin.saturating_sub(offer.end) < limits.early,
         None => false,
     }
 }

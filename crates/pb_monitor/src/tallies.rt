@@ -8,16 +8,16 @@ use crate::stations::{Station, one_more};
 use crate::statistics::{Answer, Offer};
 use pb_telegram::Head;
 
-/// Notes who took a token that was offered, or that it was sent again.
+/// Notes who took a token that was offered, or that it was sent again after its slot.
 pub(crate) fn take_offer(
     stations: &mut [Station],
     offer: Option<Offer>,
     begin: u64,
     said: InitiatorTelegram,
-    is_repeat: bool,
+    is_untaken: bool,
     is_timed: bool,
 )
-    ensures { stations.new ≡ taken offer begin said is_repeat is_timed stations.old }
+    ensures { stations.new ≡ taken offer begin said is_untaken is_timed stations.old }
 {
     let Some(offer) = offer else {
         return;
@@ -30,7 +30,7 @@ pub(crate) fn take_offer(
         if !said.is_claim && is_timed {
             stations[place].take(offer.end, begin.saturating_sub(offer.end));
         }
-    } else if is_repeat {
+    } else if is_untaken {
         stations[place].tokens_not_taken = one_more(stations[place].tokens_not_taken);
     }
 }

@@ -145,7 +145,7 @@ class StationCounts:
     polled: int
     """How often others have asked it for its status."""
     tokens_not_taken: int
-    """How many tokens to it were sent again."""
+    """How many tokens to it were sent again after their slot."""
     rotation: Spread
     """The time between two receipts of the token."""
     taking: Spread
