@@ -48,12 +48,13 @@ pub fn a_reply_means_what_was_meant()
     ensures extension { (ts d station_type : ℕ) (f : Fields) (service : Service) (priority : Priority)
         (unit : List ℕ) → ts ≤ 126 → d ≤ 126 → station_type ≤ 3 → f.sa ≡ ts
         → IsTrue (is_answered service) → IsTrue (has_bit f.da 7)
-        → reply_outcome ts d (heard_as (service_reply d station_type f service priority unit)) ≡ Some NoResource }
+        → reply_outcome ts d (heard_as (service_reply d station_type f service priority unit))
+        ≡ Some NoResource }
     ensures sda { (ts d station_type : ℕ) (f : Fields) (priority : Priority) (unit : List ℕ)
         → IsFalse (has_bit f.da 7)
         → reply_outcome ts d (heard_as (service_reply d station_type f Sda priority unit)) ≡ Some Acked }
-    ensures srd { (ts d station_type : ℕ) (f : Fields) (priority : Priority) (x : ℕ) (unit : List ℕ) → ts ≤ 126
-        → d ≤ 126 → station_type ≤ 3 → f.sa ≡ ts
+    ensures srd { (ts d station_type : ℕ) (f : Fields) (priority : Priority) (x : ℕ) (unit : List ℕ)
+        → ts ≤ 126 → d ≤ 126 → station_type ≤ 3 → f.sa ≡ ts
         → IsFalse (has_bit f.da 7)
         → reply_outcome ts d (heard_as (service_reply d station_type f Srd priority (x ∷ unit)))
         ≡ Some (Data (record { items = x ∷ unit })) }
