@@ -10,7 +10,9 @@ ghost use Rattle.std.specs.Prelude.{◌≡◌, true};
 
 use pb_cycles::Service;
 use pb_medium::Entry;
-use pb_scenario::{Deed, Key, Path, RunFault, Section, audit_of, events_of, read, trace_text};
+use pb_scenario::{
+    Deed, Key, Path, RunFault, Section, audit_of, events_of, read, trace_of, trace_text,
+};
 use pb_taps::{Event, Kind, NewFault, WorldFault};
 use pb_timers::{Moment, ParamFault};
 use pb_world::{Audit, World, audit, run};
@@ -350,6 +352,10 @@ fn plays_with_a_cable_delay(rt: HostRuntime) {
 1401 1434 b dc0102 w-
 ";
     assert!(rt; shown.as_slice() == expected.as_bytes());
+    let traced = trace_of(alloc, &scenario).expect(&rt, "a trace");
+    equal(&rt, &traced.events, &(events.len() as u64));
+    let shown = trace_text(alloc, &scenario, &traced.entries).expect(&rt, "memory");
+    assert!(rt; shown.as_slice() == expected.as_bytes());
 }
 
 /// The text of the fault of a file, with a version and a line at the end of its bus, or the cable delay that was read.
@@ -450,6 +456,7 @@ fn a_run_ends_by_a_fault(rt: HostRuntime) {
     let told = format!(in alloc; "{fault}").expect(&rt, "memory");
     equal(&rt, &told.as_str(), &"NotRunning at 100");
     equal(&rt, &fault, &RunFault::At(moment, WorldFault::NotRunning));
+    equal(&rt, &trace_of(alloc, &scenario).err(), &Some(fault));
     let master = "name = \"b\"\nkind = \"master\"\naddress = 6";
     let text = file(alloc, TOP, master, "").expect(&rt, "memory");
     let scenario = read(alloc, text.as_bytes()).expect(&rt, "a scenario");
@@ -457,4 +464,5 @@ fn a_run_ends_by_a_fault(rt: HostRuntime) {
     let told = format!(in alloc; "{fault}").expect(&rt, "memory");
     equal(&rt, &told.as_str(), &"BadAddress 1");
     equal(&rt, &fault, &RunFault::New(NewFault::BadAddress(1)));
+    equal(&rt, &trace_of(alloc, &scenario).err(), &Some(fault));
 }

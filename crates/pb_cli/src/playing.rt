@@ -1,6 +1,6 @@
 //! `ringplay run` over any reader and writer.
 
-ghost use Rattle.std.specs.Prelude.{◌≡◌, length, IfOk};
+ghost use Rattle.std.specs.Prelude.{◌≡◌, length, IfOk, IfSome};
 ghost use Rattle.pb_fleet.specs.Faults.{IsCrew};
 ghost use Rattle.pb_texts.specs.Scenarios.{ScenarioView};
 ghost use Rattle.pb_cli.specs.Fleets.{IsRun, IsRunOf, crew_of};
@@ -14,7 +14,8 @@ use crate::reading::read_input;
 use crate::streams::{Sink, Source};
 use crate::writing::write_out;
 use pb_fleet::{Gate, run_fleet};
-use pb_texts::{Scenario, Shown, described, refused_file, traced};
+use pb_scenario::{NewFault, RunFault, WorldFault, trace_of};
+use pb_texts::{MOST_EVENTS, Scenario, Shown, described, refused_file, traced};
 use std::alloc::{AllocError, Global};
 use std::sync::Wait;
 use std::thread;
@@ -30,8 +31,8 @@ pub const MOST_LINES: usize = 10_000;
 const MANY: usize = 4096;
 
 /// Reads a scenario file until the reader ends, plays the scenario with some workers, the first of them in the caller's
-/// thread, and writes its trace or the last lines of it. If the file or the run is refused, it writes the line of the
-/// fault instead. The trace is that of the run on one thread, whatever the number of workers. The whole text is made
+/// thread, and writes its trace or the last lines of it. One worker plays without a segment, which takes a fraction of
+/// the time. If the file or the run is refused, it writes the line of the fault instead. The trace is that of the run on one thread, whatever the number of workers. The whole text is made
 /// before the first write. After a long run with several workers, a separate thread frees the run's memory and may
 /// outlive this call.
 ///
@@ -99,6 +100,11 @@ fn played_scenario<T: Threads + Wait + Sync>(
     requires { IsCrew workers }
     ensures { IfOk result (λ shown. IsRun scenario.now workers last (shown_of shown)) }
 {
+    if workers == 1
+        && let Some(shown) = played_alone(alloc, scenario, last)?
+    {
+        return Ok(shown);
+    }
     match run_fleet(rt, alloc, scenario, workers, &OpenGate) {
         Ok(report) => {
             let shown = traced(alloc, scenario, report.trace(), last);
@@ -107,6 +113,26 @@ fn played_scenario<T: Threads + Wait + Sync>(
             shown
         }
         Err(fault) => refused_fleet(alloc, fault),
+    }
+}
+
+/// The text of the run of a scenario on one thread. `None` if a fleet has to say why there is none: the run is refused, or
+/// has more events than a segment keeps.
+fn played_alone(
+    alloc: Global,
+    scenario: &Scenario,
+    last: Option<usize>,
+) -> Result<Option<Shown>, AllocError>
+    ensures { IfOk result (λ played. IfSome played (λ shown. IsRun scenario.now 1 last (shown_of shown))) }
+{
+    match trace_of(alloc, scenario) {
+        Ok(run) if run.events <= MOST_EVENTS => {
+            Ok(Some(traced(alloc, scenario, &run.entries, last)?))
+        }
+        Err(RunFault::New(NewFault::NoMemory) | RunFault::At(_, WorldFault::NoMemory)) => {
+            Err(AllocError)
+        }
+        Ok(_) | Err(_) => Ok(None),
     }
 }
 

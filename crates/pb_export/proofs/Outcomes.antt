@@ -1,14 +1,9 @@
--- The trace of a scenario's run, by the events that led to its end; and what is written where a fault ends the run.
-use Rattle.std.proofs.Common.{◌≡◌, ◌≢◌, ◌∙◌, ℕ, List, [], ◌∷◌, Option, Some, None, Result, Ok, Err, refl, ap, sym, subst}
+-- What is written where a fault ends a scenario's run.
+use Rattle.std.proofs.Common.{◌≡◌, ◌≢◌, ℕ, List, Option, Some, None, Result, Ok, Err, ap}
 use Rattle.std.specs.Prelude.{IfSome}
 use Rattle.law_model.specs.World as model
-use Rattle.law_model.specs.World.{World, Event, Reply, new_world}
-use Rattle.law_model.specs.Step.{RunsTo, step}
-use Rattle.law_model.specs.Trace.{Entry}
-use Rattle.law_runs.specs.Histories.{Leads}
-use Rattle.law_runs.specs.Bus.{bus}
-use Rattle.law_runs.specs.Laws.{EventsLead}
-use Rattle.law_runs.specs.Scenarios.{Scenario, RunFault, At, run_of, run_from, with_end, events_of, trace_of}
+use Rattle.law_model.specs.World.{World, Event, new_world}
+use Rattle.law_runs.specs.Scenarios.{Scenario, RunFault, At, run_of, run_from, with_end, events_of}
 use Rattle.pb_taps.specs.Faults.{RefusesNew, world_fault}
 use Rattle.pb_taps.specs.declared.faults.NewFault as taps
 use Rattle.pb_taps.specs.declared.faults.NewFault.TheVariants as new
@@ -22,25 +17,7 @@ use Rattle.pb_texts.specs.Shown.{refusal}
 use Rattle.pb_texts.specs.Faults.{IsTold, line_of_run, new_line, refused_line}
 use Rattle.pb_export.specs.declared.options.Export.{Export}
 use Rattle.pb_export.specs.Exports.{export_of_run, export_of_scenario}
-use Rattle.pb_texts.proofs.Outcomes.{same_world, one_end, world_fault-of}
-
--- ---- the trace
-
-traced_in : (s : Scenario) (r : Option (Result (World × List Event) RunFault)) (first end : World) (events : List Event) → EventsLead
-    → new_world s.params s.taps ≡ Ok first → run_of s ≡ r → with_end (λ (last : World × List Event). last.1) r ≡ Some (Ok events)
-    → RunsTo first events end → with_end (λ (last : World × List Event). last.0.trace) r ≡ Some (Ok end.trace)
-traced_in s None first end events law new is ends runs = absurd cc
-traced_in s (Some (Err fault)) first end events law new is ends runs = absurd cc
-traced_in s (Some (Ok last)) first end events law new is ends runs =
-    let same : last.1 ≡ events = cc ends in
-    let leads : Leads bus first last.1 last.0 = law s first last.0 last.1 new is in
-    let world : end ≡ last.0 = one_end first end last.0 events runs (subst (λ (es : List Event). Leads bus first es last.0) same leads) in
-    let trace : last.0.trace ≡ end.trace = ap (λ (w : World). w.trace) (sym world) in
-    ap (λ (es : List Entry). Some (Ok es)) trace
-
-pub traced : (s : Scenario) (first end : World) (events : List Event) → EventsLead → new_world s.params s.taps ≡ Ok first
-    → events_of s ≡ Some (Ok events) → RunsTo first events end → trace_of s ≡ Some (Ok end.trace)
-traced s first end events law new ends runs = traced_in s (run_of s) first end events law new refl ends runs
+use Rattle.pb_texts.proofs.Outcomes.{world_fault-of}
 
 -- ---- the fault of a run
 

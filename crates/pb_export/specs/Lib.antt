@@ -17,7 +17,6 @@ pub mod Pcapng
 pub mod Pieces
 pub mod Places
 pub mod Rosters
-pub mod Runs
 pub mod Saying
 pub mod Svg
 pub mod Sheets

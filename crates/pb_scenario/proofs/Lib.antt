@@ -4,6 +4,7 @@ pub mod Said
 pub mod Joined
 pub mod Going
 pub mod Playing
+pub mod RunEnds
 pub mod Moving
 pub mod Soonest
 pub mod PlayedInstants

@@ -18,6 +18,7 @@ pub mod Faults
 pub mod Stages
 pub mod Watching
 pub mod Recording
+pub mod Counting
 pub mod Courses
 pub mod Plays
 pub mod Judged

@@ -19,24 +19,12 @@ use Rattle.pb_world.specs.declared.findings.Audit.{Audit}
 use Rattle.pb_scenario.specs.Faults.{EndsBy, model_fault}
 use Rattle.pb_scenario.specs.declared.faults.RunFault as code
 use Rattle.pb_scenario.specs.declared.faults.RunFault.TheVariants as run
+use Rattle.pb_scenario.proofs.RunEnds.{one_end}
 use Rattle.pb_texts.specs.Shown.{refusal}
 use Rattle.pb_texts.specs.Faults.{IsTold, line_of_run, new_line, refused_line}
 use Rattle.pb_texts.specs.Audits.{audit_of_run, audit_of_scenario, broken_from, broken_of, found, illegal_in}
 
 -- ---- what an audit found
-
-pub same_world : (r : Result (World × Reply) model.Fault) (a b : World) (x y : Reply) → r ≡ Ok (a, x) → r ≡ Ok (b, y) → a ≡ b
-same_world r a b x y one other =
-    let same : Ok (a, x) ≡ Ok (b, y) = sym one ∙ other in
-    let pair : (a, x) ≡ (b, y) = cc same in
-    ap (λ (p : World × Reply). p.0) pair
-
-pub one_end : (w a b : World) (es : List Event) → RunsTo w es a → Leads bus w es b → a ≡ b
-unfolding Leads
-one_end w a b [] runs leads = sym runs ∙ leads
-one_end w a b (e ∷ es) runs leads =
-    let between : runs.0 ≡ leads.0 = same_world (step w e) runs.0 leads.0 runs.1 leads.1 runs.2 leads.2 in
-    one_end runs.0 a b es runs.3 (subst (λ (v : World). Leads bus v es b) (sym between) leads.3)
 
 found_in : (s : Scenario) (events : List Event) (a : Audit) (r : Option (Result (World × List Event) RunFault)) → EventsLead
     → run_of s ≡ r → with_end (λ (end : World × List Event). end.1) r ≡ Some (Ok events) → Finds s.params s.taps events a

@@ -28,6 +28,9 @@ impl Bus {
     {
         let delay = self.params.ttd();
         let recent = self.trace.recent();
+        if recent.is_empty() {
+            return None;
+        }
         let amid = something_lasts(recent, delay, self.now.get());
         let start = start_known(&self.taps, amid, self.now);
         let begin = known_of(next_begin(recent, delay, self.now.get()));

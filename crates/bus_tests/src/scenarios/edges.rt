@@ -2,7 +2,7 @@
 
 use super::{BUS, equal};
 use pb_medium::Entry;
-use pb_scenario::{Scenario, audit_of, events_of, read, trace_text};
+use pb_scenario::{Scenario, audit_of, events_of, read, trace_of, trace_text};
 use std::process::Abort;
 
 /// A file of version 2 with a master and `taps` passive stations, which starts the master and makes noise `noises`
@@ -51,6 +51,8 @@ fn plays(rt: &(impl AllocGlobal + Abort), scenario: &Scenario, taps: usize) {
     assert!(rt; events.len() > 2);
     let found = audit_of(alloc, scenario).expect(rt, "an audit");
     assert!(rt; found.premise.is_none() && found.illegal.is_none());
+    let traced = trace_of(alloc, scenario).expect(rt, "a trace");
+    equal(rt, &traced.events, &(events.len() as u64));
     let mut noises = Vec::new(alloc);
     for _ in 0..scenario.steps().len() {
         noises

@@ -1,4 +1,7 @@
-use Rattle.std.proofs.Common.{◌∙◌, ap, sym, subst, ◌+◌, ◌≤◌, ◌&&◌, List, map, arith, Some, None, if◌then◌else◌}
+use Rattle.std.proofs.Common.{◌≡◌, ◌≢◌, ◌∙◌, ◌⊎◌, inl, inr, ap, sym, subst, ◌+◌, ◌≤◌, ◌==◌, ◌&&◌, Bool, true, false, List, [], ◌∷◌, length, map, arith, Some, None, if◌then◌else◌}
+use Rattle.std.proofs.Math.Bool.{and-false}
+use Rattle.std.proofs.lemmas.Bool.Decides.{eqb_tells}
+use Rattle.std.proofs.lemmas.List.{nil_from_length}
 use Rattle.std.specs.Prelude.{IfSome}
 use Rattle.std.specs.List.{list_any}
 use Rattle.pb_timers.specs.Timers.{last_moment}
@@ -53,3 +56,22 @@ returns c =
     ∙ ap (earlier c.moment_of-end.result) (c.earlier.ensures ∙ ap (λ o. earlier o c.start_known-start.result) (c.known_of-begin.ensures ∙ begins) ∙ ap (earlier (next_known delay bus.now recent)) start)
     ∙ ap (λ o. earlier o (earlier (next_known delay bus.now recent) (start_known w (list_any (is_in_air delay bus.now) recent)))) (c.moment_of-end.ensures ∙ ends)
     ∙ sym (change-recent w (over_of bus.trace) c.requires.cut)
+
+no-items : {A : Type 0} (xs : List A) → (length xs == 0) ≡ true → xs ≡ []
+no-items xs is =
+    nil_from_length xs (by (eqb_tells (length xs) 0))
+  where
+    by : ((length xs == 0) ≡ true) × (length xs ≡ 0) ⊎ ((length xs == 0) ≡ false) × (length xs ≢ 0) → length xs ≡ 0
+    by (inl zero) = zero.1
+    by (inr (differs, apart)) = absurd cc
+
+pub returns-then-is_empty : goal.returns-then-is_empty
+returns-then-is_empty c =
+    let bus = c.args.self.now in
+    let w = world_of bus in
+    let delay = bus.params.ttd in
+    let none = no-items c.recent-recent.result.now (sym c.is_empty.ensures ∙ c.if-is_empty.true) in
+    let recent : recent_of bus.trace ≡ [] = sym c.recent-recent.ensures ∙ ap (map entry_of) none in
+    sym (change-recent w (over_of bus.trace) c.requires.cut
+    ∙ ap (λ es. earlier (next_end_of delay bus.now es) (earlier (next_known delay bus.now es) (start_known w (list_any (is_in_air delay bus.now) es)))) recent
+    ∙ ap (λ (b : Bool). if b then Some (bus.now + 1) else None) (and-false (list_any (started_now bus.now) w.taps)))
