@@ -1,12 +1,11 @@
 -- A station that uses the token takes a request from its queue, or does without.
-use Rattle.std.proofs.Common.{◌≡◌, ◌∙◌, ap, sym, refl, subst, arith, ℕ, Bool, true, false, if◌then◌else◌, List, [], ◌∷◌, length, Option, Some, None}
+use Rattle.std.proofs.Common.{◌≡◌, ◌∙◌, ap, sym, subst, ℕ, Bool, List, Option, Some, None}
 use Rattle.std.specs.Prelude.{IsSome}
 use Rattle.pb_timers.specs.Timers.{Params}
 use Rattle.pb_cycles.specs.RequestFields.{RequestFields}
-use Rattle.pb_rotation.specs.Rotation.{may_high, may_low}
 use Rattle.law_turn.specs.Stations.{Station}
 use Rattle.pb_transitions.specs.Speeches.{after_taking}
-use Rattle.law_turn.specs.Turns.{says_in_use, says_high, says_low, says_no_request, says_request, high_request, low_request, high_taken, low_taken, longest_waiting}
+use Rattle.law_turn.specs.Turns.{says_in_use, says_high, says_low, says_no_request, says_request, high_request, low_request, high_taken, low_taken}
 
 -- where there was none it has its receipt as before
 pub received_still : (taken : Station → Station) (s after : Station) (o : Option RequestFields) → after ≡ after_taking taken s o → o ≡ None
@@ -38,19 +37,3 @@ pub low_not_said : (p : Params) (s after : Station) (asked : Bool) (now : ℕ) (
 low_not_said p s after asked now o spoken says taken first is =
     says ∙ ap (λ (x : Station). says_no_request p x asked now) (taken ∙ ap (after_taking low_taken s) is)
     ∙ ap (λ (x : Option RequestFields). says_low p s asked x now) (sym is ∙ first)
-
--- where no request waits none is taken
-none_waits : (may : Bool) (waiting : List RequestFields) → length waiting ≡ 0 → (if may then longest_waiting waiting else None) ≡ None
-none_waits true [] empty = refl
-none_waits false [] empty = refl
-none_waits may (r ∷ waiting) empty = absurd (omega (arith, empty))
-
-pub high_none_waits : (p : Params) (s : Station) (asked : Bool) (now : ℕ) (spoken : Station × Option (List ℕ)) → spoken ≡ says_low p s asked (low_request s now) now
-    → length s.cycles.queue.high ≡ 0 → spoken ≡ says_in_use p s asked now
-high_none_waits p s asked now spoken says empty =
-    says ∙ ap (λ (x : Option RequestFields). says_high p s asked x now) (sym (none_waits (may_high s.rotation now) s.cycles.queue.high empty))
-
-pub low_none_waits : (p : Params) (s : Station) (asked : Bool) (now : ℕ) (spoken : Station × Option (List ℕ)) → spoken ≡ says_no_request p s asked now
-    → length s.cycles.queue.low ≡ 0 → spoken ≡ says_low p s asked (low_request s now) now
-low_none_waits p s asked now spoken says empty =
-    says ∙ ap (λ (x : Option RequestFields). says_low p s asked x now) (sym (none_waits (may_low s.rotation now) s.cycles.queue.low empty))

@@ -13,7 +13,7 @@ ghost use Rattle.pb_rotation.specs.Rotation.{fresh, may_low};
 ghost use Rattle.pb_cycles.specs.Initiating.{retry_of};
 ghost use Rattle.law_turn.specs.Phases as turn;
 ghost use Rattle.law_turn.specs.Stations.{next_station, reply_moment, speaks_at};
-ghost use Rattle.law_turn.specs.Turns.{token_octets, status_request_octets, saying, says_token, says_claim, looks_at_gap, says_look, says_no_request, says_request, says_low, says_in_use, high_request, low_request, high_taken, low_taken, says_again, joining, says_reply, says_ready, phase_says, speech};
+ghost use Rattle.law_turn.specs.Turns.{token_octets, status_request_octets, saying, says_token, says_claim, looks_at_gap, says_look, says_request, says_in_use, high_request, low_request, high_taken, low_taken, says_again, joining, says_reply, says_ready, phase_says, speech};
 ghost use Rattle.pb_tokenfsm.specs.Phases.{phase_of, claims_sent, has_asked, was_asked, tries_of};
 ghost use Rattle.pb_transitions.specs.Clocks.{last_turn};
 ghost use Rattle.pb_transitions.specs.Cores.{station_with, Becomes, HasReceived};
@@ -202,11 +202,16 @@ fn says_in_use(
         spoken_with kept.new waiting.new (phase_of result) out.new
         ≡ says_in_use params.now before (has_asked holder) now }
 {
-    if waiting.has_high() {
-        says_high(holder, kept, waiting, params, now, out)
-    } else {
-        says_low(holder, kept, waiting, params, now, out)
+    if let Some(request) = take_high(kept, waiting, now) {
+        return says_request(holder, kept, params, now, request, out);
     }
+    if let Some(request) = take_low(kept, waiting, now) {
+        return says_request(holder, kept, params, now, request, out);
+    }
+    if looks_at_gap(kept, params, holder.asked(), now) {
+        return says_look(holder, kept, params, now, out);
+    }
+    says_token(holder.done(), kept, params, now, out)
 }
 
 /// Sends the open request again.
@@ -281,50 +286,6 @@ fn token(da: u8, sa: u8) -> Telegram
     Telegram::Token(TokenTelegram { da, sa })
 }
 
-/// Requests of high priority wait: sends the first one, if it may be sent.
-fn says_high(
-    holder: Holding<Use>,
-    kept: &mut Kept,
-    waiting: &mut Waiting,
-    params: &BusParams,
-    now: Moment,
-    out: &mut SendBuffer,
-) -> Phase
-    requires clock { now ≤ last_turn }
-    requires received { IsSome kept.old.rotation.last }
-    ensures { let before = station_with kept.old waiting.old (phase_of (Phase.Use holder)) in
-        spoken_with kept.new waiting.new (phase_of result) out.new
-        ≡ says_in_use params.now before (has_asked holder) now }
-{
-    match take_high(kept, waiting, now) {
-        Some(request) => says_request(holder, kept, params, now, request, out),
-        None => says_low(holder, kept, waiting, params, now, out),
-    }
-}
-
-/// No request of high priority may be sent: sends one of low priority, or what follows if none may be sent.
-#[inline(always)]
-fn says_low(
-    holder: Holding<Use>,
-    kept: &mut Kept,
-    waiting: &mut Waiting,
-    params: &BusParams,
-    now: Moment,
-    out: &mut SendBuffer,
-) -> Phase
-    requires clock { now ≤ last_turn }
-    requires received { IsSome kept.old.rotation.last }
-    ensures { let before = station_with kept.old waiting.old (phase_of (Phase.Use holder)) in
-        spoken_with kept.new waiting.new (phase_of result) out.new
-        ≡ says_low params.now before (has_asked holder) (low_request before now) now }
-{
-    if waiting.has_low() {
-        says_first_low(holder, kept, waiting, params, now, out)
-    } else {
-        says_no_request(holder, kept, params, now, out)
-    }
-}
-
 /// Joins the ring.
 fn join(kept: &mut Kept)
     ensures { kept.new ≡ record
@@ -348,14 +309,11 @@ fn take_high(kept: &mut Kept, waiting: &mut Waiting, now: Moment) -> Option<Requ
     ensures kept { (phase : turn.Phase) → station_with kept.new waiting.new phase
         ≡ after_taking high_taken (station_with kept.old waiting.old phase) result }
 {
-    if !kept.rotation.may_high(now) {
+    if !waiting.has_high() || !kept.rotation.may_high(now) {
         return None;
     }
-    let request = waiting.take_high();
-    if request.is_some() {
-        kept.rotation.started_high();
-    }
-    request
+    kept.rotation.started_high();
+    waiting.take_high()
 }
 
 /// Sends a request.
@@ -379,48 +337,6 @@ fn says_request(
     asked(holder, answered, ready)
 }
 
-/// Requests of low priority wait: sends the first one, if it may be sent.
-fn says_first_low(
-    holder: Holding<Use>,
-    kept: &mut Kept,
-    waiting: &mut Waiting,
-    params: &BusParams,
-    now: Moment,
-    out: &mut SendBuffer,
-) -> Phase
-    requires clock { now ≤ last_turn }
-    requires received { IsSome kept.old.rotation.last }
-    ensures { let before = station_with kept.old waiting.old (phase_of (Phase.Use holder)) in
-        spoken_with kept.new waiting.new (phase_of result) out.new
-        ≡ says_low params.now before (has_asked holder) (low_request before now) now }
-{
-    match take_low(kept, waiting, now) {
-        Some(request) => says_request(holder, kept, params, now, request, out),
-        None => says_no_request(holder, kept, params, now, out),
-    }
-}
-
-/// No request may be sent: asks a station of the GAP, or passes the token.
-#[inline(always)]
-fn says_no_request(
-    holder: Holding<Use>,
-    kept: &mut Kept,
-    params: &BusParams,
-    now: Moment,
-    out: &mut SendBuffer,
-) -> Phase
-    requires clock { now ≤ last_turn }
-    requires received { IsSome kept.old.rotation.last }
-    ensures { Says (λ s. says_no_request params.now s (has_asked holder) now)
-        kept.old (phase_of (Phase.Use holder)) kept.new (phase_of result) out.new }
-{
-    if looks_at_gap(kept, params, holder.asked(), now) {
-        says_look(holder, kept, params, now, out)
-    } else {
-        says_token(holder.done(), kept, params, now, out)
-    }
-}
-
 /// The phase after a request: the station waits for the reply, or speaks again.
 fn asked(holder: Holding<Use>, answered: bool, ready: Moment) -> Phase
     ensures { phase_of result
@@ -442,7 +358,7 @@ fn take_low(kept: &Kept, waiting: &mut Waiting, now: Moment) -> Option<Request>
     ensures kept { (phase : turn.Phase) → station_with kept.now waiting.new phase
         ≡ after_taking low_taken (station_with kept.now waiting.old phase) result }
 {
-    if !kept.rotation.may_low(now) {
+    if !waiting.has_low() || !kept.rotation.may_low(now) {
         return None;
     }
     waiting.take_low()
