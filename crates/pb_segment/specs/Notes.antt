@@ -1,13 +1,17 @@
 -- What is kept of an event, and why an event is not kept.
-use Rattle.std.specs.Prelude.{◌≡◌, ◌≢◌, ℕ, ◌<◌, Bool, Option, Some, None, Ok, if◌then◌else◌}
+use Rattle.std.specs.Prelude.{◌≡◌, ◌≢◌, ℕ, ◌<◌, Bool, Option, Some, None, Result, Ok, IfErr, OnOk, if◌then◌else◌, length, vec_len, vec_capacity}
+use Rattle.std.specs.declared.vec.Vec.{Vec}
 use Rattle.law_model.specs.World.{World, Event, Reply}
 use Rattle.law_model.specs.Step.{step}
 use Rattle.pb_taps.specs.Faults.{Refuses}
 use Rattle.pb_taps.specs.declared.faults.WorldFault.{WorldFault}
 use Rattle.pb_taps.specs.declared.faults.WorldFault.TheVariants as world
+use Rattle.pb_segment.specs.declared.blocks.Blocks.{Blocks}
 use Rattle.pb_segment.specs.declared.faults.CommitFault.{CommitFault}
 use Rattle.pb_segment.specs.declared.faults.CommitFault.TheVariants as commit
 use Rattle.pb_segment.specs.declared.notes.Note.{Note}
+use Rattle.pb_segment.specs.Blocks.{HasRoom, happened_in}
+use Rattle.pb_segment.specs.Histories.{Receipt}
 
 -- a reply is that to an event, if the event is not refused
 abbrev pub IsReplyTo : World → Event → Reply → Type 0
@@ -48,6 +52,16 @@ IsWantOfRoom events limit commit.Disagree = ⊥
 IsWantOfRoom events limit (commit.Stale turns now) = ⊥
 IsWantOfRoom events limit (commit.World fault) = (fault ≡ world.NoMemory) × (events < limit)
 IsWantOfRoom events limit commit.HistoryFull = events ≡ limit
+
+-- if the result is Ok, a history of at most a limit has room for one more event, and a seat for its receipt; either way
+-- no event and no receipt is added or changed
+pub record MakesRoom {T Z : Type 0} (old new : Blocks) (receipts_old receipts_new : Vec Receipt Z) (limit : ℕ) (result : Result T CommitFault) : Type 0 where
+  pub same : happened_in new ≡ happened_in old
+  pub same_receipts : receipts_new.items ≡ receipts_old.items
+  pub room : OnOk result (HasRoom new)
+  pub room_receipts : OnOk result (vec_len receipts_new < vec_capacity receipts_new)
+  pub inside : OnOk result (length (happened_in old) < limit)
+  pub err : IfErr result (IsWantOfRoom (length (happened_in old)) limit)
 
 -- the world's fault comes before any other
 abbrev pub earlier_fault : Option WorldFault → CommitFault → CommitFault

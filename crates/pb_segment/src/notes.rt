@@ -1,15 +1,15 @@
 //! What is kept of an event. It is made before the event is applied.
 
 ghost use Rattle.std.specs.Arc.{arc_value};
-ghost use Rattle.std.specs.Prelude.{◌≡◌, ◌<◌, ◌≤◌, IfOk, IfErr, OnOk, false, length, vec_len, vec_capacity};
+ghost use Rattle.std.specs.Prelude.{◌≡◌, ◌≤◌, IfOk, false, length};
 ghost use Rattle.law_model.specs.Step.{step};
 ghost use Rattle.law_model.specs.World.{Turn};
 ghost use Rattle.pb_taps.specs.Events.{event_of, reply_of};
 ghost use Rattle.pb_world.specs.Glances.{Fits};
 ghost use Rattle.pb_world.specs.Refusals.{TellsSpeech, fault_of};
-ghost use Rattle.pb_segment.specs.Blocks.{HasRoom, happened_in};
+ghost use Rattle.pb_segment.specs.Blocks.{happened_in};
 ghost use Rattle.pb_segment.specs.Histories.{is_turn};
-ghost use Rattle.pb_segment.specs.Notes.{IsClockAfter, IsNoteOf, IsReplyTo, IsWantOfRoom, earlier_fault};
+ghost use Rattle.pb_segment.specs.Notes.{IsClockAfter, IsNoteOf, IsReplyTo, MakesRoom, earlier_fault};
 
 use crate::blocks::Blocks;
 use crate::faults::CommitFault;
@@ -49,12 +49,7 @@ pub(crate) fn note_turn(
     requires inside { length (happened_in history.old) ≤ limit }
     ensures note { IfOk result
         (IsNoteOf world.entry.now (Turn decided.entry.now.tap) (length (happened_in history.old))) }
-    ensures same { happened_in history.new ≡ happened_in history.old }
-    ensures same_receipts { receipts.new.items ≡ receipts.old.items }
-    ensures room { OnOk result (HasRoom history.new) }
-    ensures room_receipts { OnOk result (vec_len receipts.new < vec_capacity receipts.new) }
-    ensures inside { OnOk result (length (happened_in history.old) < limit) }
-    ensures err { IfErr result (IsWantOfRoom (length (happened_in history.old)) limit) }
+    ensures room { MakesRoom history.old history.new receipts.old receipts.new limit result }
 {
     make_room(alloc, history, receipts, limit)?;
     let event = known.turn(alloc, decided.tap)?;
@@ -77,12 +72,7 @@ pub(crate) fn note_event(
     requires inside { length (happened_in history.old) ≤ limit }
     ensures note { IfOk result
         (IsNoteOf world.entry.now (event_of event.now) (length (happened_in history.old))) }
-    ensures same { happened_in history.new ≡ happened_in history.old }
-    ensures same_receipts { receipts.new.items ≡ receipts.old.items }
-    ensures room { OnOk result (HasRoom history.new) }
-    ensures room_receipts { OnOk result (vec_len receipts.new < vec_capacity receipts.new) }
-    ensures inside { OnOk result (length (happened_in history.old) < limit) }
-    ensures err { IfErr result (IsWantOfRoom (length (happened_in history.old)) limit) }
+    ensures room { MakesRoom history.old history.new receipts.old receipts.new limit result }
 {
     make_room(alloc, history, receipts, limit)?;
     let kept = known.event(alloc, event)?;
@@ -122,12 +112,7 @@ pub(crate) fn make_room(
 ) -> Result<(), CommitFault>
     requires most { limit ≤ 1000000 }
     requires inside { length (happened_in history.old) ≤ limit }
-    ensures same { happened_in history.new ≡ happened_in history.old }
-    ensures same_receipts { receipts.new.items ≡ receipts.old.items }
-    ensures room { OnOk result (HasRoom history.new) }
-    ensures room_receipts { OnOk result (vec_len receipts.new < vec_capacity receipts.new) }
-    ensures inside { OnOk result (length (happened_in history.old) < limit) }
-    ensures err { IfErr result (IsWantOfRoom (length (happened_in history.old)) limit) }
+    ensures room { MakesRoom history.old history.new receipts.old receipts.new limit result }
 {
     if history.len() >= limit {
         return Err(CommitFault::HistoryFull);
