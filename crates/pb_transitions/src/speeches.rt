@@ -302,6 +302,7 @@ fn join(kept: &mut Kept)
 }
 
 /// Takes the request of high priority that may be sent; `None` if there is none.
+#[inline(always)]
 fn take_high(kept: &mut Kept, waiting: &mut Waiting, now: Moment) -> Option<Request>
     requires { IsSome kept.old.rotation.last }
     ensures request { (phase : turn.Phase) → result
@@ -351,6 +352,7 @@ fn asked(holder: Holding<Use>, answered: bool, ready: Moment) -> Phase
 }
 
 /// Takes the request of low priority that may be sent; `None` if there is none.
+#[inline(always)]
 fn take_low(kept: &Kept, waiting: &mut Waiting, now: Moment) -> Option<Request>
     requires { IsSome kept.now.rotation.last }
     ensures request { (phase : turn.Phase) → result
