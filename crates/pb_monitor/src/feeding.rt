@@ -8,7 +8,7 @@ use crate::cutting::{Cut, cut_front};
 use crate::heard_bursts::Known;
 use crate::lines::When;
 use crate::monitors::Monitor;
-use crate::pcap::{Heads, Item, PACKET_HEAD, Part, PcapFault, Stamp};
+use crate::pcap::{Heads, Item, Part, PcapFault, Stamp};
 use crate::reports::{push_refused, put_content};
 use crate::texts::{push_number, put, put_number};
 use arrayvec::ArrayVec;
@@ -189,17 +189,16 @@ impl Monitor {
     ) -> Result<usize, AllocError>
         ensures { IfOk result (λ taken. taken ≤ length octets.now) }
     {
-        let mut place = 0;
-        while let Some(whole) = heads.whole(&octets[place..]) {
-            let first = place + PACKET_HEAD;
-            place = first + whole.count;
-            let octets = &octets[first..place];
-            if self.kept.is_wanted() {
-                self.kept.note_octets(octets);
+        let is_kept = self.kept.is_wanted();
+        let mut left = octets;
+        while let Some(whole) = heads.whole(left) {
+            if is_kept {
+                self.kept.note_octets(whole.octets);
             }
-            self.hear_packet(whole.stamp, octets, rooms, text)?;
+            self.hear_packet(whole.stamp, whole.octets, rooms, text)?;
+            left = whole.behind;
         }
-        Ok(place)
+        Ok(octets.len() - left.len())
     }
 
     /// Reads the next part of a file of packets from some octets, and returns how many it took.

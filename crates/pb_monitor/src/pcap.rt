@@ -1,6 +1,6 @@
 //! Reads files of packets, pcap and pcapng, as they come: piece by piece, whole heads and packets where they are all there.
 
-ghost use Rattle.std.specs.Prelude.{◌<◌, ◌≤◌, ◌+◌, length, IfSome};
+ghost use Rattle.std.specs.Prelude.{◌≡◌, ◌<◌, ◌≤◌, ◌+◌, length, IfSome};
 
 use arrayvec::ArrayVec;
 use pb_telegram::{Receiver, RxChar};
@@ -19,7 +19,7 @@ const MOST_INTERFACES: usize = 16;
 const LONGEST_HEAD: usize = 24;
 
 /// How many octets the head of a packet of a pcap file has.
-pub(crate) const PACKET_HEAD: usize = 16;
+const PACKET_HEAD: usize = 16;
 
 /// How many parts of a second a timestamp counts: microseconds, unless the file says otherwise.
 pub(crate) const MICROS: u64 = 1_000_000;
@@ -35,13 +35,15 @@ pub(crate) enum Item {
     Refused(u64, PcapFault),
 }
 
-/// A packet that is there whole, behind its head.
-#[derive(Clone, Copy, Debug, PartialEq, Eq)]
-pub(crate) struct Whole {
+/// A packet that is there whole.
+#[derive(Clone, Copy, Debug)]
+pub(crate) struct Whole<'a> {
     /// Its time.
     pub(crate) stamp: Stamp,
-    /// How many octets it has.
-    pub(crate) count: usize,
+    /// Its octets.
+    pub(crate) octets: &'a [u8],
+    /// The octets behind it.
+    pub(crate) behind: &'a [u8],
 }
 
 /// What is read of the front of some octets.
@@ -493,19 +495,16 @@ pub(crate) struct Heads {
 impl Heads {
     /// The packet whose head and octets are the front of some octets, if they are all there.
     #[inline(always)]
-    pub(crate) fn whole(&self, octets: &[u8]) -> Option<Whole>
-        ensures { IfSome result (λ whole. 16 + whole.count ≤ length octets.now) }
+    pub(crate) fn whole<'a>(&self, octets: &'a [u8]) -> Option<Whole<'a>>
+        ensures { IfSome result (λ whole. 16 + length whole.octets.now + length whole.behind.now
+            ≡ length octets.now) }
     {
-        if octets.len() < PACKET_HEAD {
-            return None;
-        }
-        let count = long_in(octets, 8, self.is_big) as usize;
-        if octets.len() - PACKET_HEAD < count {
-            return None;
-        }
+        let (head, rest) = octets.split_at_checked(PACKET_HEAD)?;
+        let (octets, behind) = rest.split_at_checked(long_in(head, 8, self.is_big) as usize)?;
         Some(Whole {
-            stamp: self.stamp(octets),
-            count,
+            stamp: self.stamp(head),
+            octets,
+            behind,
         })
     }
 

@@ -267,13 +267,13 @@ impl Statistics {
               self.old.timed self.old.stations);
         } }
     {
-        let is_untaken = is_repeat && !is_early(begin, self.offer, self.limits, self.is_timed);
         take_offer(
             &mut self.stations,
+            &self.limits,
             self.offer,
             begin,
             said,
-            is_untaken,
+            is_repeat,
             self.is_timed,
         );
         self.offer = said.offered.map(|to| Offer { to, end });
@@ -435,7 +435,13 @@ fn is_awaited(request: Option<Open>) -> bool
 }
 
 /// Whether a token that is sent again from a moment on could still be taken.
-fn is_early(begin: u64, offer: Option<Offer>, limits: Option<Limits>, is_timed: bool) -> bool
+#[inline(never)]
+pub(crate) fn is_early(
+    begin: u64,
+    offer: Option<Offer>,
+    limits: Option<Limits>,
+    is_timed: bool,
+) -> bool
     ensures { result ≡ is_early limits is_timed offer begin }
 {
     let Some(limits) = limits else {

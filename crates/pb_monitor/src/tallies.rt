@@ -1,23 +1,25 @@
 //! What telegrams count for all stations.
 
-ghost use Rattle.std.specs.Prelude.{◌≡◌, map};
-ghost use Rattle.pb_monitor.specs.Known.{changed_at, closed_by, initiated, polled_by, asked, replied, sent_token, taken, without_receipt};
+ghost use Rattle.std.specs.Prelude.{◌≡◌, ◌&&◌, not, map};
+ghost use Rattle.pb_monitor.specs.Known.{changed_at, closed_by, initiated, polled_by, asked, is_early, replied, sent_token, taken, without_receipt};
 
 use crate::meanings::InitiatorTelegram;
 use crate::stations::{Station, one_more};
-use crate::statistics::{Answer, Offer};
+use crate::statistics::{Answer, Limits, Offer, is_early};
 use pb_telegram::Head;
 
 /// Notes who took a token that was offered, or that it was sent again after its slot.
 pub(crate) fn take_offer(
     stations: &mut [Station],
+    limits: &Option<Limits>,
     offer: Option<Offer>,
     begin: u64,
     said: InitiatorTelegram,
-    is_untaken: bool,
+    is_repeat: bool,
     is_timed: bool,
 )
-    ensures { stations.new ≡ taken offer begin said is_untaken is_timed stations.old }
+    ensures { stations.new ≡ taken offer begin said
+        (is_repeat && not (is_early limits.now is_timed offer begin)) is_timed stations.old }
 {
     let Some(offer) = offer else {
         return;
@@ -30,7 +32,7 @@ pub(crate) fn take_offer(
         if !said.is_claim && is_timed {
             stations[place].take(offer.end, begin.saturating_sub(offer.end));
         }
-    } else if is_untaken {
+    } else if is_repeat && !is_early(begin, Some(offer), *limits, is_timed) {
         stations[place].tokens_not_taken = one_more(stations[place].tokens_not_taken);
     }
 }
