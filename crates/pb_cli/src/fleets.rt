@@ -9,11 +9,12 @@ use pb_fleet::{CommitFault, FleetFault};
 use pb_texts::{Shown, new_line, refused_line};
 use std::alloc::{AllocError, Global};
 
-/// The text for a fleet's fault. The caller ensures that it is not `BadWorkers`. For refused memory there is no line:
-/// the result is that fault too. If memory was refused for a thread, the fault is `NoThread`, which has a line.
+/// The text with which `ringplay run` says a fleet's fault. The caller ensures that it is not `BadWorkers`. For refused
+/// memory there is no line: the result is that fault too. If memory was refused for a thread, the fault is `NoThread`,
+/// which has a line.
 ///
 /// Fault: memory was refused, before or in this call.
-pub(crate) fn refused_fleet(alloc: Global, fault: FleetFault) -> Result<Shown, AllocError>
+pub fn refused_fleet(alloc: Global, fault: FleetFault) -> Result<Shown, AllocError>
     requires { fault ≢ FleetFault.BadWorkers }
     ensures shown { IfOk result (λ shown. shown_of shown ≡ refusal (fleet_line fault)) }
     ensures told { OnOk result (IsToldFleet fault) }

@@ -44,6 +44,7 @@ pub use counted_writer::CountedWriter;
 pub use decoding::decode_lines;
 pub use exporting::export_file;
 pub use faults::{CliFault, Status};
+pub use fleets::refused_fleet;
 pub use laws::{exports_settle_to_the_same, pictures_are_the_same};
 pub use monitoring::{Bus, Notes, bus_of, export_capture, monitor};
 pub use playing::play;
@@ -57,6 +58,3 @@ pub use streaming::{Flush, stream_file};
 pub use streams::{ReadFault, Sink, Source, WriteFault};
 pub use words::{Ask, AskFault, Asked, Options};
 pub use writing::write_out;
-
-#[cfg(test)]
-mod tests;

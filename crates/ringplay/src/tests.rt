@@ -2,6 +2,7 @@
 
 mod decoding;
 mod exports;
+mod fleets;
 mod memory;
 mod monitoring;
 mod scenarios;

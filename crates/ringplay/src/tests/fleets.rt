@@ -1,6 +1,6 @@
 //! The lines of faults that no scenario file causes.
 
-use crate::fleets::refused_fleet;
+use pb_cli::refused_fleet;
 use pb_fleet::{CloseFault, CommitFault, FleetFault};
 
 #[test]
