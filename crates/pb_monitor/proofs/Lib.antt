@@ -11,3 +11,4 @@ pub mod Fronts
 pub mod CutStreams
 pub mod Forgotten
 pub mod Appending
+pub mod HexDigits

@@ -1,10 +1,17 @@
--- Parts of the lines that a monitor prints for bursts and alarms.
-use Rattle.std.specs.Prelude.{ℕ, ◌+◌, ◌-◌, ◌*◌, List, [], ◌++◌, codes, decimal, Option, Some, None}
+-- The lines that a monitor prints for bursts and alarms.
+use Rattle.std.specs.Prelude.{ℕ, ◌+◌, ◌-◌, ◌*◌, List, [], ◌++◌, codes, decimal, Option, Some, None, Result, Ok, Err}
+use Rattle.pb_decode.specs.Texts.{fault_text, telegram_text}
+use Rattle.pb_telegram.specs.declared.telegrams.Telegram.{Telegram}
+use Rattle.pb_telegram.specs.declared.faults.TelegramFault.{TelegramFault}
 use Rattle.pb_timers.specs.Timers.{Params, tto}
 use Rattle.pb_monitor.specs.AlarmWords.{name_of}
+use Rattle.pb_monitor.specs.Holders.{holder_of}
 use Rattle.pb_monitor.specs.Judge.{live}
+use Rattle.pb_monitor.specs.Judging.{Judging}
+use Rattle.pb_monitor.specs.TelegramWords.{words_of}
 use Rattle.pb_monitor.specs.declared.alarms.Alarm.{Alarm}
 use Rattle.pb_monitor.specs.declared.alarms.Alarm.TheVariants.{SpokeWithoutToken, SpokeOutOfTurn, PassedAgainTooEarly, PassedAgainThoughHeard, TookAfterSlot, ClaimedTooEarly, SpokeAfterLoss, ClaimedTooEarlyAfterLoss, TookLate, TookTooSoon}
+use Rattle.pb_monitor.specs.declared.bursts.Burst.{Burst}
 use Rattle.pb_monitor.specs.declared.holders.Holder.{Holder}
 use Rattle.pb_monitor.specs.declared.holders.Holder.TheVariants.{One, OfferedTo, Nobody, Unknown}
 use Rattle.pb_monitor.specs.declared.meanings.InitiatorTelegram.{InitiatorTelegram}
@@ -17,6 +24,31 @@ holder_text (One address) = codes " | holder " ++ decimal address
 holder_text (OfferedTo address) = codes " | offered to " ++ decimal address
 holder_text Nobody = codes " | nobody"
 holder_text Unknown = codes " | unknown"
+
+-- the same at a moment, where that is judged
+abbrev pub named_text : (moment : ℕ) → Option Judging → List ℕ
+named_text moment None = []
+named_text moment (Some j) = holder_text (holder_of j.params j.slack j.state moment)
+
+-- ---- bursts
+
+-- a telegram and what it says, or the fault of a burst without one
+abbrev pub content_text : Result Telegram TelegramFault → List ℕ
+content_text (Ok t) = telegram_text t ++ codes " | " ++ words_of t
+content_text (Err fault) = fault_text fault
+
+-- The line of a burst with moments. The judge, if there is one, has heard it.
+abbrev pub burst_text : Burst → Option Judging → List ℕ
+burst_text b judge =
+    decimal b.begin ++ codes " " ++ decimal b.end ++ codes " " ++ content_text b.telegram ++ named_text b.end judge ++ codes "\n"
+
+-- of a burst without moments
+abbrev pub untimed_text : Burst → List ℕ
+untimed_text b = content_text b.telegram ++ codes "\n"
+
+-- of a telegram that is cut off at an offset of raw octets
+abbrev pub cut_text : (offset : ℕ) → Burst → List ℕ
+cut_text offset b = decimal offset ++ codes " " ++ content_text b.telegram ++ codes "\n"
 
 -- ---- alarms
 

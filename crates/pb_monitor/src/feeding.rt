@@ -1,6 +1,7 @@
 //! Captures of octets without boundaries, and files of packets.
 
-ghost use Rattle.std.specs.Prelude.{◌≡◌, ◌<◌, ◌≤◌, [], length, IfOk};
+ghost use Rattle.std.specs.Prelude.{◌≡◌, ◌<◌, ◌≤◌, ◌++◌, [], length, IfOk, OnOk};
+ghost use Rattle.pb_monitor.specs.BurstTexts.{cut_text};
 ghost use Rattle.pb_telegram.specs.Grammar.{spelling};
 
 use crate::bursts::{Burst, Rooms, octets_of};
@@ -340,7 +341,10 @@ fn near_bits_of(stamp: Stamp, baud: u32) -> Option<u64> {
 
 /// Appends the line of a telegram at an offset.
 #[inline(never)]
-fn push_cut(text: &mut Vec<u8>, offset: u64, burst: &Burst) -> Result<(), AllocError> {
+#[tactic(auto, using(crate::proofs::Appending::line_with_end))]
+fn push_cut(text: &mut Vec<u8>, offset: u64, burst: &Burst) -> Result<(), AllocError>
+    ensures { OnOk result (text.new.items ≡ text.old.items ++ cut_text offset burst.now) }
+{
     let mut line = ArrayVec::new();
     put_number(&mut line, offset);
     put(&mut line, b" ");

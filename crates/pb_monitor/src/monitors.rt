@@ -1,7 +1,8 @@
 //! A monitor: from the bytes of a capture to lines of text, as they come.
 
-ghost use Rattle.std.specs.Prelude.{◌≡◌, IfOk};
+ghost use Rattle.std.specs.Prelude.{◌≡◌, ◌++◌, IfOk, OnOk};
 ghost use Rattle.pb_telegram.specs.Grammar.{spelling};
+ghost use Rattle.pb_monitor.specs.BurstTexts.{burst_text, untimed_text};
 ghost use Rattle.pb_monitor.specs.Lines.{IsTold};
 
 use crate::alarms::Alarm;
@@ -19,7 +20,7 @@ use crate::meanings::{Meaning, meaning_in};
 use crate::orders::{Order, Wrong};
 use crate::pcap::Packets;
 use crate::reports::{
-    Raised, push_alarm, push_refused, push_untimed_alarm, put_content, put_holder,
+    Raised, push_alarm, push_refused, push_untimed_alarm, put_content, put_named,
 };
 use crate::states::State;
 use crate::statistics::Statistics;
@@ -563,16 +564,17 @@ impl Monitor {
 
     /// Appends the line of a burst.
     #[inline(never)]
-    fn push_burst(&self, burst: &Burst, text: &mut Vec<u8>) -> Result<(), AllocError> {
+    #[tactic(auto, using(crate::proofs::Appending::line_with_end, crate::proofs::Appending::line_with_more))]
+    fn push_burst(&self, burst: &Burst, text: &mut Vec<u8>) -> Result<(), AllocError>
+        ensures { OnOk result (text.new.items ≡ text.old.items ++ burst_text burst.now self.now.judge) }
+    {
         let mut line = ArrayVec::new();
         put_number(&mut line, burst.begin);
         put(&mut line, b" ");
         put_number(&mut line, burst.end);
         put(&mut line, b" ");
         put_content(&mut line, &burst.telegram, text)?;
-        if let Some(judge) = &self.judge {
-            put_holder(&mut line, judge.holder(burst.end));
-        }
+        put_named(&mut line, &self.judge, burst.end);
         put(&mut line, b"\n");
         text.extend_from_slice(&line)
     }
@@ -731,7 +733,10 @@ fn raised(alarm: Alarm, meaning: Meaning, before: State) -> Option<Raised> {
 
 /// Appends the line of a burst without moments.
 #[inline(never)]
-fn push_untimed(burst: &Burst, text: &mut Vec<u8>) -> Result<(), AllocError> {
+#[tactic(auto, using(crate::proofs::Appending::line_with_end))]
+fn push_untimed(burst: &Burst, text: &mut Vec<u8>) -> Result<(), AllocError>
+    ensures { OnOk result (text.new.items ≡ text.old.items ++ untimed_text burst.now) }
+{
     let mut line = ArrayVec::new();
     put_content(&mut line, &burst.telegram, text)?;
     put(&mut line, b"\n");

@@ -1,12 +1,14 @@
 //! The lines that a monitor prints for bursts and alarms.
 
-ghost use Rattle.std.specs.Prelude.{◌≡◌, ◌≤◌, ◌+◌, ◌++◌, codes, length, None, OnOk, Some};
+ghost use Rattle.std.specs.Prelude.{◌≡◌, ◌≤◌, ◌+◌, ◌++◌, [], codes, length, None, OnOk, Some};
 ghost use Rattle.pb_decode.specs.Texts.{address_text, token_text};
-ghost use Rattle.pb_monitor.specs.BurstTexts.{after_last_text, alarm_head, claimed_text, deed_text, had_last_text, had_text, holder_text, latest, measured_text, offered_text, order_text, refused_text, spoke_text, taken_text, why_text};
+ghost use Rattle.pb_monitor.specs.BurstTexts.{after_last_text, alarm_head, claimed_text, content_text, deed_text, had_last_text, had_text, holder_text, latest, measured_text, named_text, offered_text, order_text, refused_text, spoke_text, taken_text, why_text};
 ghost use Rattle.pb_monitor.specs.TelegramWords.{token_words};
+ghost use Rattle.pb_telegram.specs.declared.telegrams.Telegram.TheVariants.{Var};
 
 use crate::alarms::Alarm;
 use crate::holders::Holder;
+use crate::judges::Judge;
 use crate::meanings::InitiatorTelegram;
 use crate::states::{LastHeard, State, live};
 use crate::texts::{LONGEST_PIECE, hex_of, push_counted, push_hex, push_number, put, put_number};
@@ -37,6 +39,8 @@ pub(crate) fn put_content(
     text: &mut Vec<u8>,
 ) -> Result<(), AllocError>
     requires { length piece.old.items ≤ 42 }
+    ensures text { OnOk result (text.new.items ++ piece.new.items
+        ≡ (text.old.items ++ piece.old.items) ++ content_text telegram.now) }
     ensures room { OnOk result (length piece.new.items ≤ 82) }
 {
     if let Ok(Telegram::Token(token)) = telegram {
@@ -81,6 +85,9 @@ fn push_var(
     text: &mut Vec<u8>,
 ) -> Result<(), AllocError>
     requires { length piece.old.items ≤ 42 }
+    ensures text { OnOk result (text.new.items
+        ≡ (text.old.items ++ piece.old.items) ++ content_text (Ok (Var var.now))) }
+    ensures empty { OnOk result (piece.new.items ≡ []) }
     ensures room { OnOk result (length piece.new.items ≤ 82) }
 {
     put(piece, b"var da=");
@@ -115,7 +122,9 @@ fn put_address(piece: &mut ArrayVec<u8, LONGEST_PIECE>, octet: u8)
 fn push_content(
     text: &mut Vec<u8>,
     telegram: &Result<Telegram, TelegramFault>,
-) -> Result<(), AllocError> {
+) -> Result<(), AllocError>
+    ensures { OnOk result (text.new.items ≡ text.old.items ++ content_text telegram.now) }
+{
     match telegram {
         Ok(telegram) => {
             push_telegram(text, telegram)?;
@@ -128,7 +137,7 @@ fn push_content(
 
 /// Appends who holds the token to the piece of a line.
 #[inline(always)]
-pub(crate) fn put_holder(piece: &mut ArrayVec<u8, LONGEST_PIECE>, holder: Holder)
+fn put_holder(piece: &mut ArrayVec<u8, LONGEST_PIECE>, holder: Holder)
     requires { length piece.old.items ≤ 100 }
     ensures text { piece.new.items ≡ piece.old.items ++ holder_text holder }
     ensures room { length piece.new.items ≤ length piece.old.items + 17 }
@@ -144,6 +153,18 @@ pub(crate) fn put_holder(piece: &mut ArrayVec<u8, LONGEST_PIECE>, holder: Holder
         }
         Holder::Nobody => put(piece, b" | nobody"),
         Holder::Unknown => put(piece, b" | unknown"),
+    }
+}
+
+/// Appends who holds the token at a moment to the piece of a line, where that is judged.
+#[inline(always)]
+pub(crate) fn put_named(piece: &mut ArrayVec<u8, LONGEST_PIECE>, judge: &Option<Judge>, moment: u64)
+    requires { length piece.old.items ≤ 100 }
+    ensures text { piece.new.items ≡ piece.old.items ++ named_text moment judge.now }
+    ensures room { length piece.new.items ≤ length piece.old.items + 17 }
+{
+    if let Some(judge) = judge {
+        put_holder(piece, judge.holder(moment));
     }
 }
 

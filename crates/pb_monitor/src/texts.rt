@@ -1,6 +1,7 @@
 //! Numbers and words as text.
 
-ghost use Rattle.std.specs.Prelude.{◌≡◌, ◌<◌, ◌≤◌, ◌+◌, ◌++◌, OnOk, decimal, length};
+ghost use Rattle.std.specs.Prelude.{◌≡◌, ◌<◌, ◌≤◌, ◌+◌, ◌/◌, ◌%◌, ◌++◌, OnOk, decimal, length, slice_index};
+ghost use Rattle.hex.specs.Hex.{encode_lower, lower_digits};
 
 use arrayvec::ArrayVec;
 use itoa::{Buffer, Integer};
@@ -52,6 +53,7 @@ pub(crate) fn push_counted(text: &mut Vec<u8>, words: &[u8], number: u64) -> Res
 /// Appends the octets of a unit, each as two lower-case hex digits.
 pub(crate) fn push_hex(text: &mut Vec<u8>, octets: &[u8]) -> Result<(), AllocError>
     requires { length octets.now ≤ 246 }
+    ensures { OnOk result (text.new.items ≡ text.old.items ++ encode_lower octets.now) }
 {
     let mut room = [0; 2 * LONGEST_UNIT];
     for place in 0..octets.len() {
@@ -65,7 +67,9 @@ pub(crate) fn push_hex(text: &mut Vec<u8>, octets: &[u8]) -> Result<(), AllocErr
 /// An octet as two lower-case hex digits. There is no table, so that the compiler makes vectors of a loop over it.
 #[inline(always)]
 pub(crate) fn hex_of(octet: u8) -> [u8; 2]
-    ensures { length result ≡ 2 }
+    ensures len { length result ≡ 2 }
+    ensures high { slice_index result 0 ≡ slice_index lower_digits (octet / 16) }
+    ensures low { slice_index result 1 ≡ slice_index lower_digits (octet % 16) }
 {
     [hex_digit(octet / 16), hex_digit(octet % 16)]
 }
@@ -74,6 +78,7 @@ pub(crate) fn hex_of(octet: u8) -> [u8; 2]
 #[inline(always)]
 fn hex_digit(value: u8) -> u8
     requires { value < 16 }
+    ensures { result ≡ slice_index lower_digits value }
 {
     if value < 10 {
         b'0' + value

@@ -1,11 +1,12 @@
 //! What a telegram says, in words.
 
-ghost use Rattle.std.specs.Prelude.{◌≡◌, option_map};
+ghost use Rattle.std.specs.Prelude.{◌≡◌, ◌++◌, OnOk, codes, if◌then◌else◌, option_map};
 ghost use Rattle.pb_cycles.specs.Messages.{has_bit};
-ghost use Rattle.pb_monitor.specs.TelegramWords.{count_words, head_words, named_reply, reply_name, service_words, type_words, words_of, words_text};
+ghost use Rattle.pb_cycles.specs.Requests.{is_high};
+ghost use Rattle.pb_monitor.specs.TelegramWords.{asked_words, count_words, head_words, named_reply, reply_name, reply_words, request_words, service_words, type_words, words_of, words_text};
 
-use crate::texts::push_number;
-use pb_cycles::{Asked, Service};
+use crate::texts::{push_counted, push_number};
+use pb_cycles::{Asked, Priority, Service};
 use pb_telegram::{Fc, Telegram};
 use std::alloc::AllocError;
 
@@ -52,7 +53,9 @@ impl Words {
     /// Appends the words: `token to 2`, `FDL status request`, `SRD high, FCB 1`, `reply: data low`.
     ///
     /// Fault: memory was refused.
-    pub fn push(&self, text: &mut Vec<u8>) -> Result<(), AllocError> {
+    pub fn push(&self, text: &mut Vec<u8>) -> Result<(), AllocError>
+        ensures { OnOk result (text.new.items ≡ text.old.items ++ words_text self.now) }
+    {
         match self {
             Words::TokenTo(address) => {
                 text.extend_from_slice(b"token to ")?;
@@ -67,23 +70,24 @@ impl Words {
 }
 
 /// Appends what a request asks for, and its frame count bit.
-fn push_request(text: &mut Vec<u8>, fc: Fc) -> Result<(), AllocError> {
+fn push_request(text: &mut Vec<u8>, fc: Fc) -> Result<(), AllocError>
+    ensures { OnOk result (text.new.items ≡ text.old.items ++ request_words fc.0) }
+{
     push_asked(text, Asked::by(fc.code()), fc.code())?;
     text.extend_from_slice(count_words(fc).as_bytes())
 }
 
 /// Appends what a request asks for, by its function code.
-fn push_asked(text: &mut Vec<u8>, asked: Asked, code: u8) -> Result<(), AllocError> {
+fn push_asked(text: &mut Vec<u8>, asked: Asked, code: u8) -> Result<(), AllocError>
+    ensures { OnOk result (text.new.items ≡ text.old.items ++ asked_words asked code) }
+{
     match asked {
         Asked::Send(service, priority) => {
             text.extend_from_slice(service_name(service).as_bytes())?;
-            text.extend_from_slice(if priority.is_high() { " high" } else { " low" }.as_bytes())
+            text.extend_from_slice(priority_name(priority).as_bytes())
         }
         Asked::Status => text.extend_from_slice(b"FDL status request"),
-        Asked::Unknown => {
-            text.extend_from_slice(b"request with function code ")?;
-            push_number(text, code)
-        }
+        Asked::Unknown => push_counted(text, b"request with function code ", u64::from(code)),
     }
 }
 
@@ -95,6 +99,16 @@ fn service_name(service: Service) -> &'static str
         Service::Sda => "SDA",
         Service::Sdn => "SDN",
         Service::Srd => "SRD",
+    }
+}
+
+/// The priority of a service.
+fn priority_name(priority: Priority) -> &'static str
+    ensures { result.now ≡ (if is_high priority then codes " high" else codes " low") }
+{
+    match priority {
+        Priority::Low => " low",
+        Priority::High => " high",
     }
 }
 
@@ -112,7 +126,9 @@ fn count_words(fc: Fc) -> &'static str
 }
 
 /// Appends what a reply says: its function code, and the station type where it has no data.
-fn push_reply(text: &mut Vec<u8>, fc: Fc, is_empty: bool) -> Result<(), AllocError> {
+fn push_reply(text: &mut Vec<u8>, fc: Fc, is_empty: bool) -> Result<(), AllocError>
+    ensures { OnOk result (text.new.items ≡ text.old.items ++ reply_words fc.0 is_empty) }
+{
     push_reply_name(text, fc.code())?;
     if is_empty && fc.code() == 0 {
         return text.extend_from_slice(type_words(fc.station_type()).as_bytes());
@@ -121,13 +137,12 @@ fn push_reply(text: &mut Vec<u8>, fc: Fc, is_empty: bool) -> Result<(), AllocErr
 }
 
 /// Appends what the function code of a reply means, or the code.
-fn push_reply_name(text: &mut Vec<u8>, code: u8) -> Result<(), AllocError> {
+fn push_reply_name(text: &mut Vec<u8>, code: u8) -> Result<(), AllocError>
+    ensures { OnOk result (text.new.items ≡ text.old.items ++ reply_name code) }
+{
     match reply_name(code) {
         Some(name) => text.extend_from_slice(name.as_bytes()),
-        None => {
-            text.extend_from_slice(b"reply: function code ")?;
-            push_number(text, code)
-        }
+        None => push_counted(text, b"reply: function code ", u64::from(code)),
     }
 }
 
