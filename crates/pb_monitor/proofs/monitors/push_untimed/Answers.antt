@@ -1,4 +1,4 @@
-use Rattle.std.proofs.Common.{rules, ◌≡◌, ◌∙◌, [], ◌++◌}
+use Rattle.std.proofs.Common.{rules, ◌≡◌, ◌∙◌, []}
 use Rattle.std.specs.Prelude.{codes}
 use Rattle.pb_monitor.specs.BurstTexts.{content_text}
 use Rattle.pb_monitor.proofs.Appending.{extended, line_alone}
