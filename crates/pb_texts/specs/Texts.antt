@@ -60,7 +60,7 @@ margin_lines baud p =
 -- ---- warnings
 
 unfoldable pub asks_words : List ℕ
-asks_words = codes "ttr is at most the shortest rotation: after a first receipt a ring of all masters sends no GAP request"
+asks_words = codes "ttr is at most the shortest rotation and an idle time: after a first receipt a ring of all masters sends no GAP request"
 
 unfoldable pub round_words : List ℕ
 round_words = codes "a GAP round of all free addresses takes longer than gap * ttr, after which the next is due"

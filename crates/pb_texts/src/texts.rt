@@ -228,7 +228,7 @@ fn push_warning(text: &mut Vec<u8>, applies: bool, words: &[u8]) -> Result<(), A
 pub(crate) fn asks_words() -> &'static [u8]
     ensures { result.now ≡ texts.asks_words }
 {
-    b"ttr is at most the shortest rotation: after a first receipt a ring of all masters sends no GAP request"
+    b"ttr is at most the shortest rotation and an idle time: after a first receipt a ring of all masters sends no GAP request"
 }
 
 /// The warning that a GAP round is long.

@@ -120,7 +120,7 @@ fn bounds_are_an_object(rt: HostRuntime) {
 fn a_short_rotation_is_warned_of(rt: HostRuntime) {
     let text = bounds_text(rt.alloc(), &scenario(&rt, FOUR), 1_500_000).expect(&rt, "text");
     let warning =
-        "warning: ttr is at most the shortest rotation: after a first receipt a ring of all masters sends no GAP request\n";
+        "warning: ttr is at most the shortest rotation and an idle time: after a first receipt a ring of all masters sends no GAP request\n";
     assert!(rt; text.as_slice().ends_with(warning.as_bytes()));
 }
 
