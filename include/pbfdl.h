@@ -79,7 +79,7 @@ enum fdl_code {
     FDL_LONG_DATA = 66,         /* there are more than 246 octets of data */
     FDL_BAD_KIND = 67,          /* there is no such kind of telegram */
     FDL_NO_ROOM = 68,           /* the array is too short */
-    FDL_NO_INDICATION = 69,     /* the last turn executed no such request */
+    FDL_NO_INDICATION = 69,     /* the last turn executed no such request; of a bus: no such one is kept */
     FDL_BAD_ROOM = 70,          /* the room of a port is not 2 to 64 */
 
     /* Why a bus refuses a call. The functions for a bus use some of the codes above too. FDL_INBOX_FULL: a tap would have
@@ -209,7 +209,8 @@ enum fdl_kind {
 };
 
 /* A telegram. da and sa are the address octets as they are sent; bit 7 of them says that the unit begins with an address
- * extension. Fields that its kind doesn't have are 0 in a parsed telegram, and not read in a written one. */
+ * extension. Fields that its kind doesn't have are 0 in a parsed telegram, and not read in a written one; but its count is at
+ * most 246. */
 struct fdl_telegram {
     uint8_t kind;      /* an fdl_kind */
     uint8_t da;        /* destination address */
@@ -449,8 +450,8 @@ struct fdl_audit {
  * FDL_TOO_MANY_TAPS; FDL_BAD_STATION for a master's address over params->hsa, or another's over 126; FDL_NO_MEMORY. */
 uint32_t fdl_bus_new(struct fdl_bus *bus, const struct fdl_params *params, const struct fdl_tap *taps, size_t count);
 
-/* The same, of a bus whose trace may have `entries` entries, those that are let go included: 1,000,000,000,000 are more than its
- * clock has time for. */
+/* The same, of a bus whose trace may have `entries` entries, those that are let go included: 1,000,000,000,000 are as many as its
+ * clock has bit times. */
 uint32_t fdl_bus_new_within(struct fdl_bus *bus, const struct fdl_params *params, const struct fdl_tap *taps, size_t count,
                             size_t entries);
 
@@ -469,12 +470,12 @@ uint32_t fdl_bus_stop(struct fdl_bus *bus, size_t tap);
  * Codes: FDL_NO_BUS; FDL_NO_SUCH_TAP; FDL_NOT_RUNNING; FDL_TRACE_FULL or FDL_NO_MEMORY where it would send. */
 uint32_t fdl_bus_turn(struct fdl_bus *bus, size_t tap);
 
-/* Time passes, in bit times, at most to the next end on the bus (fdl_bus_next_change).
+/* Time passes, in bit times, at most to the next end on the bus; fdl_bus_next_change is never behind that.
  * Codes: FDL_NO_BUS, FDL_ZERO_TIME, FDL_TOO_FAR, FDL_CLOCK_FULL, FDL_INBOX_FULL. */
 uint32_t fdl_bus_pass(struct fdl_bus *bus, uint64_t bits);
 
 /* A disturbance that is no telegram reaches every tap from now on, for some bit times, at most 4,294,967,295. Noise that is
- * on the bus is extended to that end.
+ * on the bus lasts to the later of both ends.
  * Codes: FDL_TOO_FAR for more bit times; FDL_NO_BUS; FDL_ZERO_TIME; FDL_TRACE_FULL; FDL_NO_MEMORY. */
 uint32_t fdl_bus_noise(struct fdl_bus *bus, uint64_t bits);
 
@@ -521,9 +522,9 @@ uint32_t fdl_bus_due(struct fdl_bus *bus, size_t tap, uint64_t *at);
 uint32_t fdl_bus_next_change(struct fdl_bus *bus, uint64_t *at);
 
 /* Whether the ring is settled goes to *settled: all running masters that are not offline agree on who belongs to it and have had
- * the token, one of them has it, no station has a reply to send, and nothing is on its way: so only between telegrams, as just
- * after a token has arrived. If the events so far and those to come break no premise (fdl_bus_audit), and no damage, noise, start
- * or stop comes, each master of the ring then gets the token within the rotation bound of 'ringplay bounds', again and again,
+ * the token, one of them has it, no station of the ring was skipped, listens, claims or passes again, no tap has just started, no
+ * station has a reply to send, and nothing is on its way: so only between telegrams, as just after a token has arrived. If the
+ * events so far and those to come break no premise (fdl_bus_audit), and no damage, noise, start or stop comes, each master of the ring then gets the token within the rotation bound of 'ringplay bounds', again and again,
  * whatever fdl_bus_set_reply changes meanwhile.
  * Code: FDL_NO_BUS, with *settled unchanged. */
 uint32_t fdl_bus_is_settled(struct fdl_bus *bus, bool *settled);
