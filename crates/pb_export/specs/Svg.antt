@@ -1,5 +1,5 @@
 -- A trace as a picture.
-use Rattle.std.specs.Prelude.{ℕ, ◌-◌, ◌/◌, ◌*◌, ◌==◌, if◌then◌else◌, List, ◌++◌, [], ◌∷◌, length, codes, decimal}
+use Rattle.std.specs.Prelude.{ℕ, ◌+◌, ◌-◌, ◌/◌, ◌*◌, ◌==◌, min, if◌then◌else◌, List, ◌++◌, [], ◌∷◌, length, codes, decimal}
 use Rattle.std.specs.List.{flat_map}
 use Rattle.law_model.specs.Trace.{Entry}
 use Rattle.law_runs.specs.Scenarios.{Planned}
@@ -54,18 +54,18 @@ traced w s es sheet lanes =
     ++ band s sheet es
     ++ boxes w s sheet lanes es
 
--- with the steps
-abbrev pub picture : Window → ScenarioView → List Planned → List Entry → Sheet → (lanes : List ℕ) → List ℕ
-picture w s steps es sheet lanes =
-    traced w s es sheet lanes
-    ++ marks_text s sheet lanes steps
-    ++ codes "</svg>\n"
+-- A sheet up to the last moment at which a step happens. What is sent may end behind it.
+abbrev pub with_steps : Window → (until : ℕ) → Sheet → Sheet
+with_steps w until sheet = record sheet { last = min sheet.last (min w.until until + 1) }
 
 -- the run of a scenario's bus with some steps up to a moment
 abbrev pub drawn : Window → ScenarioView → (until : ℕ) → List Planned → List Entry → List ℕ
 drawn w s until steps es =
     let lanes = lanes_of s.scenario.taps es in
-    picture w s steps es (sheet_of w until es lanes) lanes
+    let sheet = sheet_of w until es lanes in
+    traced w s es sheet lanes
+    ++ marks_text s (with_steps w until sheet) lanes steps
+    ++ codes "</svg>\n"
 
 abbrev pub svg_text : Window → ScenarioView → List Entry → List ℕ
 svg_text w s es = drawn w s s.scenario.until s.scenario.steps es

@@ -84,7 +84,7 @@ impl Stretch {
 }
 
 impl Sheet {
-    ghost use Rattle.std.specs.Prelude.{◌≡◌, ◌≤◌, ◌<◌, ◌+◌, ◌-◌};
+    ghost use Rattle.std.specs.Prelude.{◌≡◌, ◌≤◌, ◌<◌, ◌+◌, ◌-◌, min};
     ghost use Rattle.pb_export.specs.Places as places;
     ghost use Rattle.pb_export.specs.Sheets.{IsSheet};
 
@@ -98,6 +98,19 @@ impl Sheet {
             from,
             last,
             lanes,
+        }
+    }
+
+    /// The sheet up to a moment, in bit times.
+    pub(crate) fn up_to(self, moment: u64) -> Sheet
+        requires { moment ≤ 1000000000000 }
+        ensures { result ≡ record self { last = min self.last (moment + 1) } }
+    {
+        Sheet {
+            zero: self.zero,
+            from: self.from,
+            last: self.last.min(moment + 1),
+            lanes: self.lanes,
         }
     }
 

@@ -97,7 +97,8 @@ fn push_run(
         lanes.len() as u64,
     );
     push_trace(text, alloc, scenario, entries, window, sheet, &lanes)?;
-    push_marks(text, scenario, sheet, &lanes, steps)?;
+    let marked = sheet.up_to(window.until.min(steps.until));
+    push_marks(text, scenario, marked, &lanes, steps)?;
     text.extend_from_slice(b"</svg>\n")
 }
 
