@@ -1,5 +1,5 @@
 -- What is written where a fault ends a scenario's run.
-use Rattle.std.proofs.Common.{◌≡◌, ◌≢◌, ℕ, List, Option, Some, None, Result, Ok, Err, ap}
+use Rattle.std.proofs.Common.{◌≡◌, ◌≢◌, ℕ, List, Option, Some, None, Result, Ok, Err, ap, sym}
 use Rattle.std.specs.Prelude.{IfSome}
 use Rattle.law_model.specs.World as model
 use Rattle.law_model.specs.World.{World, Event, new_world}
