@@ -63,10 +63,14 @@ abbrev pub crew_of : Option ℕ → ℕ → ℕ
 crew_of (Some workers) taps = workers
 crew_of None taps = max 1 (min taps 64)
 
--- the trace of the scenario's run on one thread, or the line of a fault of a fleet with this many workers
+-- the trace of the scenario's run on one thread, or its last lines
+abbrev pub IsTrace : ScenarioView → Option ℕ → Shown → Type 0
+IsTrace s last shown = (entries : List Entry) × (trace_of s.scenario ≡ Some (Ok entries)) × (shown ≡ trace_shown last s.names entries)
+
+-- that, or the line of a fault of a fleet with this many workers
 abbrev pub IsRun : ScenarioView → ℕ → Option ℕ → Shown → Type 0
 IsRun s workers last shown =
-    ((entries : List Entry) × (trace_of s.scenario ≡ Some (Ok entries)) × (shown ≡ trace_shown last s.names entries))
+    IsTrace s last shown
     ⊎ ((f : FleetFault) × RefusesFleet workers (new_world s.scenario.params s.scenario.taps) f × IsToldFleet f × (shown ≡ refusal (fleet_line f)))
 
 abbrev pub IsRunOrFault : Result ScenarioView (Option Fault) → Option ℕ → Option ℕ → Shown → Type 0

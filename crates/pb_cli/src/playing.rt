@@ -3,7 +3,7 @@
 ghost use Rattle.std.specs.Prelude.{◌≡◌, length, IfOk, IfSome};
 ghost use Rattle.pb_fleet.specs.Faults.{IsCrew};
 ghost use Rattle.pb_texts.specs.Scenarios.{ScenarioView};
-ghost use Rattle.pb_cli.specs.Fleets.{IsRun, IsRunOf, crew_of};
+ghost use Rattle.pb_cli.specs.Fleets.{IsRun, IsRunOf, IsTrace, crew_of};
 ghost use Rattle.pb_texts.specs.Shown.{shown_of};
 ghost use Rattle.pb_cli.specs.Playing.{IsUpTo, line_limit, worker_limit};
 ghost use Rattle.pb_cli.specs.Answers.{Answers};
@@ -123,7 +123,7 @@ fn played_alone(
     scenario: &Scenario,
     last: Option<usize>,
 ) -> Result<Option<Shown>, AllocError>
-    ensures { IfOk result (λ played. IfSome played (λ shown. IsRun scenario.now 1 last (shown_of shown))) }
+    ensures { IfOk result (λ played. IfSome played (λ shown. IsTrace scenario.now last (shown_of shown))) }
 {
     match trace_of(alloc, scenario) {
         Ok(run) if run.events <= MOST_EVENTS => {
