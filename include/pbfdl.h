@@ -524,8 +524,9 @@ uint32_t fdl_bus_next_change(struct fdl_bus *bus, uint64_t *at);
 /* Whether the ring is settled goes to *settled: all running masters that are not offline agree on who belongs to it and have had
  * the token, one of them has it, no station of the ring was skipped, listens, claims or passes again, no tap has just started, no
  * station has a reply to send, and nothing is on its way: so only between telegrams, as just after a token has arrived. If the
- * events so far and those to come break no premise (fdl_bus_audit), and no damage, noise, start or stop comes, each master of the ring then gets the token within the rotation bound of 'ringplay bounds', again and again,
- * whatever fdl_bus_set_reply changes meanwhile.
+ * events so far and those to come break no premise (fdl_bus_audit), and no damage, noise, start or stop comes, each master of the
+ * ring then gets the token within the rotation bound of 'ringplay bounds', again and again, whatever fdl_bus_set_reply changes
+ * meanwhile.
  * Code: FDL_NO_BUS, with *settled unchanged. */
 uint32_t fdl_bus_is_settled(struct fdl_bus *bus, bool *settled);
 

@@ -31,10 +31,10 @@ pub const MOST_LINES: usize = 10_000;
 const MANY: usize = 4096;
 
 /// Reads a scenario file until the reader ends, plays the scenario with some workers, the first of them in the caller's
-/// thread, and writes its trace or the last lines of it. One worker plays without a segment, which takes a fraction of
-/// the time. If the file or the run is refused, it writes the line of the fault instead. The trace is that of the run on one thread, whatever the number of workers. The whole text is made
-/// before the first write. After a long run with several workers, a separate thread frees the run's memory and may
-/// outlive this call.
+/// thread, and writes its trace or the last lines of it. If the file or the run is refused, it writes the line of the
+/// fault instead. The trace is that of the run on one thread, whatever the number of workers; one worker plays without
+/// a segment, which takes a fraction of the time. The whole text is made before the first write. After a long run with
+/// several workers, a separate thread frees the run's memory and may outlive this call.
 ///
 /// `workers` is 1 to 64; without it there are as many workers as taps, at least 1 and at most 64. `last` is 1 to
 /// 10,000. On `Ok` the writer holds that text, and the status is `Refused` exactly if the text is the line of a fault.

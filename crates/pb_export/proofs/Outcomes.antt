@@ -3,7 +3,7 @@ use Rattle.std.proofs.Common.{◌≡◌, ◌≢◌, ℕ, List, Option, Some, Non
 use Rattle.std.specs.Prelude.{IfSome}
 use Rattle.law_model.specs.World as model
 use Rattle.law_model.specs.World.{World, Event, new_world}
-use Rattle.law_runs.specs.Scenarios.{Scenario, RunFault, At, run_of, run_from, with_end, events_of}
+use Rattle.law_runs.specs.Scenarios.{RunFault, At, run_of, run_from, with_end, events_of}
 use Rattle.pb_taps.specs.Faults.{RefusesNew, world_fault}
 use Rattle.pb_taps.specs.declared.faults.NewFault as taps
 use Rattle.pb_taps.specs.declared.faults.NewFault.TheVariants as new

@@ -1,13 +1,11 @@
 //! The trace of a scenario's run on one thread.
 
-ghost use Rattle.std.specs.Prelude.{◌≡◌, List, [], Some, Ok, IfOk, IfErr, length, map};
+ghost use Rattle.std.specs.Prelude.{◌≡◌, List, Some, Ok, IfOk, IfErr, length, map};
 ghost use Rattle.law_model.specs.World as model;
 ghost use Rattle.law_runs.specs.Judging.{StandsFrom};
 ghost use Rattle.law_runs.specs.Scenarios as runs;
 ghost use Rattle.pb_medium.specs.Entries.{entry_of};
-ghost use Rattle.pb_scenario.specs.Counting.{HasCounted};
 ghost use Rattle.pb_scenario.specs.Faults.{EndsBy};
-ghost use Rattle.pb_world.specs.Buses.{IsKept, world_of};
 
 use crate::faults::RunFault;
 use crate::plays::play;

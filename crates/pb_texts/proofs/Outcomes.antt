@@ -1,9 +1,8 @@
 -- What is written for the audit of a scenario, by what an audit of its events found, and by the fault of its run.
-use Rattle.std.proofs.Common.{◌≡◌, ◌≢◌, ◌∙◌, ℕ, List, [], ◌∷◌, Option, Some, None, Result, Ok, Err, refl, ap, sym, subst}
+use Rattle.std.proofs.Common.{◌≡◌, ◌≢◌, ◌∙◌, ℕ, List, Option, Some, None, Result, Ok, Err, refl, ap, sym, subst}
 use Rattle.std.specs.Prelude.{IfSome}
 use Rattle.law_model.specs.World as model
-use Rattle.law_model.specs.World.{World, Event, Reply, new_world}
-use Rattle.law_model.specs.Step.{RunsTo, step}
+use Rattle.law_model.specs.World.{World, Event, new_world}
 use Rattle.law_runs.specs.Premises.{Broken, first_broken}
 use Rattle.law_runs.specs.Histories.{Leads}
 use Rattle.law_runs.specs.Bus.{bus}

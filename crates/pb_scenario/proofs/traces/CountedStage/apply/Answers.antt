@@ -1,9 +1,8 @@
 -- One more event has led to the world, and one more is counted.
-use Rattle.std.proofs.Common.{◌≡◌, ◌∙◌, ◌+◌, ◌++◌, ℕ, List, [], ◌∷◌, length, ap, sym, length-append}
-use Rattle.law_model.specs.World.{World, Event, Reply}
+use Rattle.std.proofs.Common.{◌∙◌, ◌+◌, ℕ, [], ◌∷◌, ap, sym, length-append}
+use Rattle.law_model.specs.World.{Reply}
 use Rattle.pb_taps.specs.Events.{event_of}
 use Rattle.pb_world.specs.Buses.{world_of}
-use Rattle.pb_scenario.specs.Counting.{HasCounted}
 use Rattle.pb_scenario.proofs.RunEnds.{runs-on}
 use Rattle.pb_scenario.proofs.traces.CountedStage.apply.Goals as goal
 
