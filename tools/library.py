@@ -1,5 +1,6 @@
 """The library for C that tests link: how it is built, and laid out as a release has it."""
 
+import json
 import shutil
 import subprocess
 import sys
@@ -27,12 +28,24 @@ def build():
 def build_over(tree):
     """Builds the library over the crates that rt ci has proved and left in this tree: rt ci proves the border too, and keeps no archive of
     it, and 'rt lib' would prove all crates below once more. Gives what the compiler said where that failed."""
-    words = ["nice", "-n", "19", *tree.check("pbfdl")]
-    words[words.index("check")] = "build"
-    words += ["--crate-type", "staticlib", "--toolchain", repository.KIT / "toolchain", "--backend", "llvm", "-o", LIBRARY]
     LIBRARY.parent.mkdir(exist_ok=True)
+    words = proved_words() or [*tree.check("pbfdl")[2:], "--crate-type", "staticlib"]
+    words = ["nice", "-n", "19", repository.KIT / "bin/rattle", "build", *words]
+    words += ["--toolchain", repository.KIT / "toolchain", "--backend", "llvm", "-o", LIBRARY]
     built = subprocess.run(words, cwd=tree.folder("pbfdl"), stdout=subprocess.PIPE, stderr=subprocess.STDOUT, text=True, errors="replace")
     return built.stdout if built.returncode or not LIBRARY.exists() else ""
+
+
+def proved_words():
+    """The words of a build that takes what the border's check has left (rt_ci.py), if it left that."""
+    kept, checked = LIBRARY.parent / "checked.words", LIBRARY.parent / "checked"
+    if not kept.exists() or not checked.exists():
+        return []
+    words = json.loads(kept.read_text())
+    for flag in ("--logic-built", "--jobs"):
+        at = words.index(flag)
+        del words[at : at + 2]
+    return [*words, "--crate-checked", checked]
 
 
 def is_stale():

@@ -3,16 +3,18 @@
 
     tools/rt_ci.py
 
-What is checked, by which words, and what is said of it is rt's own: its file is loaded as a module. With kit 13b two things in it are
+What is checked, by which words, and what is said of it is rt's own: its file is loaded as a module. With kit 13b three things in it are
 set, since it is not done in three hours for this tree without them: what it asks again and again of the graph of crates it computes once
-(it follows each path of crates.txt, 67,000 from ringplay), and the crate with the longest chain of others behind it gets every
-processor that it can use, while others run on what it leaves. With another kit it is 'rt ci' as it is.
+(it follows each path of crates.txt, 67,000 from ringplay); the crate with the longest chain of others behind it gets every
+processor that it can use, while others run on what it leaves; and the check of a static library keeps what it has proved, as that of a
+program does, so that its archive is built without a second proof. With another kit it is 'rt ci' as it is.
 """
 
 import concurrent.futures
 import functools
 import importlib.machinery
 import importlib.util
+import json
 import os
 import pathlib
 import re
@@ -39,6 +41,7 @@ def main():
     rt = loaded()
     compute_once(rt.rtlib.Crate, "stamp")
     compute_once(rt.rtlib.Crate, "below")
+    keep_checked(rt.Crate)
     rt.in_lanes = in_order
     return rt.main(["ci"])
 
@@ -63,6 +66,21 @@ def compute_once(crates, name):
         return kept[crate.folder]
 
     setattr(crates, name, once)
+
+
+def keep_checked(crates):
+    """Has the check of a static library leave in its out/ what it has proved, and its own words (library.py builds the archive by them)."""
+    whole = crates.ci
+
+    @functools.wraps(whole)
+    def ci(crate, flags, tests):
+        if tests or not crate.is_static:
+            return whole(crate, flags, tests)
+        words, out = crate.words(flags, keeps=False), pathlib.Path(crate.folder) / "out"
+        (out / "checked.words").write_text(json.dumps(words))
+        return crate.prove(["check", *words, "-o", str(out / "checked")])
+
+    crates.ci = ci
 
 
 def in_order(tasks):

@@ -19,8 +19,3 @@ pub use gates::Gate;
 pub use pb_segment::{CloseFault, CommitFault};
 pub use seats::TicketSeat;
 pub use tickets::Tickets;
-
-#[cfg(test)]
-mod tests;
-#[cfg(test)]
-mod ticket_tests;

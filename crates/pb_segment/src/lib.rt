@@ -29,6 +29,3 @@ pub use receipts::Receipt;
 pub use reports::Report;
 pub use seats::{ConductorSeat, TapSeat};
 pub use segments::{CloseRefused, SharedSegment};
-
-#[cfg(test)]
-mod tests;

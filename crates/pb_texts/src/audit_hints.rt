@@ -98,51 +98,50 @@ fn unlawful(
     place: usize,
     illegal: &Illegal,
 ) -> Result<String, AllocError> {
-    let Illegal { tap, begin, rule } = *illegal;
-    let (one, tsl) = (name_of(scenario, tap), scenario.params().tsl());
-    let name = |tap| name_of(scenario, tap);
-    let why = match rule {
-        Rule::NoClaim => {
-            let timeout = timeout(scenario, tap);
-            format!(in document.alloc;
-                "it is the first, and no claim after {timeout} bit times of silence"
-            )?
-        }
-        Rule::NotEnded { last, end } => {
-            let two = name(last);
-            format!(in document.alloc; "what '{two}' sends ends at {end}")?
-        }
-        Rule::NotHolder { last } => {
-            let two = name(last);
-            format!(in document.alloc; "'{two}' holds the token")?
-        }
-        Rule::NotOffered { last, to } => {
-            let two = name(last);
-            format!(in document.alloc; "'{two}' passed the token to the address {to}")?
-        }
-        Rule::NotWhole { last } => {
-            let two = name(last);
-            format!(in document.alloc; "the token of '{two}' did not come to it whole")?
-        }
-        Rule::TookLate { last, end } => {
-            let two = name(last);
-            format!(in document.alloc;
-                "it takes the token of '{two}' after the slot, {tsl}, which was over at {end}"
-            )?
-        }
-        Rule::PassedEarly { end } => {
-            format!(in document.alloc;
-                "it passes the token again before the slot, {tsl}, is over at {end}"
-            )?
-        }
-        Rule::NotSilent { end } => {
-            format!(in document.alloc;
-                "it passes the token again, though it heard something in the slot up to {end}"
-            )?
-        }
-    };
-    let line = place.saturating_add(1);
+    let (begin, line) = (illegal.begin, place.saturating_add(1));
+    let one = name_of(scenario, illegal.tap);
+    let why = reason(document.alloc, scenario, illegal)?;
     document.whole(format_args!(
         "at {begin}, in line {line} of the trace, '{one}' sends out of turn: {why}"
     ))
+}
+
+/// Why a record is illegal.
+fn reason(alloc: Global, scenario: &Scenario, illegal: &Illegal) -> Result<String, AllocError> {
+    let tsl = scenario.params().tsl();
+    let name = |tap| name_of(scenario, tap);
+    match illegal.rule {
+        Rule::NoClaim => {
+            let timeout = timeout(scenario, illegal.tap);
+            format!(in alloc; "it is the first, and no claim after {timeout} bit times of silence")
+        }
+        Rule::NotEnded { last, end } => {
+            let two = name(last);
+            format!(in alloc; "what '{two}' sends ends at {end}")
+        }
+        Rule::NotHolder { last } => {
+            let two = name(last);
+            format!(in alloc; "'{two}' holds the token")
+        }
+        Rule::NotOffered { last, to } => {
+            let two = name(last);
+            format!(in alloc; "'{two}' passed the token to the address {to}")
+        }
+        Rule::NotWhole { last } => {
+            let two = name(last);
+            format!(in alloc; "the token of '{two}' did not come to it whole")
+        }
+        Rule::TookLate { last, end } => {
+            let two = name(last);
+            format!(in alloc;
+                "it takes the token of '{two}' after the slot, {tsl}, which was over at {end}"
+            )
+        }
+        Rule::PassedEarly { end } => format!(in alloc;
+            "it passes the token again before the slot, {tsl}, is over at {end}"
+        ),
+        Rule::NotSilent { end } => format!(in alloc;
+            "it passes the token again, though it heard something in the slot up to {end}"
+        ),
+    }
 }

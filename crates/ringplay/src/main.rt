@@ -90,6 +90,7 @@ fn answer<T: AllocGlobal + Clock + Eprint + Files + Input + Print + Threads + Wa
     requires { IsWithinLimits asked.ask }
 {
     let Asked { ask, is_quiet } = asked;
+    let shown_if = |is_asked| terminals.shown(is_asked, is_quiet);
     match ask {
         Ask::Decode => decode(rt),
         Ask::Run {
@@ -104,24 +105,18 @@ fn answer<T: AllocGlobal + Clock + Eprint + Files + Input + Print + Threads + Wa
             options,
             export,
         } => watch(rt, file, options, export, is_quiet),
-        Ask::Capture { file, tap } => {
-            let shown = terminals.shown(false, is_quiet);
-            capture(rt, file.as_str(), tap, shown, is_quiet)
-        }
+        Ask::Capture { file, tap } => capture(rt, file.as_str(), tap, shown_if(false), is_quiet),
         Ask::Export {
             file,
             export: asked,
-        } => {
-            let shown = terminals.shown(false, is_quiet);
-            export(rt, file.as_str(), &asked, shown, is_quiet)
-        }
+        } => export(rt, file.as_str(), &asked, shown_if(false), is_quiet),
         Ask::Stream {
             file,
             until,
             progress,
             audit,
         } => {
-            let shown = terminals.shown(progress, is_quiet);
+            let shown = shown_if(progress);
             if audit {
                 stream_audit(rt, file.as_str(), until, shown, is_quiet)
             } else {

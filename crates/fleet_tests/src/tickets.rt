@@ -3,7 +3,7 @@
 ghost use Rattle.std.specs.Prelude.{◌≡◌, ◌+◌, ◌≤◌};
 ghost use Rattle.pb_fleet.specs.Seats.{IsOf, parts_of};
 
-use crate::{TicketSeat, Tickets};
+use pb_fleet::{TicketSeat, Tickets};
 use std::process::Abort;
 use std::sync::Wait;
 use std::thread;

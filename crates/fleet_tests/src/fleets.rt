@@ -1,6 +1,6 @@
 //! Tests of fleets: what no contract states about workers in threads, and about the faults that end them.
 
-use crate::{FleetFault, Gate, run_fleet};
+use pb_fleet::{FleetFault, Gate, run_fleet};
 use pb_scenario::{Scenario, read};
 use pb_segment::{CommitFault, Entry, NewFault, WorldFault};
 use std::alloc::{AllocError, Global};

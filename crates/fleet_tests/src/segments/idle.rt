@@ -5,7 +5,7 @@ ghost use Rattle.std.specs.Prelude.{◌≡◌, ◌+◌, length};
 ghost use Rattle.pb_segment.specs.Origins.{IsNew};
 
 use super::{equal, takes_turns, two_masters};
-use crate::SharedSegment;
+use pb_segment::SharedSegment;
 use pb_world::{Event, World};
 use std::marker::Brand;
 use std::process::Abort;

@@ -7,10 +7,10 @@ mod memory;
 ghost use Rattle.std.specs.Prelude.{◌≡◌, ◌+◌, ◌<◌, ◌≤◌, true, length};
 ghost use Rattle.pb_segment.specs.Origins.{IsNew};
 
-use crate::{
+use arrayvec::ArrayVec;
+use pb_segment::{
     CloseFault, Closed, CommitFault, ConductorSeat, Draft, History, Outlook, SharedSegment, TapSeat,
 };
-use arrayvec::ArrayVec;
 use pb_station::{SendBuffer, decide, decide_in};
 use pb_timers::BusParams;
 use pb_world::{Event, Kind, TapSpec, World, WorldFault};

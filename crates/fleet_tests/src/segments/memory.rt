@@ -5,10 +5,10 @@ ghost use Rattle.std.specs.Prelude.{◌≡◌, ◌+◌, length};
 ghost use Rattle.pb_segment.specs.Origins.{IsNew};
 
 use super::{equal, master, two_masters, usual};
-use crate::locked::Locked;
-use crate::receipts::KeptReceipt;
-use crate::{CommitFault, ConductorSeat, GlanceFault, Outlook, Receipt, SharedSegment, TapSeat};
-use pb_station::{SendBuffer, decide};
+use pb_segment::{
+    CommitFault, ConductorSeat, GlanceFault, Outlook, Report, SharedSegment, TapSeat,
+};
+use pb_station::{Glance, SendBuffer, decide};
 use pb_world::{Entry, Event, Reply, World, WorldFault};
 use std::marker::Brand;
 use std::process::Abort;
@@ -48,16 +48,19 @@ fn refused(rt: &impl Print) {
     let _ = println!(rt; "refused");
 }
 
-/// Applies the event with this index; `None` if memory was refused.
+/// The event with this index happens; `None` if memory was refused.
 fn tried<L: Ledger, R: AllocGlobal + Abort + Wait>(
     rt: &R,
     used: &mut Used<L>,
     place: usize,
-) -> Option<Receipt> {
+) -> Option<()> {
     let alloc = rt.alloc();
-    let answer = if place == TURN && used.at_once {
-        turned(rt, used)
-    } else if place == TURN {
+    if place == TURN && used.at_once {
+        let mut out = SendBuffer::new();
+        let answer = used.segment.turn(rt, alloc, &mut used.first, &mut out);
+        return accepted(rt, answer);
+    }
+    let answer = if place == TURN {
         let glance = used.segment.glance(rt, alloc, &used.first).ok()?;
         let decision = decide(alloc, glance).ok()?;
         used.segment.commit(rt, alloc, &mut used.first, decision)
@@ -65,8 +68,15 @@ fn tried<L: Ledger, R: AllocGlobal + Abort + Wait>(
         used.segment
             .drive(rt, alloc, &mut used.conductor, event(place))
     };
+    let receipt = accepted(rt, answer)?;
+    equal(rt, &receipt.place, &place);
+    Some(())
+}
+
+/// What a call returned; `None` if memory was refused.
+fn accepted<T>(rt: &impl Abort, answer: Result<T, CommitFault>) -> Option<T> {
     match answer {
-        Ok(receipt) => Some(receipt),
+        Ok(told) => Some(told),
         Err(fault) => {
             equal(rt, &fault, &CommitFault::World(WorldFault::NoMemory));
             None
@@ -74,33 +84,17 @@ fn tried<L: Ledger, R: AllocGlobal + Abort + Wait>(
     }
 }
 
-/// The first tap takes its turn at once.
-fn turned<L: Ledger, R: AllocGlobal + Abort + Wait>(
-    rt: &R,
-    used: &mut Used<L>,
-) -> Result<Receipt, CommitFault> {
-    let mut out = SendBuffer::new();
-    used.segment
-        .turn(rt, rt.alloc(), &mut used.first, &mut out)?;
-    let receipt = used.first.receipts.last().expect(rt, "a receipt");
-    Ok(receipt.told())
-}
-
-/// Applies the event with this index, if it is refused then the next time.
+/// The event with this index happens, if it is refused then the next time.
 fn happens<L: Ledger, R: AllocGlobal + Abort + Print + Wait>(
     rt: &R,
     used: &mut Used<L>,
     place: usize,
 ) {
-    let receipt = match tried(rt, used, place) {
-        Some(receipt) => receipt,
-        None => {
-            refused(rt);
-            is_as_after(rt, used, place);
-            tried(rt, used, place).expect(rt, "an event")
-        }
-    };
-    equal(rt, &receipt.place, &place);
+    if tried(rt, used, place).is_none() {
+        refused(rt);
+        is_as_after(rt, used, place);
+        tried(rt, used, place).expect(rt, "an event");
+    }
 }
 
 /// The outlook after all events.
@@ -118,89 +112,37 @@ fn shown<L: Ledger, R: AllocGlobal + Abort + Print + Wait>(rt: &R, used: &mut Us
     }
 }
 
-/// The segment and its seats are as after `count` events, which are also applied to another world.
+/// What both taps show is as after `count` events, which are also applied to a world.
 fn is_as_after<L: Ledger, R: AllocGlobal + Abort + Wait>(rt: &R, used: &Used<L>, count: usize) {
+    let (world, _) = played(rt, count);
+    for seat in [&used.first, &used.last] {
+        let shown = used
+            .segment
+            .glance(rt, rt.alloc(), seat)
+            .expect(rt, "a glance");
+        assert!(rt; is_shown(rt, &world, &shown, seat.tap()));
+    }
+}
+
+/// A world after the first `count` events, and their replies.
+fn played(rt: &(impl AllocGlobal + Abort), count: usize) -> (World, Vec<Reply>) {
     let mut world = two_masters(rt);
     let mut replies = Vec::new(rt.alloc());
     for place in 0..count {
         let reply = world.apply(rt.alloc(), event(place)).expect(rt, "an event");
         replies.push(reply).expect(rt, "memory");
     }
-    let locked = used.segment.state.lock(rt);
-    assert!(rt; is_same_world(rt, &locked.world, &world));
-    has_happened(rt, &locked, &replies);
-    let (turns, drives) = if count > TURN {
-        (1, count - 1)
-    } else {
-        (0, count)
-    };
-    equal(rt, &locked.turns.as_slice(), &[turns, 0].as_slice());
-    equal(rt, &(locked.drives, locked.outlooks.len()), &(drives, 0));
-    let conductor = &used.conductor;
-    equal(rt, &conductor.outlooks.len(), &0);
-    are_told(rt, &conductor.receipts, drives, &replies);
-    are_told(rt, &used.first.receipts, turns, &replies);
-    are_told(rt, &used.last.receipts, 0, &replies);
+    (world, replies)
 }
 
-/// Whether two worlds of two taps have equal clocks, traces, stations and unread marks.
-fn is_same_world(rt: &(impl AllocGlobal + Abort), one: &World, other: &World) -> bool {
-    let traces = one.trace().len() == other.trace().len()
-        && one
-            .trace()
-            .iter()
-            .zip(other.trace())
-            .all(|(one, other)| is_same_entry(one, other));
-    traces && one.now() == other.now() && (0..2).all(|tap| is_same_tap(rt, one, other, tap))
-}
-
-fn is_same_entry(one: &Entry, other: &Entry) -> bool {
-    match (one, other) {
-        (Entry::Sent(one), Entry::Sent(other)) => {
-            (one.tap, one.begin, one.end) == (other.tap, other.begin, other.end)
-                && one.octets == other.octets
-                && (0..2).all(|tap| one.heard.get(tap) == other.heard.get(tap))
-        }
-        (
-            Entry::Noise { begin, end },
-            Entry::Noise {
-                begin: other_begin,
-                end: other_end,
-            },
-        ) => begin == other_begin && end == other_end,
-        _ => false,
-    }
-}
-
-/// Whether a tap has equal stations and unread marks in two worlds.
-fn is_same_tap(rt: &(impl AllocGlobal + Abort), one: &World, other: &World, tap: usize) -> bool {
-    if tap >= one.taps() || tap >= other.taps() {
+/// Whether a glance shows the clock, the station and the unread marks of a tap in a world.
+fn is_shown(rt: &(impl AllocGlobal + Abort), world: &World, shown: &Glance, tap: usize) -> bool {
+    if tap >= world.taps() {
         return false;
     }
-    let one = one.glance_of(rt.alloc(), tap).expect(rt, "a glance");
-    let other = other.glance_of(rt.alloc(), tap).expect(rt, "a glance");
-    one.station.is_same(&other.station) && one.marks == other.marks && one.now == other.now
-}
-
-/// The history has exactly the first events, with these replies.
-fn has_happened<L: Ledger>(rt: &impl Abort, locked: &Locked<L>, replies: &[Reply]) {
-    equal(rt, &locked.history.len(), &replies.len());
-    for (place, reply) in replies.iter().enumerate() {
-        let happened = locked.history.get(place).expect(rt, "an event");
-        assert!(rt;
-            *happened.event == event(place) && *happened.reply == *reply,
-            "{place}"
-        );
-    }
-}
-
-/// There are `count` receipts, each of an event with its reply.
-fn are_told(rt: &impl Abort, receipts: &[KeptReceipt], count: usize, replies: &[Reply]) {
-    equal(rt, &receipts.len(), &count);
-    for receipt in receipts {
-        let reply = replies.get(receipt.place).expect(rt, "a reply");
-        assert!(rt; receipt.reply.is_same(reply));
-    }
+    let glance = world.glance_of(rt.alloc(), tap).expect(rt, "a glance");
+    let is_same = shown.station.is_same(&glance.station);
+    is_same && shown.marks == glance.marks && shown.now == glance.now
 }
 
 /// All events happen, and the segment is closed.
@@ -236,8 +178,12 @@ fn refused_once<L: Ledger, R: AllocGlobal + Abort + Print + Wait>(
     is_closed(rt, used, seats);
 }
 
-/// The segment is closed with its seats, which are put into an empty list.
-fn is_closed<L: Ledger>(rt: &(impl Abort + Print), used: Used<L>, mut seats: Vec<TapSeat<L>>) {
+/// The segment is closed with its seats, which are put into an empty list. Its report has each event once.
+fn is_closed<L: Ledger>(
+    rt: &(impl AllocGlobal + Abort + Print),
+    used: Used<L>,
+    mut seats: Vec<TapSeat<L>>,
+) {
     let Used {
         segment,
         conductor,
@@ -251,9 +197,48 @@ fn is_closed<L: Ledger>(rt: &(impl Abort + Print), used: Used<L>, mut seats: Vec
     let Ok(report) = segment.close(conductor, seats) else {
         panic!(rt; "not closed");
     };
-    equal(rt, &report.history().len(), &EVENTS);
     equal(rt, &report.turns(), &[1, 0].as_slice());
-    equal(rt, &report.trace().len(), &2);
+    equal(rt, &report.outlooks().len(), &1);
+    let (world, replies) = played(rt, EVENTS);
+    has_happened(rt, &report, &replies);
+    has_sent(rt, report.trace(), world.trace());
+}
+
+/// The history has the events, with these replies.
+fn has_happened(rt: &impl Abort, report: &Report, replies: &[Reply]) {
+    equal(rt, &report.history().len(), &replies.len());
+    for (place, reply) in replies.iter().enumerate() {
+        let (happened, answer) = report.history().at(place).expect(rt, "an event");
+        assert!(rt; *happened == event(place) && *answer == *reply, "{place}");
+    }
+}
+
+/// Two traces are the same.
+fn has_sent(rt: &impl Abort, trace: &[Entry], expected: &[Entry]) {
+    equal(rt, &trace.len(), &expected.len());
+    let is_same = trace
+        .iter()
+        .zip(expected)
+        .all(|(one, other)| is_same_entry(one, other));
+    assert!(rt; is_same);
+}
+
+fn is_same_entry(one: &Entry, other: &Entry) -> bool {
+    match (one, other) {
+        (Entry::Sent(one), Entry::Sent(other)) => {
+            (one.tap, one.begin, one.end) == (other.tap, other.begin, other.end)
+                && one.octets == other.octets
+                && (0..2).all(|tap| one.heard.get(tap) == other.heard.get(tap))
+        }
+        (
+            Entry::Noise { begin, end },
+            Entry::Noise {
+                begin: other_begin,
+                end: other_end,
+            },
+        ) => begin == other_begin && end == other_end,
+        _ => false,
+    }
 }
 
 #[test]
