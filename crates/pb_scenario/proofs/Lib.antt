@@ -16,3 +16,4 @@ pub mod Happenings
 pub mod Moves
 pub mod SameFiles
 pub mod Repeating
+pub mod OctetPairs

@@ -8,6 +8,7 @@ mod agendas;
 mod coming;
 mod courses;
 mod deeds;
+mod digits;
 mod faults;
 mod fields;
 mod files;
