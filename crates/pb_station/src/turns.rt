@@ -20,7 +20,7 @@ use crate::reading::{after_marks, after_notes};
 use pb_timers::{BusParams, Moment};
 use pb_tokenfsm::Phase;
 use pb_transitions::{
-    Core, Kept, SendBuffer, Waiting, after_timer, earlier, is_past, speak, speaks_at, timer,
+    Core, Kept, SendBuffer, Waiting, acts_at, after_timer, earlier, is_past, speak, speaks_at,
     would_say,
 };
 
@@ -185,16 +185,15 @@ fn is_act_overdue(core: &Core, params: &BusParams, lag: u32, now: Moment, bits: 
     ensures { let s = station_of core.now in result
         ≡ is_past lag (now + bits) (earlier (timer_of params.now s) (speaks_at s)) }
 {
-    is_past(timer(&core.phase, &core.kept, params), lag, now, bits)
-        || is_past(speaks_at(&core.phase, &core.kept), lag, now, bits)
+    is_past(acts(core, params), lag, now, bits)
 }
 
 /// When a station without unread marks acts: at its timer or its speaking moment.
+#[inline(always)]
 fn acts(core: &Core, params: &BusParams) -> Option<Moment>
     ensures { result ≡ earlier (timer_of params.now (station_of core.now)) (speaks_at (station_of core.now)) }
 {
-    let timer = timer(&core.phase, &core.kept, params);
-    earlier(timer, speaks_at(&core.phase, &core.kept))
+    acts_at(&core.phase, &core.kept, params)
 }
 
 /// Lets the station read its unread marks, and its timers between them and up to the clock. It is then ready to speak.

@@ -32,5 +32,5 @@ pub use past::Past;
 pub use replies::{Reply, answer, is_request, status_answer};
 pub use sending::SendBuffer;
 pub use speeches::{speak, speaks_at, would_say};
-pub use timers::{after_timer, timer};
+pub use timers::{acts_at, after_timer, timer};
 pub use waiting::Waiting;

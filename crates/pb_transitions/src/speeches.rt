@@ -121,7 +121,7 @@ fn has_words(phase: &Phase, kept: &Kept) -> bool
 }
 
 /// When the reply is sent, if there is one.
-fn reply_moment(reply: &Option<Reply>) -> Option<Moment>
+pub(crate) fn reply_moment(reply: &Option<Reply>) -> Option<Moment>
     ensures { result ≡ reply_moment (option_map reply_of reply.now) }
 {
     match reply {

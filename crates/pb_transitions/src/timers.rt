@@ -1,20 +1,24 @@
 //! The timer of a station, and what the station does when it ends.
 
-ghost use Rattle.std.specs.Prelude.{◌≡◌, ◌+◌, ◌≤◌, false, None};
+ghost use Rattle.std.specs.Prelude.{◌≡◌, ◌+◌, ◌≤◌, false, Some, None, if◌then◌else◌};
+ghost use Rattle.std.specs.Option.{option_map};
 ghost use Rattle.pb_timers.specs.Timers.{tto};
 ghost use Rattle.pb_cycles.specs.Queued.{Queued};
 ghost use Rattle.pb_ring.specs.Las.{claimed};
 ghost use Rattle.pb_ring.specs.declared.gaps.Round.TheVariants.{Open};
 ghost use Rattle.pb_rotation.specs.Rotation.{fresh};
-ghost use Rattle.law_turn.specs.Stations.{timer_of};
+ghost use Rattle.law_turn.specs.Stations.{earlier, reply_moment, speaks_at, timer_of};
 ghost use Rattle.law_turn.specs.Phases as turn;
 ghost use Rattle.law_turn.specs.Hearing.{not_taken, cycle_closed, not_answered, phase_timed_out, after_timer};
 ghost use Rattle.pb_tokenfsm.specs.Phases.{phase_of, was_asked, tries_of};
 ghost use Rattle.pb_transitions.specs.Cores.{station_with, Becomes};
+ghost use Rattle.pb_transitions.specs.Replies.{reply_of};
 
 use crate::cores::Kept;
 use crate::cycles::give_up;
 use crate::lists::removed;
+use crate::moments::earlier;
+use crate::speeches::{reply_moment, speaks_at};
 use pb_ring::{Gap, Las};
 use pb_rotation::Rotation;
 use pb_timers::{BusParams, Moment};
@@ -48,6 +52,39 @@ pub fn timer(phase: &Phase, kept: &Kept, params: &BusParams) -> Option<Moment>
         Phase::Checking(_) => Some(slot_timer(kept, params)),
         _ => None,
     }
+}
+
+/// When a station without unread marks acts: at its timer or its speaking moment, whichever is earlier. One match on the phase
+/// takes half the instructions of `timer` and `speaks_at`.
+#[inline(always)]
+pub fn acts_at(phase: &Phase, kept: &Kept, params: &BusParams) -> Option<Moment>
+    ensures { (queue : Queued) → let s = station_with kept.now queue (phase_of phase.now) in
+        result ≡ earlier (timer_of params.now s) (speaks_at s) }
+{
+    match phase {
+        Phase::Offline(_) => None,
+        Phase::PassiveIdle(_) => reply_moment(&kept.reply),
+        Phase::Listening(_) | Phase::Idle(_) => acts_in_silence(kept, params),
+        Phase::Claim(holder) => Some(holder.ready()),
+        Phase::Use(holder) => Some(holder.ready()),
+        Phase::Pass(holder) => Some(holder.ready()),
+        Phase::AwaitData(_) => earlier(timer(phase, kept, params), speaks_at(phase, kept)),
+        Phase::AwaitStatus(_) | Phase::Checking(_) => timer(phase, kept, params),
+    }
+}
+
+/// When a master without the token acts: at the end of its time-out, while nothing is heard, or with its reply.
+#[inline(always)]
+fn acts_in_silence(kept: &Kept, params: &BusParams) -> Option<Moment>
+    ensures { result ≡ earlier
+        (if kept.now.busy then None else Some (kept.now.past.quiet + tto params.now kept.now.address))
+        (reply_moment (option_map reply_of kept.now.reply)) }
+{
+    let reply = reply_moment(&kept.reply);
+    if !kept.busy {
+        return earlier(Some(silence_timer(kept, params)), reply);
+    }
+    reply
 }
 
 /// No reply was heard and no retry is left: closes the request, and uses the token again.
