@@ -3,13 +3,14 @@
 ghost use Rattle.std.specs.Prelude.{◌≡◌, ℕ, Bool, true, false, ◌&&◌, nat_lt, Some, None};
 ghost use Rattle.pb_telegram.specs.Grammar.{spelling};
 ghost use Rattle.pb_telegram.specs.Initiators.{IsInitiator};
+ghost use Rattle.pb_telegram.specs.declared.telegrams.Telegram.TheVariants.{Token};
 ghost use Rattle.law_turn.specs.Phases as turn;
 ghost use Rattle.pb_tokenfsm.specs.Phases.{phase_of, claims_sent, has_asked, was_asked, retry_at, has_data_slot, asked_station, has_slot, tries_of, claim_sent, token_sent, not_taken};
 
 use crate::phases::Phase;
 use crate::waiting::Idle;
 use arrayvec::ArrayVec;
-use pb_telegram::{Telegram, write, write_in};
+use pb_telegram::{TOKEN_START, Telegram, TokenTelegram, put_octets, write, write_in};
 use pb_timers::Moment;
 
 /// How many times the token is sent to a successor before it is given up.
@@ -99,6 +100,14 @@ impl<S: Copy> Holding<S> {
         ensures { octets.new.items ≡ spelling telegram.now }
     {
         write_in(telegram, octets);
+    }
+
+    /// Replaces the content of `octets` by those of a token. A [`Telegram`] would first clear room for the longest one.
+    #[inline(always)]
+    pub fn pass_in(&self, token: &TokenTelegram, octets: &mut ArrayVec<u8, 255>)
+        ensures { octets.new.items ≡ spelling (Token token.now) }
+    {
+        put_octets(octets, &[TOKEN_START, token.da, token.sa]);
     }
 
     /// Another station is heard: this station has lost the token.

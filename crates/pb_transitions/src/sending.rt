@@ -1,7 +1,7 @@
 //! What a station sends in a turn.
 
 use arrayvec::ArrayVec;
-use pb_telegram::Telegram;
+use pb_telegram::{Telegram, TokenTelegram};
 use pb_tokenfsm::Holding;
 use std::marker::Model;
 
@@ -24,6 +24,7 @@ impl SendBuffer {
     ghost use Rattle.std.specs.Prelude.{◌≡◌, ◌≤◌, Some, None, MatchOption, length};
     ghost use Rattle.pb_telegram.specs.Grammar.{spelling};
     ghost use Rattle.pb_telegram.specs.Initiators.{IsInitiator};
+    ghost use Rattle.pb_telegram.specs.declared.telegrams.Telegram.TheVariants.{Token};
 
     /// A buffer with nothing to send.
     pub fn new() -> SendBuffer
@@ -63,6 +64,18 @@ impl SendBuffer {
         holder.initiate_in(telegram, &mut self.octets);
         self.sent = true;
         self.octets.len()
+    }
+
+    /// Sends a token of a holder, and returns its length, 3 octets. [`initiate`](SendBuffer::initiate) would first clear
+    /// room for the longest telegram.
+    #[inline(always)]
+    pub fn pass<S: Copy>(&mut self, holder: &Holding<S>, token: &TokenTelegram) -> usize
+        ensures sent { self.new ≡ Some (spelling (Token token.now)) }
+        ensures count { result ≡ length (spelling (Token token.now)) }
+    {
+        holder.pass_in(token, &mut self.octets);
+        self.sent = true;
+        3
     }
 
     /// The octets that are sent, as a reference to the buffer; `None` if nothing is sent.

@@ -5,6 +5,7 @@ ghost use Rattle.std.specs.Option.{option_map};
 ghost use Rattle.pb_timers.specs.Timers.{Params, bits};
 ghost use Rattle.pb_telegram.specs.Grammar.{spelling};
 ghost use Rattle.pb_telegram.specs.Initiators.{IsInitiator};
+ghost use Rattle.pb_telegram.specs.declared.telegrams.Telegram.TheVariants.{Token};
 ghost use Rattle.pb_cycles.specs.Queued.{Queued};
 ghost use Rattle.pb_ring.specs.Las.{readied};
 ghost use Rattle.pb_ring.specs.Gap.{is_due, last_asked, next_asked, round_after};
@@ -175,7 +176,7 @@ fn says_claim(
         kept.old (phase_of (Phase.Claim holder)) kept.new (phase_of result) out.new }
 {
     let ts = kept.address.get();
-    let count = out.initiate(&holder, &token(ts, ts));
+    let count = out.pass(&holder, &token(ts, ts));
     kept.past = kept.past.said(now, count);
     let end = kept.past.end.get();
     let phase = holder.on_sent(end.after(u64::from(params.tid1())));
@@ -249,7 +250,7 @@ fn says_token(
 {
     let ts = kept.address.get();
     let ns = kept.las.ns(ts);
-    let count = out.initiate(&holder, &token(ns, ts));
+    let count = out.pass(&holder, &token(ns, ts));
     kept.past = kept.past.said(now, count);
     let end = kept.past.end.get();
     kept.rotation = received_if(kept.rotation, ns == ts, end);
@@ -277,13 +278,12 @@ fn ready_if(listening: Listening, kept: &mut Kept, joins: bool) -> Phase
     Phase::Idle(listening.on_ready())
 }
 
-fn token(da: u8, sa: u8) -> Telegram
+fn token(da: u8, sa: u8) -> TokenTelegram
     requires destination { da < 127 }
     requires source { sa < 127 }
-    ensures octets { spelling result ≡ token_octets da sa }
-    ensures initiator { IsInitiator result }
+    ensures { spelling (Token result) ≡ token_octets da sa }
 {
-    Telegram::Token(TokenTelegram { da, sa })
+    TokenTelegram { da, sa }
 }
 
 /// Joins the ring.
