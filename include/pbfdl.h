@@ -259,16 +259,16 @@ struct fdl_port {
 
 /* The phases of a station (IEC 61158-4-3, states of the data link layer of a master). */
 enum fdl_phase {
-    FDL_OFFLINE = 0,
-    FDL_PASSIVE_IDLE = 1,
-    FDL_LISTENING = 2,
-    FDL_IDLE = 3,
-    FDL_CLAIM = 4,
-    FDL_USE = 5,
-    FDL_AWAIT_DATA = 6,
-    FDL_AWAIT_STATUS = 7,
-    FDL_PASS = 8,
-    FDL_CHECKING = 9
+    FDL_OFFLINE = 0,      /* it does not run, or has heard another station with its address while it listened */
+    FDL_PASSIVE_IDLE = 1, /* a passive station, which waits for requests */
+    FDL_LISTENING = 2,    /* a master that learns who is in the ring, and takes no token */
+    FDL_IDLE = 3,         /* a master without the token, which may be passed to it */
+    FDL_CLAIM = 4,        /* it claims the token, after a time-out of silence */
+    FDL_USE = 5,          /* it has the token */
+    FDL_AWAIT_DATA = 6,   /* it has the token, and waits for the reply to a request */
+    FDL_AWAIT_STATUS = 7, /* it has the token, and waits for the status of a station that may join the ring */
+    FDL_PASS = 8,         /* nobody took the token: it is about to pass it again */
+    FDL_CHECKING = 9      /* it has passed the token, and listens whether somebody takes it */
 };
 
 /* The services (IEC 61158-4-3, data link service). */
