@@ -62,3 +62,7 @@ advances later past left today rest at n k held mid next order one past_is left_
       after = back-from at (at + 1) k left rest from_left two rest_is;
       noted = held_today ∙ ap (λ xs. hold_all xs (steps_of today)) held_past;
     }
+
+-- where no step is up to the moment, none is cut off
+pub none-yet : (later : List Step) (at : ℕ) (held : List ℕ) → AreFrom (at + 1) (steps_of later) → Advances (steps_of later) at [] (steps_of later) held held
+none-yet later at held after = record { past = []; cut = refl; before = tt; from = tt; now = tt; after = after; noted = refl }

@@ -4,6 +4,7 @@ use Rattle.law_model.specs.World as model
 use Rattle.law_runs.specs.Runs.{Plan, all, next_turn, run, with_front}
 use Rattle.law_runs.specs.Bus.{bus, dues}
 use Rattle.law_runs.specs.Scenarios as runs
+use Rattle.pb_world.specs.Worlds.{due_at}
 use Rattle.law_runs.specs.Scenarios.{Scenario}
 pub use Rattle.pb_world.specs.RunTo.{run_with, turn_if}
 use Rattle.pb_scenario.specs.Walks.{WalkView, plan_in}
@@ -31,6 +32,10 @@ Plays now old es result new = MatchResult result (λ _. Happened now old es new)
 -- the first moment after now at which some tap may take a turn next
 abbrev pub IsFirst : WalkView → StageView → Option ℕ → Type 0
 IsFirst walk v first = first ≡ next_turn (plan_in walk) walk.clock 0 (dues v.world)
+
+-- no tap is due before a moment
+abbrev pub NoneBefore : ℕ → model.World → Type 0
+NoneBefore moment w = (tap : ℕ) → tap < length w.taps → IfSome (due_at w tap) (λ at. moment ≤ at)
 
 -- ---- instants
 

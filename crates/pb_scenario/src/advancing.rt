@@ -1,6 +1,6 @@
 //! Advances a walk through steps, and keeps until when each tap is withheld.
 
-ghost use Rattle.std.specs.Prelude.{◌≡◌, ◌<◌, ◌≤◌, ◌^◌, map, nat_lt};
+ghost use Rattle.std.specs.Prelude.{◌≡◌, ◌+◌, ◌<◌, ◌≤◌, ◌^◌, IsTrue, map, nat_lt};
 ghost use Rattle.std.specs.List.{prefix_len};
 ghost use Rattle.pb_timers.specs.Timers.{last_moment};
 ghost use Rattle.pb_scenario.specs.Cutting.{CutsAt};
@@ -13,6 +13,30 @@ use crate::deeds::{Deed, Step};
 /// The steps at a moment and those after it, of steps in order of time. Updates until when each tap is withheld by the
 /// steps up to that moment.
 pub(crate) fn advance<'a>(later: &'a [Step], at: u64, held: &mut [u64]) -> (&'a [Step], &'a [Step])
+    requires order { AreFrom 0 (steps_of later.now) }
+    requires moment { at ≤ last_moment }
+    ensures { CutsAt at later.now result.0.now result.1.now held.old held.new }
+{
+    if none_by(later, at) {
+        return (&[], later);
+    }
+    advance_over(later, at, held)
+}
+
+/// Whether no step is at a moment or before it, of steps in order of time. It is so at nearly each instant.
+fn none_by(steps: &[Step], at: u64) -> bool
+    requires { AreFrom 0 (steps_of steps.now) }
+    ensures { IsTrue result → AreFrom (at + 1) (steps_of steps.now) }
+{
+    match steps {
+        [] => true,
+        [first, ..] => at < first.at,
+    }
+}
+
+/// Slow path of `advance`, kept out of line: there are steps up to the moment.
+#[inline(never)]
+fn advance_over<'a>(later: &'a [Step], at: u64, held: &mut [u64]) -> (&'a [Step], &'a [Step])
     requires order { AreFrom 0 (steps_of later.now) }
     requires moment { at ≤ last_moment }
     ensures { CutsAt at later.now result.0.now result.1.now held.old held.new }

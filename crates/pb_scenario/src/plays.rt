@@ -1,6 +1,8 @@
 //! Plays a scenario's run, instant by instant.
 
-ghost use Rattle.std.specs.Prelude.{◌≡◌, ◌≤◌, ◌<◌, ◌∷◌, [], Ok, IfErr, IfOk, OnOk, length, map};
+ghost use Rattle.std.specs.Prelude.{◌≡◌, ◌+◌, ◌≤◌, ◌<◌, ◌∷◌, ◌↔◌, [], false, Some, Ok, IfErr, IfOk, IfSome, IsTrue, OnOk, length, map};
+ghost use Rattle.law_turn.specs.Stations.{earlier};
+ghost use Rattle.law_runs.specs.Premises.{comes_late};
 ghost use Rattle.std.specs.Option.{option_map, option_to_list};
 ghost use Rattle.pb_timers.specs.Timers.{last_moment};
 ghost use Rattle.law_model.specs.World.{Pass, Turn, new_world};
@@ -13,17 +15,26 @@ ghost use Rattle.pb_scenario.specs.Said.{said_by, said_in};
 ghost use Rattle.pb_scenario.specs.Walks.{passes, plan_in};
 ghost use Rattle.pb_scenario.specs.Faults.{EndsBy};
 ghost use Rattle.pb_scenario.specs.Stages.{IsReady};
-ghost use Rattle.pb_scenario.specs.Plays.{Goes, IsFirst, IsPlayed, Plays, turn_if};
+ghost use Rattle.pb_scenario.specs.Plays.{Goes, IsFirst, IsPlayed, NoneBefore, Plays, turn_if};
 
 use crate::deeds::{Deed, Step, When};
 use crate::faults::RunFault;
 use crate::scenarios::Scenario;
 use crate::stages::Stage;
-use crate::usual::UsualEvents;
 use crate::walks::Walk;
 use pb_taps::{Event, NewFault};
 use pb_timers::Moment;
+use pb_world::{Bus, UsualEvents};
 use std::alloc::Global;
+
+/// When taps may take turns next.
+#[derive(Clone, Copy)]
+struct Coming {
+    /// The first moment after now at which some tap may.
+    first: Option<u64>,
+    /// A moment before which no tap is due, withheld or not.
+    due: u64,
+}
 
 /// Plays a scenario's run on a stage with its new world.
 ///
@@ -66,8 +77,8 @@ fn play_instant<S: Stage>(
     play_steps(alloc, stage, now, walk.today(), When::BeforeTurns)?;
     let soonest = play_turns(alloc, stage, now, walk, usual)?;
     let turn = play_late(alloc, stage, now, walk, soonest)?;
-    let next = walk.next_by(turn, stage.bus().next_change());
-    play_pass(alloc, stage, now, usual, walk.pass_to(next))?;
+    let next = walk.next_by(turn.first, stage.bus().next_change());
+    play_pass(alloc, stage, now, usual, walk.pass_to(next), turn.due)?;
     Ok(next)
 }
 
@@ -106,8 +117,7 @@ fn play_deed<S: Stage>(
     }
 }
 
-/// Plays the turns of the taps that are due and not withheld, and returns the first moment after now at which some tap may
-/// take a turn next. A turn does not change when the other taps are due, so each tap is asked just before its own turn, and
+/// Plays the turns of the taps that are due and not withheld, and returns when taps may take turns next. A turn does not change when the other taps are due, so each tap is asked just before its own turn, and
 /// behind it only where it took one.
 fn play_turns<S: Stage>(
     alloc: Global,
@@ -115,20 +125,38 @@ fn play_turns<S: Stage>(
     now: Moment,
     walk: &Walk<'_>,
     usual: &mut UsualEvents,
-) -> Result<Option<u64>, RunFault>
+) -> Result<Coming, RunFault>
     requires now { now ≡ walk.now.clock }
     requires taps { length (S.view stage.old).world.taps ≡ walk.now.taps }
     requires ready { IsReady (S.view stage.old) }
     ensures plays { Plays now (S.view stage.old)
         (turns bus (plan_in walk.now) walk.now.clock (S.view stage.old).world) result (S.view stage.new) }
-    ensures first { IfOk result (IsFirst walk.now (S.view stage.new)) }
+    ensures first { IfOk result (λ coming. IsFirst walk.now (S.view stage.new) coming.first) }
+    ensures due { IfOk result (λ coming. NoneBefore coming.due (S.view stage.new).world) }
 {
     let mut first = None;
+    let mut soonest = u64::MAX;
     for tap in 0..walk.taps() {
         let due = play_turn(alloc, stage, now, walk, usual, tap)?;
         first = walk.sooner(first, tap, due);
+        soonest = no_later(soonest, due);
     }
-    Ok(first)
+    Ok(Coming {
+        first,
+        due: soonest,
+    })
+}
+
+/// The earlier of a moment, in bit times, and that of a turn, if one is due.
+fn no_later(moment: u64, due: Option<Moment>) -> u64
+    ensures value { Some result ≡ earlier (Some moment) due }
+    ensures bound { result ≤ moment }
+    ensures due { IfSome due (λ at. result ≤ at) }
+{
+    match due {
+        Some(due) if due.get() < moment => due.get(),
+        _ => moment,
+    }
 }
 
 /// Plays a tap's turn, if the tap is due now and not withheld, and returns when it is due then.
@@ -183,47 +211,54 @@ fn takes_turn<S: Stage>(stage: &S, now: Moment, walk: &Walk<'_>, tap: usize) -> 
     stage.bus().is_due(tap, now) && walk.lets(tap)
 }
 
-/// Plays the events that steps trigger after the turns, and returns the first moment after now at which some tap may take a
-/// turn next. Before them it was `first`.
+/// Plays the events that steps trigger after the turns, and returns when taps may take turns next. Before them it
+/// was `coming`.
 fn play_late<S: Stage>(
     alloc: Global,
     stage: &mut S,
     now: Moment,
     walk: &Walk<'_>,
-    first: Option<u64>,
-) -> Result<Option<u64>, RunFault>
+    coming: Coming,
+) -> Result<Coming, RunFault>
     requires taps { length (S.view stage.old).world.taps ≡ walk.now.taps }
     requires ready { IsReady (S.view stage.old) }
     ensures plays { Plays now (S.view stage.old) ((plan_in walk.now).late walk.now.clock) result
         (S.view stage.new) }
-    ensures first { IfOk result (λ last. IsFirst walk.now (S.view stage.old) first
-        → IsFirst walk.now (S.view stage.new) last) }
+    ensures first { IfOk result (λ last. IsFirst walk.now (S.view stage.old) coming.first
+        → IsFirst walk.now (S.view stage.new) last.first) }
+    ensures due { IfOk result (λ last. NoneBefore coming.due (S.view stage.old).world
+        → NoneBefore last.due (S.view stage.new).world) }
 {
     if walk.today().is_empty() {
-        return Ok(first);
+        return Ok(coming);
     }
     play_steps(alloc, stage, now, walk.today(), When::AfterTurns)?;
-    Ok(next_turn(stage, walk))
+    Ok(Coming {
+        first: next_turn(stage, walk),
+        due: 0,
+    })
 }
 
-/// Lets time pass, in bit times, if it does.
+/// Lets time pass, in bit times, if it does. No tap is due before `due`.
 fn play_pass<S: Stage>(
     alloc: Global,
     stage: &mut S,
     now: Moment,
     usual: &mut UsualEvents,
     bits: Option<u64>,
+    due: u64,
 ) -> Result<(), RunFault>
-    requires { IsReady (S.view stage.old) }
+    requires ready { IsReady (S.view stage.old) }
+    requires due { NoneBefore due (S.view stage.old).world }
     ensures { Plays now (S.view stage.old) (passes bits) result (S.view stage.new) }
 {
     match bits {
-        Some(bits) => let_pass(alloc, stage, now, usual, bits),
+        Some(bits) => let_pass(alloc, stage, now, usual, bits, due),
         None => Ok(()),
     }
 }
 
-/// Lets some bit times pass.
+/// Lets some bit times pass. Where that is not past the first turn that is due, no turn becomes late.
 #[inline(always)]
 fn let_pass<S: Stage>(
     alloc: Global,
@@ -231,12 +266,44 @@ fn let_pass<S: Stage>(
     now: Moment,
     usual: &mut UsualEvents,
     bits: u64,
+    due: u64,
 ) -> Result<(), RunFault>
-    requires { IsReady (S.view stage.old) }
+    requires ready { IsReady (S.view stage.old) }
+    requires due { NoneBefore due (S.view stage.old).world }
     ensures { Plays now (S.view stage.old) (Pass bits ∷ []) result (S.view stage.new) }
 {
     usual.set_pass(bits);
-    happens(alloc, stage, now, &usual.pass)
+    if reaches(stage.bus(), bits, due) {
+        happens(alloc, stage, now, &usual.pass)
+    } else {
+        happens_in_time(alloc, stage, now, &usual.pass)
+    }
+}
+
+/// Whether the clock of a bus will be past a moment, both in bit times, when some bit times have passed.
+#[inline(always)]
+fn reaches(on: &Bus, bits: u64, moment: u64) -> bool
+    ensures { IsTrue result ↔ (moment < on.now.now + bits) }
+{
+    let now = on.now.get();
+    now > moment || bits > moment - now
+}
+
+/// Plays an event at `now` in which no turn becomes late.
+fn happens_in_time<S: Stage>(
+    alloc: Global,
+    stage: &mut S,
+    now: Moment,
+    event: &Event,
+) -> Result<(), RunFault>
+    requires ready { IsReady (S.view stage.old) }
+    requires in_time { comes_late (S.view stage.old).world (event_of event.now) ≡ false }
+    ensures { Plays now (S.view stage.old) (event_of event.now ∷ []) result (S.view stage.new) }
+{
+    match stage.apply_in_time(alloc, event) {
+        Ok(()) => Ok(()),
+        Err(fault) => Err(RunFault::At(now, fault)),
+    }
 }
 
 /// Plays an event at `now`.

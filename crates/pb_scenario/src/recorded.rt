@@ -40,6 +40,10 @@ impl Stage for Recorded {
         }
     }
 
+    fn apply_in_time(&mut self, alloc: Global, event: &Event) -> Result<(), WorldFault> {
+        self.apply(alloc, event)
+    }
+
     fn bus(&self) -> &Bus {
         &self.bus
     }

@@ -1,7 +1,7 @@
 //! A bus that a caller drives: by events, and by itself up to a moment.
 
 ghost use Rattle.std.specs.Prelude.{◌≡◌, true, is_some, IsSome, IfErr, IfOk, OnErr, OnOk, length};
-ghost use Rattle.law_model.specs.World.{Turn};
+ghost use Rattle.law_model.specs.World.{Pass, Turn};
 ghost use Rattle.pb_medium.specs.LettingGo.{past_of};
 ghost use Rattle.pb_taps.specs.Events.{event_of};
 ghost use Rattle.pb_world.specs.Driven.{Applies, Forgets, KeepsFrom, LetsGo, RefusesToKeep, SetsReply, StaysBut};
@@ -14,6 +14,7 @@ use crate::findings::Audit;
 use crate::judge::Judge;
 use crate::premises::follow;
 use crate::run_to::run_to;
+use crate::usual::UsualEvents;
 use crate::watched::{Watched, new_watched_within};
 use arrayvec::ArrayVec;
 use pb_medium::{Entry, TRACE_LIMIT};
@@ -52,6 +53,7 @@ use std::marker::Model;
 #[derive(Drop)]
 pub struct DrivenBus {
     driven: Driven,
+    usual: UsualEvents,
 }
 
 /// What it is made of.
@@ -76,7 +78,7 @@ impl Model for DrivenBus {
 impl DrivenBus {
     ghost use Rattle.std.specs.Prelude.{◌≡◌, ℕ, [], None, Some, Ok, IfOk, IfErr, OnErr, OnOk, MatchOption, length, map};
     ghost use Rattle.std.specs.Option.{option_map};
-    ghost use Rattle.law_model.specs.World.{new_world, new_world_within};
+    ghost use Rattle.law_model.specs.World.{Pass, Turn, new_world, new_world_within};
     ghost use Rattle.pb_medium.specs.Entries.{entry_of};
     ghost use Rattle.pb_medium.specs.LettingGo.{past_of};
     ghost use Rattle.pb_taps.specs.Events.{event_of};
@@ -122,6 +124,7 @@ impl DrivenBus {
         match Judge::new(alloc, params, specs) {
             Ok(judge) => Ok(DrivenBus {
                 driven: Driven { watched, judge },
+                usual: UsualEvents::new(),
             }),
             Err(_) => Err(NewFault::NoMemory),
         }
@@ -137,6 +140,28 @@ impl DrivenBus {
         apply(&mut self.driven.watched, alloc, event)
     }
 
+    /// The station at a tap takes its turn, as by [`apply`](DrivenBus::apply) in fewer instructions: the event is not made
+    /// anew. A refused turn changes nothing.
+    ///
+    /// Faults: those of a turn on a bus.
+    pub fn turn(&mut self, alloc: Global, tap: usize) -> Result<(), WorldFault>
+        ensures applies { Applies self.old.watched (Turn tap) result self.new.watched }
+        ensures judge { self.new.judge ≡ self.old.judge }
+    {
+        turn(&mut self.driven.watched, alloc, &mut self.usual, tap)
+    }
+
+    /// Time passes, in bit times, as by [`apply`](DrivenBus::apply) in fewer instructions: the event is not made anew. A
+    /// refused pass of time changes nothing.
+    ///
+    /// Faults: those of a pass of time on a bus.
+    pub fn pass(&mut self, alloc: Global, bits: u64) -> Result<(), WorldFault>
+        ensures applies { Applies self.old.watched (Pass bits) result self.new.watched }
+        ensures judge { self.new.judge ≡ self.old.judge }
+    {
+        pass(&mut self.driven.watched, alloc, &mut self.usual, bits)
+    }
+
     /// Lets the bus run to a moment, in bit times: at each instant the turns that are due, in the order of the taps,
     /// then a pass of time to the next instant. The due turns of the present moment are taken too. Where the moment is
     /// not later than the clock, they are all that is done.
@@ -147,7 +172,7 @@ impl DrivenBus {
         ensures fault { IfErr result (λ fault. HasStopped until fault self.old.watched self.new.watched) }
         ensures judge { self.new.judge ≡ self.old.judge }
     {
-        run_to(&mut self.driven.watched, alloc, until)
+        run_to(&mut self.driven.watched, alloc, &mut self.usual, until)
     }
 
     /// Changes the data with which the station at a tap replies to the next request for data, between two events. A
@@ -268,6 +293,38 @@ pub(crate) fn apply(watched: &mut Watched, alloc: Global, event: &Event) -> Resu
         Event::Turn(tap) => apply_turn(watched, alloc, *tap, event),
         _ => follow(&mut watched.watch, alloc, &mut watched.bus, event),
     }
+}
+
+/// Applies the turn of a tap.
+#[inline(always)]
+pub(crate) fn turn(
+    watched: &mut Watched,
+    alloc: Global,
+    usual: &mut UsualEvents,
+    tap: usize,
+) -> Result<(), WorldFault>
+    requires { IsFollowed watched.old }
+    ensures applies { Applies watched.old (Turn tap) result watched.new }
+    ensures followed { IsFollowed watched.new }
+{
+    usual.set_turn(tap);
+    apply_turn(watched, alloc, tap, &usual.turn)
+}
+
+/// Applies a pass of time.
+#[inline(always)]
+pub(crate) fn pass(
+    watched: &mut Watched,
+    alloc: Global,
+    usual: &mut UsualEvents,
+    bits: u64,
+) -> Result<(), WorldFault>
+    requires { IsFollowed watched.old }
+    ensures applies { Applies watched.old (Pass bits) result watched.new }
+    ensures followed { IsFollowed watched.new }
+{
+    usual.set_pass(bits);
+    apply_pass(watched, alloc, &usual.pass)
 }
 
 /// Applies a turn.

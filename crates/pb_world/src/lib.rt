@@ -36,6 +36,7 @@ mod stopping;
 mod stretches;
 mod told;
 mod traces;
+mod usual;
 mod watched;
 mod worlds;
 
@@ -55,5 +56,6 @@ pub use reasons::{Reasons, audit_with_reasons};
 pub use rules::{Illegal, Rule};
 pub use stretches::{Stretch, longest_cycle, longest_without};
 pub use traces::{TraceFault, first_illegal, named};
+pub use usual::UsualEvents;
 pub use watched::{Watched, new_watched, new_watched_within};
 pub use worlds::{World, run, run_shared};

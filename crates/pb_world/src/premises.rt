@@ -1,6 +1,6 @@
 //! The premises of a run: watches its events until the first premise breaks.
 
-ghost use Rattle.std.specs.Prelude.{◌≡◌, ◌+◌, ◌-◌, ◌<◌, ◌≤◌, ◌&&◌, nat_le, IfErr, IfSome, List, None, OnErr, OnOk, Ok, length, map};
+ghost use Rattle.std.specs.Prelude.{◌≡◌, ◌+◌, ◌-◌, ◌<◌, ◌≤◌, ◌&&◌, false, nat_le, IfErr, IfSome, List, None, OnErr, OnOk, Ok, length, map};
 ghost use Rattle.std.specs.List.{list_any};
 ghost use Rattle.std.specs.Option.{option_map};
 ghost use Rattle.law_model.specs.Behind.{IsPast};
@@ -139,6 +139,7 @@ impl Watch {
 }
 
 /// Applies an event to a bus, and updates the watch.
+#[inline(always)]
 pub(crate) fn follow(
     watch: &mut Watch,
     alloc: Global,
@@ -163,6 +164,68 @@ pub(crate) fn follow(
     ensures found { OnErr result (watched_of watch.new ≡ watched_of watch.old) }
 {
     let foresight = foresee(bus, event);
+    follow_foreseen(watch, alloc, bus, event, foresight)
+}
+
+/// The same where the caller ensures that no turn is later than the lag in the event.
+#[inline(always)]
+pub(crate) fn follow_in_time(
+    watch: &mut Watch,
+    alloc: Global,
+    bus: &mut Bus,
+    event: &Event,
+) -> Result<(), WorldFault>
+    requires kept { IsKept bus.old }
+    requires in_time { premises.comes_late (world_of bus.old) (event_of event.now) ≡ false }
+    requires knows { KnowsOf watch.old bus.old }
+    ensures kept { IsKept bus.new }
+    ensures event { IsEvent (event_of event.now) }
+    ensures steps { OnOk result ((reply : model.Reply)
+        × (step (world_of bus.old) (event_of event.now) ≡ Ok (world_of bus.new, reply))) }
+    ensures knows { OnOk result ((old : List Entry) → IsPast old (world_of bus.old)
+        → Knows watch.old (world_with old bus.old) → Knows watch.new (world_with old bus.new)) }
+    ensures stands { OnOk result ((old : List Entry) → IsPast old (world_of bus.old)
+        → Knows watch.old (world_with old bus.old)
+        → GoesOn watch.old (world_with old bus.old) (event_of event.now) watch.new) }
+    ensures err { IfErr result (λ fault. (world_of bus.new ≡ world_of bus.old)
+        × Refuses (world_of bus.old) (event_of event.now)
+        (step (world_of bus.old) (event_of event.now)) fault) }
+    ensures stays { OnErr result (time_in (event_of event.now) ≡ None → watch.new ≡ watch.old) }
+    ensures found { OnErr result (watched_of watch.new ≡ watched_of watch.old) }
+{
+    let foresight = Foresight {
+        loses: loses(event),
+        late: false,
+    };
+    follow_foreseen(watch, alloc, bus, event, foresight)
+}
+
+/// The same by what is known of the event before it.
+fn follow_foreseen(
+    watch: &mut Watch,
+    alloc: Global,
+    bus: &mut Bus,
+    event: &Event,
+    foresight: Foresight,
+) -> Result<(), WorldFault>
+    requires kept { IsKept bus.old }
+    requires foresees { Foresees foresight (world_of bus.old) (event_of event.now) }
+    requires knows { KnowsOf watch.old bus.old }
+    ensures kept { IsKept bus.new }
+    ensures event { IsEvent (event_of event.now) }
+    ensures steps { OnOk result ((reply : model.Reply)
+        × (step (world_of bus.old) (event_of event.now) ≡ Ok (world_of bus.new, reply))) }
+    ensures knows { OnOk result ((old : List Entry) → IsPast old (world_of bus.old)
+        → Knows watch.old (world_with old bus.old) → Knows watch.new (world_with old bus.new)) }
+    ensures stands { OnOk result ((old : List Entry) → IsPast old (world_of bus.old)
+        → Knows watch.old (world_with old bus.old)
+        → GoesOn watch.old (world_with old bus.old) (event_of event.now) watch.new) }
+    ensures err { IfErr result (λ fault. (world_of bus.new ≡ world_of bus.old)
+        × Refuses (world_of bus.old) (event_of event.now)
+        (step (world_of bus.old) (event_of event.now)) fault) }
+    ensures stays { OnErr result (time_in (event_of event.now) ≡ None → watch.new ≡ watch.old) }
+    ensures found { OnErr result (watched_of watch.new ≡ watched_of watch.old) }
+{
     watch.oldest = listen(&mut watch.quiet, watch.oldest, bus, event);
     bus.apply(alloc, event)?;
     watch.namesakes = has_namesakes_after(bus, event, watch.namesakes);

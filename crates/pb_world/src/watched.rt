@@ -22,7 +22,7 @@ use crate::findings::Audit;
 use crate::legality::first_illegal;
 use crate::letting_go::new_bus_within;
 use crate::making::new_bus;
-use crate::premises::{Breach, Watch, follow};
+use crate::premises::{Breach, Watch, follow, follow_in_time};
 use crate::told::Told;
 use pb_taps::{Event, NewFault, TapSpec, WorldFault};
 use pb_timers::{BusParams, Moment};
@@ -80,9 +80,9 @@ pub fn new_watched_within(
 }
 
 impl Watched {
-    ghost use Rattle.std.specs.Prelude.{◌≡◌, IfErr, OnErr, OnOk, Ok};
+    ghost use Rattle.std.specs.Prelude.{◌≡◌, false, IfErr, OnErr, OnOk, Ok};
     ghost use Rattle.std.specs.Option.{option_map};
-    ghost use Rattle.law_runs.specs.Premises.{Course};
+    ghost use Rattle.law_runs.specs.Premises.{Course, comes_late};
     ghost use Rattle.law_runs.specs.Watching.{StandsFor};
     ghost use Rattle.pb_medium.specs.LettingGo.{past_of};
     ghost use Rattle.pb_world.specs.Auditing.{broken_at};
@@ -116,6 +116,31 @@ impl Watched {
         ensures found { OnErr result (watched_of self.new.watch ≡ watched_of self.old.watch) }
     {
         follow(&mut self.watch, alloc, &mut self.bus, event)?;
+        Ok(())
+    }
+
+    /// Applies an event, as [`follow`](Watched::follow) does in more instructions. The caller ensures that no turn is later
+    /// than the lag in it.
+    ///
+    /// Faults: those of the event on a bus. After a fault, the bus must not be watched further; what its events broke can
+    /// still be asked ([`broken`](Watched::broken)).
+    pub fn follow_in_time(&mut self, alloc: Global, event: &Event) -> Result<(), WorldFault>
+        requires in_time { comes_late (world_in self.old) (event_of event.now) ≡ false }
+        requires followed { IsFollowed self.old }
+        ensures kept { IsKept self.new.bus }
+        ensures event { IsEvent (event_of event.now) }
+        ensures followed { OnOk result (IsFollowed self.new) }
+        ensures watched { IsWatched self.old → OnOk result (IsWatched self.new) }
+        ensures leads { OnOk result (LeadsOnBy self.old (event_of event.now) self.new) }
+        ensures came { OnOk result (GoesOnBy self.old (event_of event.now) self.new) }
+        ensures steps { OnOk result ((reply : model.Reply)
+            × (step (world_in self.old) (event_of event.now) ≡ Ok (world_in self.new, reply))) }
+        ensures err { IfErr result (λ fault. (world_in self.new ≡ world_in self.old)
+            × Refuses (world_in self.old) (event_of event.now)
+            (step (world_in self.old) (event_of event.now)) fault) }
+        ensures found { OnErr result (watched_of self.new.watch ≡ watched_of self.old.watch) }
+    {
+        follow_in_time(&mut self.watch, alloc, &mut self.bus, event)?;
         Ok(())
     }
 

@@ -13,4 +13,4 @@ returns-then-is_due c =
     let old = c.args.watched.now in
     let is : true ≡ wants (alone_until leg.until) leg.now tap (due_at (world_in old) tap) =
     sym c.if-is_due.true ∙ c.is_due.ensures tap ∙ ap (wants (alone_until leg.until) leg.now tap) c.due.ensures in
-    subst (λ b. Plays leg.now old (turn_if b tap) c.happens.result c.happens.new.watched) is c.happens.ensures
+    subst (λ b. Plays leg.now old (turn_if b tap) c.take_turn.result c.take_turn.new.watched) is c.take_turn.ensures

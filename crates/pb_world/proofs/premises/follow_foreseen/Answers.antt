@@ -8,7 +8,7 @@ use Rattle.pb_world.specs.Buses.{world_of, world_with}
 use Rattle.pb_world.specs.Premises.{IsQuiet, watched_of}
 use Rattle.pb_world.proofs.Behind.{steps-behind}
 use Rattle.pb_world.proofs.Premising.{goes-on}
-use Rattle.pb_world.proofs.premises.follow.Goals as goal
+use Rattle.pb_world.proofs.premises.follow_foreseen.Goals as goal
 
 pub listen-watch-requires-clause-oldest : goal.listen-watch-requires-clause-oldest
 listen-watch-requires-clause-oldest c =
@@ -71,4 +71,4 @@ returns-clause-stands c = λ old past knows.
     let goes = steps-behind old w next e reply past ok in
     let silent = c.listen-watch.ensures.listens old past knows.silent (world_with old after) reply goes in
     goes-on (watched_of c.args.watch.now) (watched_of c.note.new.self) (world_with old before) (world_with old after) e reply goes
-    (c.note.ensures.after old silent (world_with old before) e (record { loses = c.foresee-foresight.ensures.loses; late = c.foresee-foresight.ensures.late }))
+    (c.note.ensures.after old silent (world_with old before) e (record { loses = c.requires.foresees.loses; late = c.requires.foresees.late }))

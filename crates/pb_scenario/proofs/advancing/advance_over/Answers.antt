@@ -5,7 +5,7 @@ use Rattle.std.proofs.lemmas.List.Sums.{prefix_len-le-length}
 use Rattle.pb_scenario.specs.declared.deeds.Step.{Step}
 use Rattle.pb_scenario.specs.Steps.{steps_of}
 use Rattle.pb_scenario.proofs.Cuts.{advances, front-before, before-later}
-use Rattle.pb_scenario.proofs.advancing.advance.Goals as goal
+use Rattle.pb_scenario.proofs.advancing.advance_over.Goals as goal
 
 pub split_at-requires : goal.split_at-requires
 split_at-requires c = omega (arith, c.count_before.ensures, prefix_len-le-length (λ (s : Step). nat_lt s.at c.args.at) c.args.later.now)
