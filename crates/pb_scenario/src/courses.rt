@@ -140,6 +140,10 @@ impl Stage for Counted {
         Ok(())
     }
 
+    fn apply_in_time(&mut self, alloc: Global, event: &Event) -> Result<(), WorldFault> {
+        self.apply(alloc, event)
+    }
+
     fn bus(&self) -> &Bus {
         &self.bus
     }

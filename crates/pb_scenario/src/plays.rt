@@ -1,6 +1,6 @@
 //! Plays a scenario's run, instant by instant.
 
-ghost use Rattle.std.specs.Prelude.{◌≡◌, ◌+◌, ◌≤◌, ◌<◌, ◌∷◌, ◌↔◌, [], false, Some, Ok, IfErr, IfOk, IfSome, IsTrue, OnOk, length, map};
+ghost use Rattle.std.specs.Prelude.{◌≡◌, ◌+◌, ◌≤◌, ◌<◌, ◌∷◌, [], false, Some, Ok, IfErr, IfOk, IfSome, OnOk, length, map, nat_lt};
 ghost use Rattle.law_turn.specs.Stations.{earlier};
 ghost use Rattle.law_runs.specs.Premises.{comes_late};
 ghost use Rattle.std.specs.Option.{option_map, option_to_list};
@@ -117,8 +117,9 @@ fn play_deed<S: Stage>(
     }
 }
 
-/// Plays the turns of the taps that are due and not withheld, and returns when taps may take turns next. A turn does not change when the other taps are due, so each tap is asked just before its own turn, and
-/// behind it only where it took one.
+/// Plays the turns of the taps that are due and not withheld, and returns when taps may take turns next. A turn does
+/// not change when the other taps are due, so each tap is asked just before its own turn, and behind it only where it took
+/// one.
 fn play_turns<S: Stage>(
     alloc: Global,
     stage: &mut S,
@@ -138,8 +139,8 @@ fn play_turns<S: Stage>(
     let mut soonest = u64::MAX;
     for tap in 0..walk.taps() {
         let due = play_turn(alloc, stage, now, walk, usual, tap)?;
+        soonest = no_later(soonest, &due);
         first = walk.sooner(first, tap, due);
-        soonest = no_later(soonest, due);
     }
     Ok(Coming {
         first,
@@ -148,10 +149,10 @@ fn play_turns<S: Stage>(
 }
 
 /// The earlier of a moment, in bit times, and that of a turn, if one is due.
-fn no_later(moment: u64, due: Option<Moment>) -> u64
-    ensures value { Some result ≡ earlier (Some moment) due }
+fn no_later(moment: u64, due: &Option<Moment>) -> u64
+    ensures value { Some result ≡ earlier (Some moment) due.now }
     ensures bound { result ≤ moment }
-    ensures due { IfSome due (λ at. result ≤ at) }
+    ensures due { IfSome due.now (λ at. result ≤ at) }
 {
     match due {
         Some(due) if due.get() < moment => due.get(),
@@ -283,7 +284,7 @@ fn let_pass<S: Stage>(
 /// Whether the clock of a bus will be past a moment, both in bit times, when some bit times have passed.
 #[inline(always)]
 fn reaches(on: &Bus, bits: u64, moment: u64) -> bool
-    ensures { IsTrue result ↔ (moment < on.now.now + bits) }
+    ensures { result ≡ nat_lt moment (on.entry.now.now + bits) }
 {
     let now = on.now.get();
     now > moment || bits > moment - now

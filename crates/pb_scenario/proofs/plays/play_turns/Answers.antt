@@ -1,5 +1,6 @@
 -- One tap more has turned, or its turn stops all.
-use Rattle.std.proofs.Common.{◌<◌, ◌∙◌, ap, length, map, arith}
+use Rattle.std.proofs.Common.{◌<◌, ◌≤◌, ◌∙◌, ap, subst, length, map, arith}
+use Rattle.std.specs.Prelude.{IfSome}
 use Rattle.law_model.specs.World.{Turn}
 use Rattle.law_turn.specs.Stations.{earlier}
 use Rattle.law_runs.specs.Runs.{comes, wants}
@@ -7,14 +8,14 @@ use Rattle.pb_world.specs.Worlds.{due_at}
 use Rattle.pb_scenario.specs.Walks.{plan_in}
 use Rattle.pb_world.proofs.Counting.{count-all}
 use Rattle.pb_scenario.proofs.Moving.{in-err, none-turned, ready-after, turned-all, turned-more, turned-stops}
-use Rattle.pb_scenario.proofs.Soonest.{front-due, so-far-all, so-far-more, so-far-none}
+use Rattle.pb_scenario.proofs.Soonest.{front-due, none-more, so-far-all, so-far-more, so-far-none}
 use Rattle.pb_scenario.proofs.plays.play_turns.Goals as goal
 
 pub loop-tap-init : goal.loop-tap-init
 loop-tap-init g c =
     let walk = c.args.walk.now in
     let v = g.S.Stage.view c.args.stage.now in
-    record { turned = none-turned (plan_in walk) c.args.now walk.clock v; first = so-far-none (plan_in walk) walk.clock walk.taps v.world }
+    record { turned = none-turned (plan_in walk) c.args.now walk.clock v; first = so-far-none (plan_in walk) walk.clock walk.taps v.world; due = λ tap none. absurd (omega (arith, none)) }
 
 pub play_turn-requires-clause-ready : goal.play_turn-requires-clause-ready
 play_turn-requires-clause-ready g c =
@@ -49,6 +50,8 @@ loop-tap-preserved g c =
       first = so-far-more p walk.clock walk.taps tap mid.world new.world c.loop-tap.first c.sooner-first.result (omega (arith, c.loop-tap-test.true, c.taps-tap-end.ensures))
           (front-due c.args.now tap (wants p walk.clock tap (due_at mid.world tap)) mid.world new.world one.world)
           (c.sooner-first.ensures ∙ ap (λ o. earlier c.loop-tap.first (comes p walk.clock tap o)) c.in_ok-due.ensures.due) c.loop-tap.invariant.first;
+      due = none-more tap c.loop-tap.soonest c.no_later-soonest.result mid.world new.world (front-due c.args.now tap (wants p walk.clock tap (due_at mid.world tap)) mid.world new.world one.world)
+          c.no_later-soonest.ensures.bound (subst (λ o. IfSome o (λ at. c.no_later-soonest.result ≤ at)) c.in_ok-due.ensures.due c.no_later-soonest.ensures.due) c.loop-tap.invariant.due;
     }
 
 pub returns-clause-plays : goal.returns-clause-plays
@@ -66,3 +69,12 @@ returns-clause-first g c =
     let same = count-all c.args.now (map Turn turned.taps) old.world new.world turned.happened.world in
     so-far-all (plan_in walk) walk.clock walk.taps c.loop-tap.tap new.world c.loop-tap.first (omega (arith, c.loop-tap-test.false, c.taps-tap-end.ensures)) (same ∙ c.requires.taps)
     c.loop-tap.invariant.first
+
+pub returns-clause-due : goal.returns-clause-due
+returns-clause-due g c = λ tap there.
+    let walk = c.args.walk.now in
+    let old = g.S.Stage.view c.args.stage.now in
+    let new = g.S.Stage.view c.loop-tap.stage in
+    let turned = c.loop-tap.invariant.turned in
+    let same = count-all c.args.now (map Turn turned.taps) old.world new.world turned.happened.world in
+    c.loop-tap.invariant.due tap (omega (arith, there, same, c.requires.taps, c.loop-tap-test.false, c.taps-tap-end.ensures))
