@@ -67,9 +67,9 @@ good_judged p slack c since j begin t h = by (may_claim p slack since j begin t)
 pub not_of_legality : (p : Params) (slack : ℕ) (c : Classes) (since : ℕ) (j : State) (b : Burst) → legal_alarm_of p slack since j b ≡ None → IsGood (alarm_of p slack c since j b)
 not_of_legality p slack c since j b h = by (initiates (arrival_of b.chars)) h
   where
-    by : (d : Bool) → (if d then judged_legal p slack since (silence_before p j b.begin) b.begin (initiator_of (arrival_of b.chars)) else None) ≡ None
-        → IsGood (if d then judged p slack c since (silence_before p j b.begin) b.begin (initiator_of (arrival_of b.chars)) else None)
-    by true e = good_judged p slack c since (silence_before p j b.begin) b.begin (initiator_of (arrival_of b.chars)) e
+    by : (d : Bool) → (if d then judged_legal p slack since (silence_before p slack j b.begin) b.begin (initiator_of (arrival_of b.chars)) else None) ≡ None
+        → IsGood (if d then judged p slack c since (silence_before p slack j b.begin) b.begin (initiator_of (arrival_of b.chars)) else None)
+    by true e = good_judged p slack c since (silence_before p slack j b.begin) b.begin (initiator_of (arrival_of b.chars)) e
     by false e = tt
 
 -- no telegram of some bursts is illegal

@@ -2,7 +2,7 @@
 use Rattle.std.proofs.Common.{◌≡◌, ℕ, ◌+◌, ◌-◌, ◌*◌, ◌<◌, ◌≤◌, ◌⊎◌, inl, inr, ⊎_elim, Bool, true, false, if◌then◌else◌, not, ◌==◌, ◌&&◌, ◌||◌, List, [], ◌∷◌, refl, ap, ◌∙◌, arith}
 use Rattle.std.specs.Prelude.{nat_lt, nat_le}
 use Rattle.std.specs.List.{list_any}
-use Rattle.std.proofs.lemmas.Bool.{ltb-false, le-leb, ltb-true, cases_lt}
+use Rattle.std.proofs.lemmas.Bool.{ltb-false, le-leb, leb-false, cases_lt}
 use Rattle.pb_timers.specs.Timers.{Params, tto}
 use Rattle.law_turn.specs.Arrivals.{Arrival}
 use Rattle.law_model.specs.Trace.{Entry, Sent, Noise}
@@ -42,15 +42,15 @@ unnot : (b : Bool) → not b ≡ true → b ≡ false
 unnot true e = absurd cc
 unnot false e = refl
 
--- What the judge knows of silence by a moment: the last stretch of more than a slot without anything, since it listens.
-pub record Silences (p : Params) (since : ℕ) (trace : List Entry) (j : State) (m : ℕ) : Type 0 where
-  pub long : (u v : ℕ) → since ≤ u → u + p.tsl < v → v ≤ m → AllClear p.ttd u v trace → (v ≤ j.silent_to) × (j.silent_from < v → j.silent_from ≤ u)
-  pub gap : (j.silent_from + p.tsl < j.silent_to) ⊎ ((j.silent_from ≡ since) × (j.silent_to ≡ since))
-  pub by : j.silent_to ≤ m
+-- What the judge knows of silence by a moment, if a listener hears all a delay later: a stretch without anything that may
+-- be a time-out ends no later than the silence that is kept, and begins no sooner, as long as a claim may come after it.
+pub record Silences (p : Params) (delay since : ℕ) (trace : List Entry) (j : State) (m : ℕ) : Type 0 where
+  pub long : (u v : ℕ) → since ≤ u → u < v → u + 6 * p.tsl ≤ v + p.ttd → v ≤ m → AllClear delay u v trace → (v ≤ j.silent_to) × (m ≤ v + p.ttd → j.silent_from ≤ u)
+  pub from : j.silent_from ≤ m
 
 -- A claim, before which a tap had silence for its time-out.
 pub claim_is_one : (p : Params) (slack since : ℕ) (trace : List Entry) (j : State) (tap begin : ℕ) (a : Arrival) → 2 * p.ttd < p.tsl → 6 * p.tsl ≤ tto p (source_of a)
-    → Silences p since trace j (begin + p.ttd) → is_claim_like a ≡ true
+    → Silences p p.ttd since trace j (begin + p.ttd) → is_claim_like a ≡ true
     → is_silent p.ttd tap trace (begin - tto p (source_of a)) begin ≡ true → may_claim p slack since j (begin + p.ttd) (initiator_of a) ≡ true
 claim_is_one p slack since trace j tap begin a short least s claims silent =
     ap (λ b. b && (nat_lt (begin + p.ttd) (since + (p.ttd + timeout + slack)) || (nat_le (begin + p.ttd) (j.silent_to + (p.ttd + slack)) && nat_le (j.silent_from + timeout) (begin + p.ttd + slack)))) claims
@@ -62,13 +62,9 @@ claim_is_one p slack since trace j tap begin a short least s claims silent =
     from : ℕ
     from = begin - timeout
 
-    known : since + timeout ≤ begin → (begin ≤ j.silent_to) × (j.silent_from < begin → j.silent_from ≤ from + p.ttd)
-    known room = s.long (from + p.ttd) begin (omega (arith, room)) (omega (arith, short, least, room)) (omega arith)
+    known : since + timeout ≤ begin → (begin ≤ j.silent_to) × (begin + p.ttd ≤ begin + p.ttd → j.silent_from ≤ from + p.ttd)
+    known room = s.long (from + p.ttd) begin (omega (arith, room)) (omega (arith, short, least, room)) (omega (arith, least, room)) (omega arith)
         (clear_all p.ttd tap from begin trace (unnot (list_any (λ e. is_within from begin (active_at p.ttd tap e)) trace) silent))
-
-    later : since + timeout ≤ begin → j.silent_from < begin
-    later room = ⊎_elim (λ (l : j.silent_from + p.tsl < j.silent_to). let b = s.by in omega (arith, l, b, short))
-        (λ (z : (j.silent_from ≡ since) × (j.silent_to ≡ since)). let f = z.0 in omega (arith, f, short, least, room)) s.gap
 
     by : (b : Bool) → nat_lt (begin + p.ttd) (since + (p.ttd + timeout + slack)) ≡ b → (b || (nat_le (begin + p.ttd) (j.silent_to + (p.ttd + slack)) && nat_le (j.silent_from + timeout) (begin + p.ttd + slack))) ≡ true
     by true e = refl
@@ -76,7 +72,7 @@ claim_is_one p slack since trace j tap begin a short least s claims silent =
         let z = ltb-false (begin + p.ttd) (since + (p.ttd + timeout + slack)) e in
         let room : since + timeout ≤ begin = omega (arith, z) in
         ap (λ b. b && nat_le (j.silent_from + timeout) (begin + p.ttd + slack)) (le-leb (begin + p.ttd) (j.silent_to + (p.ttd + slack)) (let h = (known room).0 in omega (arith, h)))
-        ∙ le-leb (j.silent_from + timeout) (begin + p.ttd + slack) (let h = (known room).1 (later room) in omega (arith, h, room))
+        ∙ le-leb (j.silent_from + timeout) (begin + p.ttd + slack) (let h = (known room).1 (omega arith) in omega (arith, h, room))
 
 -- ---- it knows so burst by burst
 
@@ -84,30 +80,42 @@ claim_is_one p slack since trace j tap begin a short least s claims silent =
 abbrev pub EndsSolid : (delay since : ℕ) → List Entry → ℕ → Type 0
 EndsSolid delay since trace q = (u v : ℕ) → since ≤ u → u < q → q < v → AllClear delay u v trace → ⊥
 
-pub silences_before : (p : Params) (since : ℕ) (trace : List Entry) (j : State) (begin : ℕ) → since ≤ j.quiet → j.quiet ≤ begin → EndsSolid p.ttd since trace j.quiet
-    → Silences p since trace j j.quiet → Silences p since trace (silence_before p j begin) begin
-silences_before p since trace j begin from late solid s = by (nat_lt (j.quiet + p.tsl) begin) refl
+pub silences_before : (p : Params) (slack delay since : ℕ) (trace : List Entry) (j : State) (begin : ℕ) → since ≤ j.quiet → j.quiet ≤ begin → EndsSolid delay since trace j.quiet
+    → Silences p delay since trace j j.quiet → Silences p delay since trace (silence_before p slack j begin) begin
+silences_before p slack delay since trace j begin start late solid s = by (nat_le (j.quiet + 6 * p.tsl) (begin + (p.ttd + slack))) refl (nat_le begin (j.silent_to + (p.ttd + slack))) refl
   where
-    by : (b : Bool) → nat_lt (j.quiet + p.tsl) begin ≡ b → Silences p since trace (if b then record j { silent_from = j.quiet; silent_to = begin } else j) begin
-    by true w = let z = ltb-true (j.quiet + p.tsl) begin w in record {
-      long = λ u v a len h clear. (h, λ inside. ⊎_elim (λ (early : u < j.quiet). absurd (solid u v a early inside clear)) (λ (l : j.quiet ≤ u). l) (cases_lt u j.quiet));
-      gap = inl z;
-      by = omega arith;
+    -- a stretch that goes on behind the last end begins no sooner
+    behind_it : (u v : ℕ) → since ≤ u → j.quiet < v → AllClear delay u v trace → j.quiet ≤ u
+    behind_it u v a past clear = ⊎_elim (λ (early : u < j.quiet). absurd (solid u v a early past clear)) (λ (l : j.quiet ≤ u). l) (cases_lt u j.quiet)
+
+    by : (c : Bool) → nat_le (j.quiet + 6 * p.tsl) (begin + (p.ttd + slack)) ≡ c → (d : Bool) → nat_le begin (j.silent_to + (p.ttd + slack)) ≡ d
+        → Silences p delay since trace (if c then record j { silent_from = if d then j.silent_from else j.quiet; silent_to = begin } else j) begin
+    by true w true y = record {
+      long = λ u v a some len h clear. (h, λ near. ⊎_elim
+          (λ (past : j.quiet < v). let l = behind_it u v a past clear in let f = s.from in omega (arith, l, f))
+          (λ (in_time : v ≤ j.quiet). (s.long u v a some len in_time clear).1 (omega (arith, late, near))) (cases_lt j.quiet v));
+      from = let f = s.from in omega (arith, f, late);
     }
-    by false w = let z = ltb-false (j.quiet + p.tsl) begin w in record {
-      long = λ u v a len h clear. ⊎_elim (λ (past : j.quiet < v). ⊎_elim (λ (early : u < j.quiet). absurd (solid u v a early past clear)) (λ (l : j.quiet ≤ u). absurd (omega (arith, l, len, h, z))) (cases_lt u j.quiet))
-          (λ (in_time : v ≤ j.quiet). s.long u v a len in_time clear) (cases_lt j.quiet v);
-      gap = s.gap;
-      by = let b = s.by in omega (arith, b, late);
+    by true w false y = let z = leb-false begin (j.silent_to + (p.ttd + slack)) y in record {
+      long = λ u v a some len h clear. (h, λ near. ⊎_elim
+          (λ (past : j.quiet < v). behind_it u v a past clear)
+          (λ (in_time : v ≤ j.quiet). let t = (s.long u v a some len in_time clear).0 in absurd (omega (arith, z, near, t))) (cases_lt j.quiet v));
+      from = late;
+    }
+    by false w d y = let z = leb-false (j.quiet + 6 * p.tsl) (begin + (p.ttd + slack)) w in record {
+      long = λ u v a some len h clear. ⊎_elim
+          (λ (past : j.quiet < v). let l = behind_it u v a past clear in absurd (omega (arith, l, len, h, z)))
+          (λ (in_time : v ≤ j.quiet). let t = s.long u v a some len in_time clear in (t.0, λ near. t.1 (omega (arith, late, near)))) (cases_lt j.quiet v);
+      from = let f = s.from in omega (arith, f, late);
     }
 
-pub silences_behind : (p : Params) (slack since : ℕ) (trace : List Entry) (j : State) (b : Burst) → since ≤ j.quiet → j.quiet ≤ b.begin → b.begin < b.end → EndsSolid p.ttd since trace j.quiet → IsSolid p.ttd trace b
-    → Silences p since trace j j.quiet → Silences p since trace (behind p slack j b) b.end
-silences_behind p slack since trace j b from late some solid full s =
-    let t = silences_before p since trace j b.begin from late solid s in record {
-      long = λ u v a len h clear. ⊎_elim (λ (past : b.begin < v). absurd (full u v (omega (arith, len)) (omega (arith, len, h)) past clear)) (λ (in_time : v ≤ b.begin). t.long u v a len in_time clear) (cases_lt b.begin v);
-      gap = t.gap;
-      by = let z = t.by in omega (arith, z, some);
+pub silences_behind : (p : Params) (slack delay since : ℕ) (trace : List Entry) (j : State) (b : Burst) → since ≤ j.quiet → j.quiet ≤ b.begin → b.begin < b.end → EndsSolid delay since trace j.quiet → IsSolid delay trace b
+    → Silences p delay since trace j j.quiet → Silences p delay since trace (behind p slack j b) b.end
+silences_behind p slack delay since trace j b start late some solid full s =
+    let t = silences_before p slack delay since trace j b.begin start late solid s in record {
+      long = λ u v a len time h clear. ⊎_elim (λ (past : b.begin < v). absurd (full u v len (omega (arith, len, h)) past clear))
+          (λ (in_time : v ≤ b.begin). let r = t.long u v a len time in_time clear in (r.0, λ near. r.1 (omega (arith, some, near)))) (cases_lt b.begin v);
+      from = let z = t.from in omega (arith, z, some);
     }
 
 -- and the end of a burst is one of those about which nothing is clear
@@ -117,9 +125,8 @@ burst_ends_solid delay since trace b some full u v a early late clear = full u v
 pub start_is_solid : (delay since : ℕ) (trace : List Entry) → EndsSolid delay since trace since
 start_is_solid delay since trace u v a early late clear = omega (arith, a, early)
 
-pub nothing_yet : (p : Params) (since : ℕ) (trace : List Entry) → Silences p since trace (listening since) since
-nothing_yet p since trace = record {
-  long = λ u v a len h clear. absurd (omega (arith, a, len, h));
-  gap = inr (refl, refl);
-  by = omega arith;
+pub nothing_yet : (p : Params) (delay since : ℕ) (trace : List Entry) → Silences p delay since trace (listening since) since
+nothing_yet p delay since trace = record {
+  long = λ u v a some len h clear. absurd (omega (arith, a, some, h));
+  from = omega arith;
 }

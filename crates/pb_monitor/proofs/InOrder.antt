@@ -79,19 +79,19 @@ claim_right None t claim = refl
 claim_right (Some last) t claim = ap (λ (b : Bool). if b || t.source == last.source then None else alarm_of_another last.offered t) claim
 
 telegram_right : (p : Params) (slack since : ℕ) (j : State) (begin : ℕ) (t : InitiatorTelegram) (o : Option InitiatorTelegram) → IsLast j.last o
-    → (if may_claim p slack since (silence_before p j begin) begin t then None else judged_last p slack (silence_before p j begin).last begin t) ≡ None
+    → (if may_claim p slack since (silence_before p slack j begin) begin t then None else judged_last p slack (silence_before p slack j begin).last begin t) ≡ None
     → alarm_after o t ≡ None
 telegram_right p slack since j begin t o same legal = by t.is_claim refl
   where
     by : (c : Bool) → t.is_claim ≡ c → alarm_after o t ≡ None
     by true claim = claim_right o t claim
     by false claim =
-        let s = silence_before p j begin in
+        let s = silence_before p slack j begin in
         let off : may_claim p slack since s begin t ≡ false =
         ap (λ (b : Bool). b && (nat_lt begin (since + (p.ttd + tto p t.source + slack))
         || (nat_le begin (s.silent_to + (p.ttd + slack)) && nat_le (s.silent_from + tto p t.source) (begin + slack)))) claim in
         last_right p slack j.last o begin t same claim
-        (ap (λ (l : Option LastHeard). judged_last p slack l begin t) (sym (same_last p j begin))
+        (ap (λ (l : Option LastHeard). judged_last p slack l begin t) (sym (same_last p slack j begin))
         ∙ sym (ap (λ (b : Bool). if b then None else judged_last p slack s.last begin t) off) ∙ legal)
 
 none_wrong : (p : Params) (slack since : ℕ) (j : State) (b : Burst) (o : Option InitiatorTelegram) → IsLast j.last o → legal_alarm_of p slack since j b ≡ None
@@ -99,8 +99,8 @@ none_wrong : (p : Params) (slack since : ℕ) (j : State) (b : Burst) (o : Optio
 none_wrong p slack since j b o same legal = by (initiates (arrival_of b.chars)) (is_none (arrival_of b.chars)) legal
   where
     by : (c d : Bool)
-        → (if c then (if may_claim p slack since (silence_before p j b.begin) b.begin (initiator_of (arrival_of b.chars)) then None
-        else judged_last p slack (silence_before p j b.begin).last b.begin (initiator_of (arrival_of b.chars))) else None) ≡ None
+        → (if c then (if may_claim p slack since (silence_before p slack j b.begin) b.begin (initiator_of (arrival_of b.chars)) then None
+        else judged_last p slack (silence_before p slack j b.begin).last b.begin (initiator_of (arrival_of b.chars))) else None) ≡ None
         → wrong_in o (if c then meaning.Initiator (initiator_of (arrival_of b.chars)) else if d then meaning.NoTelegram else meaning.Reply) ≡ None
     by true d i = ap (wrong_by (initiator_of (arrival_of b.chars))) (telegram_right p slack since j b.begin (initiator_of (arrival_of b.chars)) o same i)
     by false true i = refl

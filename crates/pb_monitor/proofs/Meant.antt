@@ -19,7 +19,7 @@ alarm_meant p slack c since j begin end chars a e =
     (by (initiates (arrival_of chars)) (is_none (arrival_of chars)))
   where
     by : (i n : Bool) → alarm_by p slack c since j begin (if i then meaning.Initiator (initiator_of (arrival_of chars)) else if n then meaning.NoTelegram else meaning.Reply)
-        ≡ (if i then judged p slack c since (silence_before p j begin) begin (initiator_of (arrival_of chars)) else None)
+        ≡ (if i then judged p slack c since (silence_before p slack j begin) begin (initiator_of (arrival_of chars)) else None)
     by true n = refl
     by false true = refl
     by false false = refl
@@ -31,7 +31,7 @@ behind_meant p slack j begin end chars a e =
     (by (initiates (arrival_of chars)) (is_none (arrival_of chars)))
   where
     by : (i n : Bool) → behind_by p slack j begin end (if i then meaning.Initiator (initiator_of (arrival_of chars)) else if n then meaning.NoTelegram else meaning.Reply)
-        ≡ record (silence_before p j begin) {
+        ≡ record (silence_before p slack j begin) {
           last = if i then Some (heard_at end (initiator_of (arrival_of chars))) else if n then None else touch p slack begin j.last;
           quiet = end;
           lost = not i && (j.lost || nat_lt (j.quiet + live p slack) begin);

@@ -18,7 +18,7 @@ use Rattle.pb_monitor.specs.declared.alarms.Classes.{Classes}
 use Rattle.pb_monitor.specs.declared.states.LastHeard.{LastHeard}
 use Rattle.pb_monitor.specs.declared.states.State.{State}
 use Rattle.pb_monitor.specs.Meanings.{source_of, is_claim_like, is_none, initiator_of}
-use Rattle.pb_monitor.specs.Judge.{touch, silence_before, last_behind, behind, may_claim, judged_legal, judged_last, alarm_of, alarms, listening}
+use Rattle.pb_monitor.specs.Judge.{touch, may_be_timeout, silent_since, silence_before, last_behind, behind, may_claim, judged_legal, judged_last, alarm_of, alarms, listening}
 use Rattle.pb_monitor.specs.Promises.{IsBySource, IsNotOfLegality}
 use Rattle.pb_monitor.proofs.Chosen.{AllLegal, not_of_legality, with_good}
 use Rattle.pb_monitor.proofs.Follows.{Follows, Knowing, follows_it}
@@ -105,7 +105,7 @@ LinkedLast p specs since trace q (Some l) = (since < l.end) × (l.end ≤ q) × 
 pub record Linked (p : Params) (specs : List TapSpec) (since : ℕ) (trace : List Entry) (j : State) : Type 0 where
   pub from : since ≤ j.quiet
   pub solid : EndsSolid p.ttd since trace j.quiet
-  pub silences : Silences p since trace j j.quiet
+  pub silences : Silences p p.ttd since trace j j.quiet
   pub last : LinkedLast p specs since trace j.quiet j.last
 
 -- what a trace says of each entry about a burst
@@ -116,10 +116,10 @@ pub record Around (p : Params) (specs : List TapSpec) (since : ℕ) (trace : Lis
   pub here : Has (Fills p.ttd b) trace
   pub facts : All (Facts specs p.ttd q b) trace
 
-pub same_last : (p : Params) (j : State) (begin : ℕ) → (silence_before p j begin).last ≡ j.last
-same_last p j begin = by (nat_lt (j.quiet + p.tsl) begin)
+pub same_last : (p : Params) (slack : ℕ) (j : State) (begin : ℕ) → (silence_before p slack j begin).last ≡ j.last
+same_last p slack j begin = by (may_be_timeout p slack j.quiet begin)
   where
-    by : (c : Bool) → (if c then record j { silent_from = j.quiet; silent_to = begin } else j).last ≡ j.last
+    by : (c : Bool) → (if c then record j { silent_from = silent_since p slack j begin; silent_to = begin } else j).last ≡ j.last
     by true = refl
     by false = refl
 
@@ -132,31 +132,31 @@ claim_for a n b h = by (claims_for n a) b h
 
 -- an initiator telegram raises no alarm
 pub none_at : (p : Params) (slack : ℕ) (specs : List TapSpec) (since : ℕ) (trace : List Entry) (j : State) (b : Burst) → 2 * p.ttd < p.tsl → ((n : ℕ) → 6 * p.tsl ≤ tto p n) → Linked p specs since trace j → Around p specs since trace j.quiet b
-    → initiates (arrival_of b.chars) ≡ true → first_illegal p specs trace ≡ None → judged_legal p slack since (silence_before p j b.begin) b.begin (initiator_of (arrival_of b.chars)) ≡ None
+    → initiates (arrival_of b.chars) ≡ true → first_illegal p specs trace ≡ None → judged_legal p slack since (silence_before p slack j b.begin) b.begin (initiator_of (arrival_of b.chars)) ≡ None
 none_at p slack specs since trace j b short least linked around init legal = by j.last refl linked.last
   where
     a : Arrival
     a = arrival_of b.chars
 
     i : State
-    i = silence_before p j b.begin
+    i = silence_before p slack j b.begin
 
-    silences : Silences p since trace i b.begin
-    silences = silences_before p since trace j b.begin linked.from around.late linked.solid linked.silences
+    silences : Silences p p.ttd since trace i b.begin
+    silences = silences_before p slack p.ttd since trace j b.begin linked.from around.late linked.solid linked.silences
 
     good : (l : LastHeard) → j.last ≡ Some l → (w r : Record) → Knows p specs trace w l → Fills p.ttd b (Sent r) → IsBySource specs (Sent r) → is_initiator r ≡ true → is_legal_after p specs trace (Some w) r ≡ true
         → judged_legal p slack since i b.begin (initiator_of a) ≡ None
     good l is w r knows fill source initiator h =
         let from : source_of a ≡ address_at specs r.tap = ap source_of fill.2 ∙ source initiator in
         subst (λ m. judged_legal p slack since i m (initiator_of a) ≡ None) (sym fill.0)
-        (legal_is_silent p slack specs trace since i w r l a (same_last p j b.begin ∙ is) knows from
+        (legal_is_silent p slack specs trace since i w r l a (same_last p slack j b.begin ∙ is) knows from
         (λ c. let d = claim_for (telegram_of r) (address_at specs r.tap) (is_silent p.ttd r.tap trace (r.begin - tto p (address_at specs r.tap)) r.begin) c in
-        claim_is_one p slack since trace i r.tap r.begin a short (least (source_of a)) (subst (λ m. Silences p since trace i m) fill.0 silences)
+        claim_is_one p slack since trace i r.tap r.begin a short (least (source_of a)) (subst (λ m. Silences p p.ttd since trace i m) fill.0 silences)
         (ap is_claim_like fill.2 ∙ claim_like (address_at specs r.tap) (telegram_of r) d.0)
         (subst (λ n. is_silent p.ttd r.tap trace (r.begin - tto p n) r.begin ≡ true) (sym from) d.1)) h)
 
     by : (o : Option LastHeard) → j.last ≡ o → LinkedLast p specs since trace j.quiet o → judged_legal p slack since i b.begin (initiator_of a) ≡ None
-    by None is k = by_test (λ (z : Option Alarm). z ≡ None) (may_claim p slack since i b.begin (initiator_of a)) None (judged_last p slack i.last b.begin (initiator_of a)) (λ _. refl) (λ _. ap (λ o. judged_last p slack o b.begin (initiator_of a)) (same_last p j b.begin ∙ is))
+    by None is k = by_test (λ (z : Option Alarm). z ≡ None) (may_claim p slack since i b.begin (initiator_of a)) None (judged_last p slack i.last b.begin (initiator_of a)) (λ _. refl) (λ _. ap (λ o. judged_last p slack o b.begin (initiator_of a)) (same_last p slack j b.begin ∙ is))
     by (Some l) is k =
         judge_at (judged_legal p slack since i b.begin (initiator_of a) ≡ None) p specs trace j.quiet 0 0 b (λ w. Knows p specs trace w l) None trace (good l is) init around.late around.some tt around.order around.facts k.2 around.here legal
 
@@ -219,12 +219,12 @@ legal_of p slack specs since trace j (b ∷ bs) short least order sources legal 
       legal_of p slack specs since trace (behind p slack j b) bs short least order sources legal (record {
         from = let f = linked.from in let l = heard.0 in let s = heard.1 in omega (arith, f, l, s);
         solid = burst_ends_solid p.ttd since trace b heard.1 is_of.solid;
-        silences = silences_behind p slack since trace j b linked.from heard.0 heard.1 linked.solid is_of.solid linked.silences;
+        silences = silences_behind p slack p.ttd since trace j b linked.from heard.0 heard.1 linked.solid is_of.solid linked.silences;
         last = last_left p slack specs since trace j b order sources linked heard.0 heard.1 heard.2 is_of;
       }) heard.4,
     )
   where
-    by : (d : Bool) → initiates (arrival_of b.chars) ≡ d → (if d then judged_legal p slack since (silence_before p j b.begin) b.begin (initiator_of (arrival_of b.chars)) else None) ≡ None
+    by : (d : Bool) → initiates (arrival_of b.chars) ≡ d → (if d then judged_legal p slack since (silence_before p slack j b.begin) b.begin (initiator_of (arrival_of b.chars)) else None) ≡ None
     by true init =
         let told = heard.3.told (spelled_by (arrival_of b.chars) init) in
         none_at p slack specs since trace j b short least linked (record { order = order; late = heard.0; some = heard.1; here = told.0; facts = facts_of specs p.ttd j.quiet b trace heard.2 told.1 sources }) init legal
@@ -239,7 +239,7 @@ all_legal p slack specs since trace bs short order sources legal heard =
     legal_of p slack specs since trace (listening since) bs short (least_timeout p) order sources legal (record {
       from = omega arith;
       solid = start_is_solid p.ttd since trace;
-      silences = nothing_yet p since trace;
+      silences = nothing_yet p p.ttd since trace;
       last = tt;
     }) heard
 

@@ -103,8 +103,17 @@ judged p slack c since j begin t =
 
 -- ---- one burst more
 
-abbrev pub silence_before : Params → State → ℕ → State
-silence_before p j begin = if nat_lt (j.quiet + p.tsl) begin then record j { silent_from = j.quiet; silent_to = begin } else j
+-- A silence that may be a time-out: the shortest is that of address 0, and noise may end it a cable delay before a claim.
+abbrev pub may_be_timeout : Params → (slack from to : ℕ) → Bool
+may_be_timeout p slack from to = nat_le (from + 6 * p.tsl) (to + (p.ttd + slack))
+
+-- Where the silence begins that is kept: where the one before it did, as long as a claim may still come after that one.
+abbrev pub silent_since : Params → (slack : ℕ) → State → ℕ → ℕ
+silent_since p slack j begin = if nat_le begin (j.silent_to + (p.ttd + slack)) then j.silent_from else j.quiet
+
+abbrev pub silence_before : Params → (slack : ℕ) → State → ℕ → State
+silence_before p slack j begin =
+    if may_be_timeout p slack j.quiet begin then record j { silent_from = silent_since p slack j begin; silent_to = begin } else j
 
 -- something begins in the part of a token's slot in which its speaker surely hears it
 abbrev pub touch : Params → (slack : ℕ) → ℕ → Option LastHeard → Option LastHeard
@@ -118,7 +127,7 @@ abbrev pub last_behind : Params → (slack : ℕ) → State → Burst → Arriva
 last_behind p slack j b a = if initiates a then Some (heard_at b.end (initiator_of a)) else if is_none a then None else touch p slack b.begin j.last
 
 abbrev pub behind : Params → (slack : ℕ) → State → Burst → State
-behind p slack j b = record (silence_before p j b.begin) {
+behind p slack j b = record (silence_before p slack j b.begin) {
   last = last_behind p slack j b (arrival_of b.chars);
   quiet = b.end;
   lost = not (initiates (arrival_of b.chars)) && (j.lost || nat_lt (j.quiet + live p slack) b.begin);
@@ -126,7 +135,7 @@ behind p slack j b = record (silence_before p j b.begin) {
 
 abbrev pub alarm_of : Params → (slack : ℕ) → Classes → (since : ℕ) → State → Burst → Option Alarm
 alarm_of p slack c since j b =
-    if initiates (arrival_of b.chars) then judged p slack c since (silence_before p j b.begin) b.begin (initiator_of (arrival_of b.chars)) else None
+    if initiates (arrival_of b.chars) then judged p slack c since (silence_before p slack j b.begin) b.begin (initiator_of (arrival_of b.chars)) else None
 
 -- the same by what a telegram means
 abbrev pub last_by : Params → (slack : ℕ) → State → (begin end : ℕ) → Meaning → Option LastHeard
@@ -140,14 +149,14 @@ initiates_by meaning.Reply = false
 initiates_by meaning.NoTelegram = false
 
 abbrev pub behind_by : Params → (slack : ℕ) → State → (begin end : ℕ) → Meaning → State
-behind_by p slack j begin end m = record (silence_before p j begin) {
+behind_by p slack j begin end m = record (silence_before p slack j begin) {
   last = last_by p slack j begin end m;
   quiet = end;
   lost = not (initiates_by m) && (j.lost || nat_lt (j.quiet + live p slack) begin);
 }
 
 abbrev pub alarm_by : Params → (slack : ℕ) → Classes → (since : ℕ) → State → ℕ → Meaning → Option Alarm
-alarm_by p slack c since j begin (meaning.Initiator t) = judged p slack c since (silence_before p j begin) begin t
+alarm_by p slack c since j begin (meaning.Initiator t) = judged p slack c since (silence_before p slack j begin) begin t
 alarm_by p slack c since j begin meaning.Reply = None
 alarm_by p slack c since j begin meaning.NoTelegram = None
 
@@ -169,4 +178,4 @@ alarms p slack c since j (b ∷ bs) = with_alarm b.begin (alarm_of p slack c sin
 -- the first illegal telegram
 abbrev pub legal_alarm_of : Params → (slack since : ℕ) → State → Burst → Option Alarm
 legal_alarm_of p slack since j b =
-    if initiates (arrival_of b.chars) then judged_legal p slack since (silence_before p j b.begin) b.begin (initiator_of (arrival_of b.chars)) else None
+    if initiates (arrival_of b.chars) then judged_legal p slack since (silence_before p slack j b.begin) b.begin (initiator_of (arrival_of b.chars)) else None

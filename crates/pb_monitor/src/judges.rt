@@ -119,14 +119,14 @@ impl Judge {
     #[inline(never)]
     fn alarm_of_claim(&self, begin: u64, telegram: InitiatorTelegram) -> Option<Alarm>
         ensures { result ≡ judge.judged self.now.params self.now.slack self.now.classes self.now.since
-            (judge.silence_before self.now.params self.now.state begin) begin telegram }
+            (judge.silence_before self.now.params self.now.slack self.now.state begin) begin telegram }
     {
         judged(
             &self.params,
             self.slack,
             self.classes,
             self.since,
-            silence_before(&self.params, self.state, begin),
+            silence_before(&self.params, self.slack, self.state, begin),
             begin,
             telegram,
         )

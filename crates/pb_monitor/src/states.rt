@@ -26,7 +26,7 @@ pub struct State {
     pub last: Option<LastHeard>,
     /// The end of the last burst, or the moment at which listening began.
     pub quiet: u64,
-    /// The begin of the last silence of more than a slot.
+    /// The begin of the last silence that may be a time-out; with a slack of two slots or more perhaps of one before it.
     pub silent_from: u64,
     /// The end of that silence.
     pub silent_to: u64,
@@ -61,8 +61,8 @@ pub(crate) fn hear(
 )
     ensures { state.new ≡ judge.behind_by params.now slack state.old begin end meaning }
 {
-    if is_sooner(state.quiet, u64::from(params.tsl()), begin, 0) {
-        state.silent_from = state.quiet;
+    if may_be_timeout(params, slack, state.quiet, begin) {
+        state.silent_from = silent_since(params, slack, *state, begin);
         state.silent_to = begin;
     }
     match meaning {
@@ -82,15 +82,15 @@ pub(crate) fn hear(
     state.quiet = end;
 }
 
-/// The state once a burst begins: it may end a silence of more than a slot.
-pub(crate) fn silence_before(params: &BusParams, state: State, begin: u64) -> State
-    ensures { result ≡ judge.silence_before params.now state begin }
+/// The state once a burst begins: it may end a silence that may be a time-out.
+pub(crate) fn silence_before(params: &BusParams, slack: u32, state: State, begin: u64) -> State
+    ensures { result ≡ judge.silence_before params.now slack state begin }
 {
-    if is_sooner(state.quiet, u64::from(params.tsl()), begin, 0) {
+    if may_be_timeout(params, slack, state.quiet, begin) {
         return State {
             last: state.last,
             quiet: state.quiet,
-            silent_from: state.quiet,
+            silent_from: silent_since(params, slack, state, begin),
             silent_to: begin,
             lost: state.lost,
         };
@@ -98,11 +98,30 @@ pub(crate) fn silence_before(params: &BusParams, state: State, begin: u64) -> St
     state
 }
 
+/// Whether a silence from one moment to another may be a time-out, of the station with the shortest.
+fn may_be_timeout(params: &BusParams, slack: u32, from: u64, to: u64) -> bool
+    ensures { result ≡ judge.may_be_timeout params.now slack from to }
+{
+    let late = u128::from(params.ttd()) + u128::from(slack);
+    u128::from(from) + 6 * u128::from(params.tsl()) <= u128::from(to) + late
+}
+
+/// Where a silence that may be a time-out begins, once something begins at a moment.
+fn silent_since(params: &BusParams, slack: u32, state: State, begin: u64) -> u64
+    ensures { result ≡ judge.silent_since params.now slack state begin }
+{
+    let late = u128::from(params.ttd()) + u128::from(slack);
+    if u128::from(begin) <= u128::from(state.silent_to) + late {
+        return state.silent_from;
+    }
+    state.quiet
+}
+
 /// Whether a silence from one moment to another is longer than any that a token in use leaves.
 pub(crate) fn is_past_live(params: &BusParams, slack: u32, from: u64, to: u64) -> bool
     ensures { result ≡ nat_lt (from + judge.live params.now slack) to }
 {
-    // Most silences are no longer than a slot, which callers test too.
+    // Most silences are no longer than a slot.
     is_sooner(from, u64::from(params.tsl()), to, 0) && is_sooner(from, live(params, slack), to, 0)
 }
 

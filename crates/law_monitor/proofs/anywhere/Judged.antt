@@ -33,13 +33,9 @@ use Rattle.law_monitor.proofs.timely.Fillers.{filler_has, known_before, same_las
 use Rattle.pb_monitor.proofs.Legal.{untouched}
 use Rattle.law_token.proofs.whole.Stays.{not_true_false}
 
--- the listener's parameters, with which it hears its own entries at once
-abbrev at_once : Params → Params
-at_once p = record p { ttd = 0 }
-
 -- ---- claims
 
-claim_here : (p : Params) (slack since : ℕ) (heard : List Entry) (j : State) (begin sent : ℕ) (a : Arrival) → 2 * p.ttd < p.tsl → 6 * p.tsl ≤ tto p (source_of a) → Silences (at_once p) since heard j begin → is_claim_like a ≡ true
+claim_here : (p : Params) (slack since : ℕ) (heard : List Entry) (j : State) (begin sent : ℕ) (a : Arrival) → 2 * p.ttd < p.tsl → 6 * p.tsl ≤ tto p (source_of a) → Silences p 0 since heard j begin → is_claim_like a ≡ true
     → sent ≤ begin → begin ≤ sent + p.ttd → (begin < p.ttd + tto p (source_of a)) ⊎ AllClear 0 (begin - tto p (source_of a)) sent heard → may_claim p slack since j begin (initiator_of a) ≡ true
 claim_here p slack since heard j begin sent a short least s claims before near silent =
     ap (λ b. b && (nat_lt begin (since + (p.ttd + timeout + slack)) || (nat_le begin (j.silent_to + (p.ttd + slack)) && nat_le (j.silent_from + timeout) (begin + slack)))) claims
@@ -48,20 +44,13 @@ claim_here p slack since heard j begin sent a short least s claims before near s
     timeout : ℕ
     timeout = tto p (source_of a)
 
-    long : (n : ℕ) → 6 * p.tsl ≤ n → since + (p.ttd + n) ≤ begin → (since ≤ begin - n) × (begin - n + p.tsl < sent)
-    long n a room = (omega (arith, room), omega (arith, a, room, near, short))
+    long : (n : ℕ) → 6 * p.tsl ≤ n → since + (p.ttd + n) ≤ begin → (since ≤ begin - n) × (begin - n < sent) × (begin - n + 6 * p.tsl ≤ sent + p.ttd)
+    long n a room = (omega (arith, room), omega (arith, a, room, near, short), omega (arith, a, room, near))
 
-    known : since + (p.ttd + timeout) ≤ begin → (sent ≤ j.silent_to) × (j.silent_from < sent → j.silent_from ≤ begin - timeout)
+    known : since + (p.ttd + timeout) ≤ begin → (sent ≤ j.silent_to) × (begin ≤ sent + p.ttd → j.silent_from ≤ begin - timeout)
     known room =
         let l = long timeout least room in
-        s.long (begin - timeout) sent l.0 l.1 before (⊎_elim (λ (early : begin < p.ttd + timeout). absurd (omega (arith, early, room))) (λ (c : AllClear 0 (begin - timeout) sent heard). c) silent)
-
-    later : since + (p.ttd + timeout) ≤ begin → j.silent_from < sent
-    later room = ⊎_elim (λ (l : j.silent_from + p.tsl < j.silent_to). let b = s.by in omega (arith, l, b, short, near))
-        (λ (z : (j.silent_from ≡ since) × (j.silent_to ≡ since)). let f = z.0 in at timeout least room f) s.gap
-      where
-        at : (n : ℕ) → 6 * p.tsl ≤ n → since + (p.ttd + n) ≤ begin → j.silent_from ≡ since → j.silent_from < sent
-        at n a room f = omega (arith, a, room, f, near, short)
+        s.long (begin - timeout) sent l.0 l.1 l.2 before (⊎_elim (λ (early : begin < p.ttd + timeout). absurd (omega (arith, early, room))) (λ (c : AllClear 0 (begin - timeout) sent heard). c) silent)
 
     by : (b : Bool) → nat_lt begin (since + (p.ttd + timeout + slack)) ≡ b → (b || (nat_le begin (j.silent_to + (p.ttd + slack)) && nat_le (j.silent_from + timeout) (begin + slack))) ≡ true
     by true e = refl
@@ -69,7 +58,7 @@ claim_here p slack since heard j begin sent a short least s claims before near s
         let z = ltb-false begin (since + (p.ttd + timeout + slack)) e in
         let room = fits timeout z in
         ap (λ b. b && nat_le (j.silent_from + timeout) (begin + slack)) (le-leb begin (j.silent_to + (p.ttd + slack)) (let h = (known room).0 in omega (arith, h, near)))
-        ∙ le-leb (j.silent_from + timeout) (begin + slack) (let h = (known room).1 (later room) in less timeout h room)
+        ∙ le-leb (j.silent_from + timeout) (begin + slack) (let h = (known room).1 near in less timeout h room)
       where
         fits : (n : ℕ) → since + (p.ttd + n + slack) ≤ begin → since + (p.ttd + n) ≤ begin
         fits n z = omega (arith, z)
@@ -163,7 +152,7 @@ LastHere p specs since heard told q (Some l) = (since < l.end) × (l.end ≤ q) 
 record LinkedHere (p : Params) (specs : List TapSpec) (since : ℕ) (heard told : List Entry) (j : State) : Type 0 where
   from : since ≤ j.quiet
   solid : EndsSolid 0 since heard j.quiet
-  silences : Silences (at_once p) since heard j j.quiet
+  silences : Silences p 0 since heard j j.quiet
   last : LastHere p specs since heard told j.quiet j.last
 
 -- what is known when a burst is judged
@@ -185,26 +174,26 @@ at_its : (b : Burst) (r : Record) → Fills 0 b (Sent r) → b.begin ≡ r.begin
 at_its b r f = let e = f.0 in omega (arith, e)
 
 claim_told : (p : Params) (slack : ℕ) (specs : List TapSpec) (delays : ℕ → ℕ) (since : ℕ) (heard told : List Entry) (j : State) (b : Burst) → JudgingHere p specs delays since heard told j b → (r : Record) → Fills 0 b (Sent r) → IsBySource specs (Sent r) → is_initiator r ≡ true
-    → ClaimHere p specs delays heard r → may_claim p slack since (silence_before p j b.begin) b.begin (initiator_of (arrival_of b.chars)) ≡ true
+    → ClaimHere p specs delays heard r → may_claim p slack since (silence_before p slack j b.begin) b.begin (initiator_of (arrival_of b.chars)) ≡ true
 claim_told p slack specs delays since heard told j b k r fill source initiator c =
     let a = arrival_of b.chars in
-    let i = silence_before p j b.begin in
+    let i = silence_before p slack j b.begin in
     let at = at_its b r fill in
     let from : address_at specs r.tap ≡ source_of a = sym (ap source_of fill.2 ∙ source initiator) in
     let near = c.near in
-    let silences : Silences (at_once p) since heard i b.begin = silences_before (at_once p) since heard j b.begin k.linked.from k.late k.linked.solid k.linked.silences in
+    let silences : Silences p 0 since heard i b.begin = silences_before p slack 0 since heard j b.begin k.linked.from k.late k.linked.solid k.linked.silences in
     subst (λ m. may_claim p slack since i m (initiator_of a) ≡ true) (sym at)
-    (claim_here p slack since heard i r.begin (r.begin - delays r.tap) a k.short (least_timeout p (source_of a)) (subst (λ m. Silences (at_once p) since heard i m) at silences)
+    (claim_here p slack since heard i r.begin (r.begin - delays r.tap) a k.short (least_timeout p (source_of a)) (subst (λ m. Silences p 0 since heard i m) at silences)
     (ap is_claim_like fill.2 ∙ claim_like (address_at specs r.tap) (telegram_of r) c.claims) (omega arith) (omega (arith, near))
     (subst (λ n. (r.begin < p.ttd + tto p n) ⊎ AllClear 0 (r.begin - tto p n) (r.begin - delays r.tap) heard) from c.silent))
 
 none_lost : (p : Params) (slack : ℕ) (specs : List TapSpec) (delays : ℕ → ℕ) (since : ℕ) (heard told : List Entry) (j : State) (b : Burst) → JudgingHere p specs delays since heard told j b
-    → may_claim p slack since (silence_before p j b.begin) b.begin (initiator_of (arrival_of b.chars)) ≡ false → nat_lt (j.quiet + live p slack) b.begin ≡ false
+    → may_claim p slack since (silence_before p slack j b.begin) b.begin (initiator_of (arrival_of b.chars)) ≡ false → nat_lt (j.quiet + live p slack) b.begin ≡ false
 none_lost p slack specs delays since heard told j b k unfit =
     filler_has (nat_lt (j.quiet + live p slack) b.begin ≡ false) (GoodHere p specs delays heard) specs 0 b None told k.init good k.sources k.here k.good
   where
     Fit : Bool
-    Fit = may_claim p slack since (silence_before p j b.begin) b.begin (initiator_of (arrival_of b.chars))
+    Fit = may_claim p slack since (silence_before p slack j b.begin) b.begin (initiator_of (arrival_of b.chars))
 
     by : (r : Record) → b.begin ≡ r.begin → NoLossHere p heard r → (z : Bool) → nat_lt (j.quiet + live p slack) b.begin ≡ z → z ≡ false
     by r at no_loss false e = refl
@@ -217,7 +206,7 @@ none_lost p slack specs delays since heard told j b k unfit =
         (λ (t : NoLossHere p heard r × FollowsHere p specs heard w (offered_to w) r). by r (at_its b r fill) t.0 (nat_lt (j.quiet + live p slack) b.begin) refl) h.1
 
 none_wrong : (p : Params) (slack : ℕ) (specs : List TapSpec) (delays : ℕ → ℕ) (since : ℕ) (heard told : List Entry) (j : State) (b : Burst) → JudgingHere p specs delays since heard told j b
-    → may_claim p slack since (silence_before p j b.begin) b.begin (initiator_of (arrival_of b.chars)) ≡ false
+    → may_claim p slack since (silence_before p slack j b.begin) b.begin (initiator_of (arrival_of b.chars)) ≡ false
     → (judged_last p slack j.last b.begin (initiator_of (arrival_of b.chars)) ≡ None) × (taking_last p slack j.last b.begin (initiator_of (arrival_of b.chars)) ≡ None)
 none_wrong p slack specs delays since heard told j b k unfit = by j.last k.linked.last
   where
@@ -233,17 +222,17 @@ none_wrong p slack specs delays since heard told j b k unfit = by j.last k.linke
         good : (w r : Record) → KnowsHere p specs heard w l → Fills 0 b (Sent r) → IsBySource specs (Sent r) → is_initiator r ≡ true → GoodHere p specs delays heard (Some w) r
             → (judged_offer p slack l l.offered b.begin (initiator_of a) ≡ None) × (taking_offer p slack l l.offered b.begin (initiator_of a) ≡ None)
         good w r knows fill source init h =
-            ⊎_elim (λ (c : ClaimHere p specs delays heard r). absurd (not_true_false (may_claim p slack since (silence_before p j b.begin) b.begin (initiator_of a)) (claim_told p slack specs delays since heard told j b k r fill source init c) unfit))
+            ⊎_elim (λ (c : ClaimHere p specs delays heard r). absurd (not_true_false (may_claim p slack since (silence_before p slack j b.begin) b.begin (initiator_of a)) (claim_told p slack specs delays since heard told j b k r fill source init c) unfit))
             (λ (t : NoLossHere p heard r × FollowsHere p specs heard w (offered_to w) r).
             subst (λ m. (judged_offer p slack l l.offered m (initiator_of a) ≡ None) × (taking_offer p slack l l.offered m (initiator_of a) ≡ None)) (sym (at_its b r fill))
             (follows_none p slack specs heard w r l a l.offered knows (ap source_of fill.2 ∙ source init) (sym knows.offered) (subst (λ o. FollowsHere p specs heard w o r) (sym knows.offered) t.1))) h.1
 
 none_judged : (p : Params) (slack : ℕ) (c : Classes) (specs : List TapSpec) (delays : ℕ → ℕ) (since : ℕ) (heard told : List Entry) (j : State) (b : Burst) → JudgingHere p specs delays since heard told j b
-    → judged p slack c since (silence_before p j b.begin) b.begin (initiator_of (arrival_of b.chars)) ≡ None
+    → judged p slack c since (silence_before p slack j b.begin) b.begin (initiator_of (arrival_of b.chars)) ≡ None
 none_judged p slack c specs delays since heard told j b k = by (may_claim p slack since i b.begin t) refl
   where
     i : State
-    i = silence_before p j b.begin
+    i = silence_before p slack j b.begin
 
     t : InitiatorTelegram
     t = initiator_of (arrival_of b.chars)
@@ -260,7 +249,7 @@ none_judged p slack c specs delays since heard told j b k = by (may_claim p slac
         → (if z then None else if c.loss && nat_lt (i.quiet + live p slack) b.begin then Some (lost_alarm t) else chosen c (judged_last p slack i.last b.begin t) (taking_last p slack i.last b.begin t)) ≡ None
     by true e = refl
     by false e =
-        let same = same_last p j b.begin in
+        let same = same_last p slack j b.begin in
         let none = none_wrong p slack specs delays since heard told j b k e in
         ap (λ n. if c.loss && nat_lt (n + live p slack) b.begin then Some (lost_alarm t) else chosen c (judged_last p slack i.last b.begin t) (taking_last p slack i.last b.begin t)) same.1
         ∙ ap (λ z. if c.loss && z then Some (lost_alarm t) else chosen c (judged_last p slack i.last b.begin t) (taking_last p slack i.last b.begin t)) (none_lost p slack specs delays since heard told j b k e)
@@ -319,9 +308,6 @@ last_left p slack specs delays since trace j b k linked late some clear is_of = 
 
 -- ---- all bursts
 
-silences_on : (p : Params) (slack since : ℕ) (heard : List Entry) (j : State) (b : Burst) → Silences (at_once p) since heard (behind (at_once p) slack j b) b.end → Silences (at_once p) since heard (behind p slack j b) b.end
-silences_on p slack since heard j b s = record { long = s.long; gap = s.gap; by = s.by }
-
 all_quiet : (p : Params) (slack : ℕ) (c : Classes) (specs : List TapSpec) (delays : ℕ → ℕ) (since : ℕ) (trace : List Entry) (j : State) (bs : List Burst) → Entries p specs delays trace
     → LinkedHere p specs since (map (as_heard delays) trace) (inits delays trace) j → HearsFrom 0 since (map (as_heard delays) trace) j.quiet bs → alarms p slack c since j bs ≡ []
 all_quiet p slack c specs delays since trace j [] k linked hears = refl
@@ -331,14 +317,14 @@ all_quiet p slack c specs delays since trace j (b ∷ bs) k linked hears =
     ∙ all_quiet p slack c specs delays since trace (behind p slack j b) bs k (record {
       from = let f = linked.from in let l = hears.0 in let s = hears.1 in omega (arith, f, l, s);
       solid = burst_ends_solid 0 since heard b hears.1 is_of.solid;
-      silences = silences_on p slack since heard j b (silences_behind (at_once p) slack since heard j b linked.from hears.0 hears.1 linked.solid is_of.solid linked.silences);
+      silences = silences_behind p slack 0 since heard j b linked.from hears.0 hears.1 linked.solid is_of.solid linked.silences;
       last = last_left p slack specs delays since trace j b k linked hears.0 hears.1 hears.2 is_of;
     }) hears.4
   where
     heard : List Entry
     heard = map (as_heard delays) trace
 
-    by : (d : Bool) → initiates (arrival_of b.chars) ≡ d → (if d then judged p slack c since (silence_before p j b.begin) b.begin (initiator_of (arrival_of b.chars)) else None) ≡ None
+    by : (d : Bool) → initiates (arrival_of b.chars) ≡ d → (if d then judged p slack c since (silence_before p slack j b.begin) b.begin (initiator_of (arrival_of b.chars)) else None) ≡ None
     by true init =
         let told = hears.3.told (spelled_by (arrival_of b.chars) init) in
         none_judged p slack c specs delays since heard (inits delays trace) j b (record {
@@ -359,7 +345,7 @@ all_quiet p slack c specs delays since trace j (b ∷ bs) k linked hears =
 pub heard_raises_none : (p : Params) (slack : ℕ) (c : Classes) (specs : List TapSpec) (delays : ℕ → ℕ) (since : ℕ) (trace : List Entry) (bs : List Burst) → 2 * p.ttd < p.tsl → IsOrderedFrom 0 (inits delays trace)
     → All (IsBySource specs) (inits delays trace) → Successive (GoodHere p specs delays (map (as_heard delays) trace)) None (inits delays trace) → HearsSince 0 since (map (as_heard delays) trace) bs → alarms p slack c since (listening since) bs ≡ []
 heard_raises_none p slack c specs delays since trace bs short order sources good hears =
-    ⊎_elim (λ (h : Hears 0 since heard bs). all_quiet p slack c specs delays since trace (listening since) bs k (record { from = omega arith; solid = start_is_solid 0 since heard; silences = nothing_yet (at_once p) since heard; last = tt }) h)
+    ⊎_elim (λ (h : Hears 0 since heard bs). all_quiet p slack c specs delays since trace (listening since) bs k (record { from = omega arith; solid = start_is_solid 0 since heard; silences = nothing_yet p 0 since heard; last = tt }) h)
     (λ (h : HearsAmid 0 since heard bs). amid bs h) hears
   where
     heard : List Entry
@@ -377,6 +363,6 @@ heard_raises_none p slack c specs delays since trace bs short order sources good
         ∙ all_quiet p slack c specs delays since trace (behind p slack (listening since) b) bs k (record {
           from = omega (arith, late, some);
           solid = burst_ends_solid 0 since heard b some h.3;
-          silences = silences_on p slack since heard (listening since) b (silences_behind (at_once p) slack since heard (listening since) b (omega arith) late some (start_is_solid 0 since heard) h.3 (nothing_yet (at_once p) since heard));
+          silences = silences_behind p slack 0 since heard (listening since) b (omega arith) late some (start_is_solid 0 since heard) h.3 (nothing_yet p 0 since heard);
           last = subst (LastHere p specs since heard (inits delays trace) b.end) (sym (blind_last p slack since b h.2)) tt;
         }) h.4

@@ -27,7 +27,7 @@ linked_all p slack specs since trace j (b ∷ bs) order sources linked heard =
     linked_all p slack specs since trace (behind p slack j b) bs order sources (record {
       from = let f = linked.from in let l = heard.0 in let s = heard.1 in omega (arith, f, l, s);
       solid = burst_ends_solid p.ttd since trace b heard.1 is_of.solid;
-      silences = silences_behind p slack since trace j b linked.from heard.0 heard.1 linked.solid is_of.solid linked.silences;
+      silences = silences_behind p slack p.ttd since trace j b linked.from heard.0 heard.1 linked.solid is_of.solid linked.silences;
       last = last_left p slack specs since trace j b order sources linked heard.0 heard.1 heard.2 is_of;
     }) heard.4
 
@@ -39,14 +39,14 @@ amid_all p slack specs since trace (b ∷ bs) order sources heard =
     linked_all p slack specs since trace (behind p slack (listening since) b) bs order sources (record {
       from = omega (arith, late, some);
       solid = burst_ends_solid p.ttd since trace b some heard.3;
-      silences = silences_behind p slack since trace (listening since) b (omega arith) late some (start_is_solid p.ttd since trace) heard.3 (nothing_yet p since trace);
+      silences = silences_behind p slack p.ttd since trace (listening since) b (omega arith) late some (start_is_solid p.ttd since trace) heard.3 (nothing_yet p p.ttd since trace);
       last = subst (LinkedLast p specs since trace b.end) (sym (blind_last p slack since b heard.2)) tt;
     }) heard.4
 
 pub linked_after : (p : Params) (slack : ℕ) (specs : List TapSpec) (since : ℕ) (trace : List Entry) (bs : List Burst) → IsOrdered trace → All (IsBySource specs) trace → HearsSince p.ttd since trace bs → Linked p specs since trace (behind_all p slack (listening since) bs)
 linked_after p slack specs since trace bs order sources heard =
     ⊎_elim
-    (λ (h : Hears p.ttd since trace bs). linked_all p slack specs since trace (listening since) bs order sources (record { from = omega arith; solid = start_is_solid p.ttd since trace; silences = nothing_yet p since trace; last = tt }) h)
+    (λ (h : Hears p.ttd since trace bs). linked_all p slack specs since trace (listening since) bs order sources (record { from = omega arith; solid = start_is_solid p.ttd since trace; silences = nothing_yet p p.ttd since trace; last = tt }) h)
     (λ (h : HearsAmid p.ttd since trace bs). amid_all p slack specs since trace bs order sources h) heard
 
 -- ---- the same of a trace with one telegram more, that comes later than all
