@@ -1,7 +1,7 @@
 -- What is known of a bus after some bursts: what is counted for the bus and for each station. Each count is what it was
 -- before the last burst, or one more.
 use Rattle.std.specs.Cmp.Lexicographic.{pointwise}
-use Rattle.std.specs.Prelude.{nat_eq, ℕ, ◌+◌, ◌-◌, ◌*◌, ◌/◌, ◌%◌, ◌^◌, ◌==◌, ◌&&◌, not, Bool, true, false, if◌then◌else◌, min, max, nat_lt, List, [], map, Option, Some, None, option_map, replicate, slice_get, slice_set, Result, Ok, Err}
+use Rattle.std.specs.Prelude.{nat_eq, ℕ, ◌+◌, ◌-◌, ◌*◌, ◌/◌, ◌%◌, ◌^◌, ◌==◌, ◌&&◌, ◌||◌, not, Bool, true, false, if◌then◌else◌, min, max, nat_lt, List, [], map, Option, Some, None, option_map, replicate, slice_get, slice_set, Result, Ok, Err}
 use Rattle.pb_cycles.specs.Requests.{asked_by, is_answered}
 use Rattle.pb_cycles.specs.declared.services.Asked.{Asked}
 use Rattle.pb_cycles.specs.declared.services.Asked.TheVariants.{Send, Status, Unknown}
@@ -53,9 +53,27 @@ spread_with bits s = record {
   greatest = max s.greatest bits;
 }
 
--- a duration of which the moments are known
-abbrev pub spread_if : (timed : Bool) → ℕ → Spread → Spread
-spread_if timed bits s = if timed then spread_with bits s else s
+-- a duration, if it is known
+abbrev pub spread_some : Option ℕ → Spread → Spread
+spread_some None s = s
+spread_some (Some bits) s = spread_with bits s
+
+-- ---- moments that may not be known
+
+-- the moment of a burst, if the capture gives it
+abbrev pub known_at : (timed : Bool) → ℕ → Option ℕ
+known_at timed moment = if timed then Some moment else None
+
+-- how long after the end of an earlier telegram a burst begins, if both moments are known
+abbrev pub bits_since : (timed : Bool) → (end : Option ℕ) → (begin : ℕ) → Option ℕ
+bits_since false end begin = None
+bits_since true None begin = None
+bits_since true (Some end) begin = Some (begin - end)
+
+-- a duration is less than a limit, or it is not known
+abbrev pub is_under : (unknown : Bool) → Option ℕ → (limit : ℕ) → Bool
+is_under unknown None limit = unknown
+is_under unknown (Some bits) limit = nat_lt bits limit
 
 -- ---- what is counted for a station
 
@@ -70,13 +88,14 @@ abbrev pub rotation_to : ℕ → Option ℕ → Spread → Spread
 rotation_to moment None s = s
 rotation_to moment (Some before) s = spread_with (moment - before) s
 
--- it received the token at a moment
-abbrev pub received : ℕ → Station → Station
-received moment s = record s { rotation = rotation_to moment s.receipt s.rotation; receipt = Some moment }
+-- It received the token at a moment. Where that is not known, neither this rotation nor the next one has a duration.
+abbrev pub received : Option ℕ → Station → Station
+received None s = record s { receipt = None }
+received (Some moment) s = record s { rotation = rotation_to moment s.receipt s.rotation; receipt = Some moment }
 
 -- it received the token that ended at a moment, and spoke first some time later
-abbrev pub took : (end bits : ℕ) → Station → Station
-took end bits s = record (received end s) { taking = spread_with bits s.taking }
+abbrev pub took : (end bits : Option ℕ) → Station → Station
+took end bits s = record (received end s) { taking = spread_some bits s.taking }
 
 -- a token to it was sent again after its slot
 abbrev pub not_taken : Station → Station
@@ -91,7 +110,7 @@ abbrev pub sent_token : (to_itself claims timed : Bool) → (end : ℕ) → Stat
 sent_token to_itself claims timed end s =
     let sent = record s { tokens = one_more s.tokens; role = role.MasterInRing } in
     if claims then record sent { claims = one_more s.claims }
-    else if to_itself && timed then received end sent
+    else if to_itself then received (known_at timed end) sent
     else sent
 
 -- it sent a request, perhaps for a status
@@ -119,8 +138,8 @@ role_by None r = r
 role_by (Some h) r = role_of (h.fc / 16 % 4)
 
 -- it replied, some time after the request
-abbrev pub replied : (timed : Bool) → (end bits : ℕ) → Option Head → Station → Station
-replied timed end bits head s = record (noted timed end s) { replying = spread_if timed bits s.replying; role = role_by head s.role }
+abbrev pub replied : (timed : Bool) → (end : ℕ) → (bits : Option ℕ) → Option Head → Station → Station
+replied timed end bits head s = record (noted timed end s) { replying = spread_some bits s.replying; role = role_by head s.role }
 
 abbrev pub without_receipt : Station → Station
 without_receipt s = record s { receipt = None }
@@ -139,7 +158,8 @@ changed_at a f stations = with_changed a f stations (slice_get stations a)
 
 -- What is known: the times of the bus, if its parameters are; the list of active stations; the octets of the last token
 -- or request, if nothing was missed since; a token to another station that nobody has taken yet; a request that wants
--- an answer; the end of the last burst, if nothing was missed since; and whether it had moments.
+-- an answer; the end of the last burst, if nothing was missed since; and whether it had moments, or nothing has come since
+-- something was missed.
 pub record Known : Type 0 where
   pub limits : Option Limits
   pub traffic : Traffic
@@ -167,17 +187,17 @@ abbrev pub is_awaited : Option Open → Bool
 is_awaited None = false
 is_awaited (Some o) = is_waiting o.answer
 
--- a moment is in the slot of a token that nobody has taken
-abbrev pub is_in_slot : Option Limits → Option Offer → (begin : ℕ) → Bool
-is_in_slot None offer begin = false
-is_in_slot (Some l) None begin = false
-is_in_slot (Some l) (Some o) begin = nat_lt (begin - o.end) l.tsl
+-- A burst is in the slot of a token that nobody has taken. Without moments each is.
+abbrev pub is_in_slot : Option Limits → (timed : Bool) → Option Offer → (begin : ℕ) → Bool
+is_in_slot None timed offer begin = false
+is_in_slot (Some l) timed None begin = false
+is_in_slot (Some l) timed (Some o) begin = is_under true (bits_since timed o.end begin) l.tsl
 
 -- A token that is sent again from a moment on could still be taken: its slot is not over. Without moments nobody can tell.
 abbrev pub is_early : Option Limits → (timed : Bool) → Option Offer → (begin : ℕ) → Bool
 is_early None timed offer begin = false
 is_early (Some l) timed None begin = false
-is_early (Some l) timed (Some o) begin = timed && nat_lt (begin - o.end) l.early
+is_early (Some l) timed (Some o) begin = is_under false (bits_since timed o.end begin) l.early
 
 -- A token to itself that begins at a moment is the first of a claim: after a silence that no token in use leaves, or as
 -- the first burst that has moments.
@@ -205,7 +225,7 @@ without_telegrams k = record k { request = None; offer = None; last = []; statio
 
 -- what came before is forgotten: something was missed
 abbrev pub forgotten : Known → Known
-forgotten k = record (without_telegrams k) { quiet = None }
+forgotten k = record (without_telegrams k) { quiet = None; timed = true }
 
 -- ---- a burst without a telegram
 
@@ -214,7 +234,7 @@ abbrev pub damaged_with : Known → (before : Option ℕ) → (begin : ℕ) → 
 damaged_with k before begin d =
     if is_over k.limits before begin then record d { after_loss = one_more d.after_loss }
     else if is_awaited k.request then record d { replying = one_more d.replying }
-    else if is_in_slot k.limits k.offer begin then record d { taking = one_more d.taking }
+    else if is_in_slot k.limits k.timed k.offer begin then record d { taking = one_more d.taking }
     else record d { other = one_more d.other }
 
 abbrev pub damage : Answer → Answer
@@ -222,20 +242,24 @@ damage Awaited = Damaged
 damage Good = Good
 damage Damaged = Damaged
 
-abbrev pub damaged_open : Option Open → Option Open
-damaged_open None = None
-damaged_open (Some o) = Some (record o { answer = damage o.answer })
+-- damage in place of the answer to a request: not once the silence before it is longer than a slot can be
+abbrev pub damaged_open : (over : Bool) → Option Open → Option Open
+damaged_open over None = None
+damaged_open over (Some o) = Some (if over then o else record o { answer = damage o.answer })
 
 abbrev pub heard_damage : (before : Option ℕ) → (begin : ℕ) → Known → Known
 heard_damage before begin k =
-    without_telegrams (closed (record k { traffic = record k.traffic { damaged = damaged_with k before begin k.traffic.damaged }; request = damaged_open k.request }))
+    without_telegrams (closed (record k {
+      traffic = record k.traffic { damaged = damaged_with k before begin k.traffic.damaged };
+      request = damaged_open (is_over k.limits before begin) k.request;
+    }))
 
 -- ---- a token or a request
 
 -- a token that was offered: the station takes it, if it is the next to speak; else it may be sent again after its slot
 abbrev pub taken_by : Offer → (begin : ℕ) → InitiatorTelegram → (untaken timed : Bool) → List Station → List Station
 taken_by o begin said untaken timed stations =
-    if o.to == said.source then (if not said.is_claim && timed then changed_at o.to (took o.end (begin - o.end)) stations else stations)
+    if o.to == said.source then (if said.is_claim then stations else changed_at o.to (took o.end (bits_since timed o.end begin)) stations)
     else if untaken then changed_at o.to not_taken stations
     else stations
 
@@ -247,7 +271,7 @@ taken (Some o) begin said untaken timed stations = taken_by o begin said untaken
 abbrev pub is_untaken : Known → (begin : ℕ) → (again : Bool) → Bool
 is_untaken k begin again = again && not (is_early k.limits k.timed k.offer begin)
 
-abbrev pub offer_to : (end : ℕ) → Option ℕ → Option Offer
+abbrev pub offer_to : (end : Option ℕ) → Option ℕ → Option Offer
 offer_to end to = option_map (λ (a : ℕ). record { to = a; end = end }) to
 
 -- a first claim forgets when stations received the token
@@ -265,10 +289,10 @@ is_poll (Send service priority) = false
 is_poll Status = true
 is_poll Unknown = false
 
-abbrev pub request_of : Head → (end : ℕ) → Open
+abbrev pub request_of : Head → (end : Option ℕ) → Open
 request_of h end = record { source = h.sa % 128; to = h.da % 128; end = end; answer = Awaited }
 
-abbrev pub open_behind : Head → (end : ℕ) → Asked → Option Open → Option Open
+abbrev pub open_behind : Head → (end : Option ℕ) → Asked → Option Open → Option Open
 open_behind h end a before = if wants_answer a then Some (request_of h end) else before
 
 abbrev pub polled_by : (poll : Bool) → (to : ℕ) → List Station → List Station
@@ -277,7 +301,7 @@ polled_by poll to stations = if poll then changed_at to was_polled stations else
 abbrev pub heard_request : Head → (end : ℕ) → Asked → Known → Known
 heard_request h end a k = record k {
   stations = polled_by (is_poll a) (h.da % 128) (changed_at (h.sa % 128) (asked (is_poll a)) k.stations);
-  request = open_behind h end a k.request;
+  request = open_behind h (known_at k.timed end) a k.request;
 }
 
 abbrev pub heard_token : (sa da end : ℕ) → InitiatorTelegram → (claims : Bool) → Known → Known
@@ -304,7 +328,7 @@ is_again k t said = pointwise nat_eq k.last (spelling t) && not said.is_claim
 abbrev pub heard_sender : (begin end : ℕ) → Telegram → InitiatorTelegram → (again : Bool) → Known → Known
 heard_sender begin end t said again k = record k {
   last = spelling t;
-  offer = offer_to end said.offered;
+  offer = offer_to (known_at k.timed end) said.offered;
   stations = changed_at said.source (initiated k.timed again end) (taken k.offer begin said (is_untaken k begin again) k.timed k.stations);
 }
 
@@ -323,7 +347,7 @@ abbrev pub answered_by : (begin end : ℕ) → Option Head → Open → Known �
 answered_by begin end head o k =
     if is_waiting o.answer && answers o head then record k {
       request = Some (record o { answer = Good });
-      stations = changed_at o.to (replied k.timed end (begin - o.end) head) k.stations;
+      stations = changed_at o.to (replied k.timed end (bits_since k.timed o.end begin) head) k.stations;
     } else k
 
 abbrev pub answered : (begin end : ℕ) → Option Head → Option Open → Known → Known
@@ -351,10 +375,16 @@ abbrev pub first_with : ℕ → Option ℕ → Option ℕ
 first_with begin None = Some begin
 first_with begin (Some first) = Some first
 
+-- from the end of the burst before, if it is known, to the end of this one
+abbrev pub span_with : (before : Option ℕ) → (begin end : ℕ) → ℕ
+span_with None begin end = end - begin
+span_with (Some before) begin end = end - before
+
 abbrev pub traffic_with : (before : Option ℕ) → (begin end : ℕ) → Traffic → Traffic
 traffic_with before begin end t = record t {
   bursts = one_more t.bursts;
   busy = plus t.busy (end - begin);
+  span = plus t.span (span_with before begin end);
   first = first_with begin t.first;
   last = Some end;
   longest_silence = longest_with begin before t.longest_silence;
@@ -389,6 +419,7 @@ new_traffic = record {
   first = None;
   last = None;
   busy = 0;
+  span = 0;
   bursts = 0;
   damaged = record { after_loss = 0; taking = 0; replying = 0; other = 0 };
   longest_silence = 0;
@@ -406,25 +437,37 @@ new_known params slack = record {
   offer = None;
   request = None;
   quiet = None;
-  timed = false;
+  timed = true;
 }
 
 -- how many bursts without a telegram there are in all places
 abbrev pub damage_of : damaged.Damaged → ℕ
 damage_of d = plus (plus (plus d.after_loss d.taking) d.replying) d.other
 
--- the load of the bus in tenths of a percent, from the first burst to the end of the last
-abbrev pub load_in : (busy span : ℕ) → ℕ
-load_in busy span = if span == 0 then 0 else min (busy * 1000 / span) 1000
+-- a burst had moments, or none has come yet
+abbrev pub is_known : Option ℕ → Bool
+is_known None = false
+is_known (Some moment) = true
 
-abbrev pub load_of : (busy : ℕ) → (first last : Option ℕ) → ℕ
-load_of busy None last = 0
-load_of busy (Some first) None = 0
-load_of busy (Some first) (Some last) = load_in busy (last - first)
+abbrev pub has_moments : Traffic → Bool
+has_moments t = is_known t.first || t.bursts == 0
+
+-- the load of the bus in tenths of a percent, of the stretches in which all moments are known
+abbrev pub load_of : (busy span : ℕ) → ℕ
+load_of busy span = if span == 0 then 0 else min (busy * 1000 / span) 1000
+
+-- The end of the burst before one that begins at a moment, if nothing was missed. After a burst without moments no
+-- silence is known: as if it had ended at that moment.
+abbrev pub before_of : Known → (begin : ℕ) → Option ℕ
+before_of k begin = if k.timed then k.quiet else Some begin
 
 -- a burst with moments
+abbrev pub heard_behind : (before : Option ℕ) → Burst → Known → Known
+heard_behind before b k =
+    record (heard_telegram before b.begin b.end b.telegram (record k { timed = true; traffic = traffic_with before b.begin b.end k.traffic })) { quiet = Some b.end }
+
 abbrev pub heard : Burst → Known → Known
-heard b k = record (heard_telegram k.quiet b.begin b.end b.telegram (record k { timed = true; traffic = traffic_with k.quiet b.begin b.end k.traffic })) { quiet = Some b.end }
+heard b k = heard_behind (before_of k b.begin) b k
 
 -- a burst of which no moments are known
 abbrev pub heard_untimed : Burst → Known → Known

@@ -53,6 +53,8 @@ pub(crate) enum Unjudged {
     RawOctets,
     /// No class of alarms was chosen.
     NoClass,
+    /// No burst has moments, and only classes that need them were chosen.
+    NoMoments,
 }
 
 impl Unjudged {
@@ -64,20 +66,28 @@ impl Unjudged {
             Unjudged::NoParameters => "alarms not judged (no parameters)",
             Unjudged::RawOctets => "alarms not judged (raw octets)",
             Unjudged::NoClass => "alarms not judged (no class chosen)",
+            Unjudged::NoMoments => "alarms not judged (no moments)",
         }
     }
 }
 
 /// Why no telegram of a capture is judged, if none is.
-pub(crate) fn why_unjudged(is_bus_known: bool, form: Form, classes: Classes) -> Option<Unjudged>
-    ensures { result ≡ unjudged_by is_bus_known form classes }
+pub(crate) fn why_unjudged(
+    is_bus_known: bool,
+    form: Form,
+    classes: Classes,
+    has_moments: bool,
+) -> Option<Unjudged>
+    ensures { result ≡ unjudged_by is_bus_known form classes has_moments }
 {
     if !is_bus_known {
         return Some(Unjudged::NoParameters);
     }
     match form {
         Form::Raw => Some(Unjudged::RawOctets),
-        Form::Lines | Form::Pcap if classes.legality || classes.loss || classes.timing => None,
-        Form::Lines | Form::Pcap => Some(Unjudged::NoClass),
+        Form::Lines | Form::Pcap if classes.legality => None,
+        Form::Lines | Form::Pcap if !classes.loss && !classes.timing => Some(Unjudged::NoClass),
+        Form::Lines | Form::Pcap if has_moments => None,
+        Form::Lines | Form::Pcap => Some(Unjudged::NoMoments),
     }
 }

@@ -511,6 +511,8 @@ impl Monitor {
         {
             let Options { classes, slack, .. } = self.options;
             self.judge = Some(Judge::new(params, slack, classes, begin));
+            // What comes between bursts without moments is not judged by their order.
+            self.order = Order::new();
         }
     }
 
@@ -622,7 +624,8 @@ impl Monitor {
     /// Appends a summary in the form that is asked for.
     fn push_summary(&mut self, text: &mut Vec<u8>) -> Result<(), AllocError> {
         let Options { form, classes, .. } = self.options;
-        let unjudged = why_unjudged(self.params.is_some(), form, classes);
+        let has_moments = self.statistics.traffic().has_moments();
+        let unjudged = why_unjudged(self.params.is_some(), form, classes, has_moments);
         let form = self.options.summary;
         match &mut self.apart {
             Some(kept) => push_summary(kept, &self.statistics, unjudged, form),

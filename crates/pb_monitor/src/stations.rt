@@ -4,6 +4,7 @@ ghost use Rattle.std.specs.Prelude.{◌≡◌};
 ghost use Rattle.pb_monitor.specs.Known.{one_more, one_if, asked, initiated, new_station, noted, received, replied, role_of, sent_token, took};
 
 use crate::spreads::Spread;
+use crate::statistics::known_at;
 use pb_telegram::{Fc, Head};
 
 /// What a station has shown itself to be.
@@ -120,22 +121,26 @@ impl Station {
         }
     }
 
-    /// Notes that it received the token at a moment.
-    pub(crate) fn receive(&mut self, moment: u64)
+    /// Notes that it received the token at a moment, if that is known.
+    pub(crate) fn receive(&mut self, moment: Option<u64>)
         ensures { self.new ≡ received moment self.old }
     {
-        if let Some(before) = self.receipt {
+        if let Some(moment) = moment
+            && let Some(before) = self.receipt
+        {
             self.rotation.add(moment.saturating_sub(before));
         }
-        self.receipt = Some(moment);
+        self.receipt = moment;
     }
 
-    /// It received the token that ended at a moment, and spoke first some bit times later.
-    pub(crate) fn take(&mut self, end: u64, bits: u64)
+    /// It received the token that ended at a moment, and spoke first some bit times later, as far as that is known.
+    pub(crate) fn take(&mut self, end: Option<u64>, bits: Option<u64>)
         ensures { self.new ≡ took end bits self.old }
     {
         self.receive(end);
-        self.taking.add(bits);
+        if let Some(bits) = bits {
+            self.taking.add(bits);
+        }
     }
 
     /// It sent a token or a request that ended at a moment, perhaps the last one again.
@@ -154,8 +159,8 @@ impl Station {
         self.role = Role::MasterInRing;
         if is_claim {
             self.claims = one_more(self.claims);
-        } else if to_itself && is_timed {
-            self.receive(end);
+        } else if to_itself {
+            self.receive(known_at(is_timed, end));
         }
     }
 
@@ -167,12 +172,12 @@ impl Station {
         self.polls = one_if(is_poll, self.polls);
     }
 
-    /// It sent a reply that ended at a moment, some bit times after the request.
-    pub(crate) fn reply(&mut self, end: u64, is_timed: bool, bits: u64, head: Option<Head>)
+    /// It sent a reply that ended at a moment, some bit times after the request, if that is known.
+    pub(crate) fn reply(&mut self, end: u64, is_timed: bool, bits: Option<u64>, head: Option<Head>)
         ensures { self.new ≡ replied is_timed end bits head self.old }
     {
         self.note(end, is_timed);
-        if is_timed {
+        if let Some(bits) = bits {
             self.replying.add(bits);
         }
         if self.role != Role::MasterInRing

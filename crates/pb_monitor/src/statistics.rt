@@ -3,7 +3,7 @@
 ghost use Rattle.std.specs.Prelude.{◌≡◌, option_map};
 ghost use Rattle.pb_telegram.specs.Grammar.{spelling};
 ghost use Rattle.pb_telegram.specs.Heads.{head_of};
-ghost use Rattle.pb_monitor.specs.Known.{answers, damaged_open, is_awaited, is_early, is_in_slot, is_over, wants_answer};
+ghost use Rattle.pb_monitor.specs.Known.{answers, bits_since, damaged_open, is_awaited, is_early, is_in_slot, is_over, is_under, known_at, wants_answer};
 
 use crate::bursts::{Burst, octets_of};
 use crate::meanings::{InitiatorTelegram, Meaning, meaning_in, passed};
@@ -26,7 +26,8 @@ pub(crate) const STATIONS: usize = 127;
 #[derive(Clone, Copy, Debug)]
 pub(crate) struct Offer {
     pub to: u8,
-    pub end: u64,
+    /// When it ended, if that is known.
+    pub end: Option<u64>,
 }
 
 /// A request that wants an answer.
@@ -34,7 +35,8 @@ pub(crate) struct Offer {
 pub(crate) struct Open {
     pub source: u8,
     pub to: u8,
-    pub end: u64,
+    /// When it ended, if that is known.
+    pub end: Option<u64>,
     pub answer: Answer,
 }
 
@@ -71,7 +73,7 @@ pub struct Statistics {
     request: Option<Open>,
     /// The end of the last burst, if nothing was missed since.
     quiet: Option<u64>,
-    /// Whether the moments of the last burst are known.
+    /// Whether the moments of the last burst are known, or nothing has come since something was missed.
     is_timed: bool,
 }
 
@@ -98,7 +100,7 @@ impl Statistics {
     ghost use Rattle.std.specs.Prelude.{◌≡◌, ◌<◌, ◌&&◌, IfOk, Ok, Some, None, slice_get};
     ghost use Rattle.pb_ring.specs.AddressSets.{is_member};
     ghost use Rattle.pb_ring.specs.Las.{is_complete, members_of};
-    ghost use Rattle.pb_monitor.specs.Known.{alarmed, answered, changed_at, closed, begins_claim, forgotten, heard, heard_damage, heard_head, heard_sender, heard_telegram, heard_untimed, initiated, is_again, is_untaken, new_known, offer_to, refused, taken, without_telegrams};
+    ghost use Rattle.pb_monitor.specs.Known.{alarmed, answered, changed_at, closed, begins_claim, known_at, forgotten, heard, heard_damage, heard_head, heard_sender, heard_telegram, heard_untimed, initiated, is_again, is_untaken, new_known, offer_to, refused, taken, without_telegrams};
     ghost use Rattle.pb_telegram.specs.declared.telegrams.Telegram.TheVariants.{Token};
 
     /// No burst yet. Without parameters of the bus, no silence counts as long. `slack` is how wrong the difference of two
@@ -129,7 +131,7 @@ impl Statistics {
             offer: None,
             request: None,
             quiet: None,
-            is_timed: false,
+            is_timed: true,
         })
     }
 
@@ -182,6 +184,7 @@ impl Statistics {
         ensures { self.new ≡ forgotten self.old }
     {
         self.quiet = None;
+        self.is_timed = true;
         self.forget_telegrams();
     }
 
@@ -207,7 +210,12 @@ impl Statistics {
         requires { IfOk burst.now.telegram (λ t. octets.now ≡ spelling t) }
         ensures { self.new ≡ heard burst.now self.old }
     {
-        let before = self.quiet;
+        // After a burst without moments no silence is known.
+        let before = if self.is_timed {
+            self.quiet
+        } else {
+            Some(burst.begin)
+        };
         self.is_timed = true;
         self.traffic.note(burst, before);
         self.hear_telegram(burst, octets, before);
@@ -261,7 +269,7 @@ impl Statistics {
     #[inline(always)]
     fn send(&mut self, begin: u64, end: u64, said: InitiatorTelegram, is_repeat: bool)
         ensures { self.new ≡ record self.old {
-          offer = offer_to end said.offered;
+          offer = offer_to (known_at self.old.timed end) said.offered;
           stations = changed_at said.source (initiated self.old.timed is_repeat end)
               (taken self.old.offer begin said (is_untaken self.old begin is_repeat)
               self.old.timed self.old.stations);
@@ -276,7 +284,8 @@ impl Statistics {
             is_repeat,
             self.is_timed,
         );
-        self.offer = said.offered.map(|to| Offer { to, end });
+        let known = known_at(self.is_timed, end);
+        self.offer = said.offered.map(|to| Offer { to, end: known });
         initiate(
             &mut self.stations,
             said.source,
@@ -303,17 +312,18 @@ impl Statistics {
     fn hear_damage(&mut self, begin: u64, before: Option<u64>)
         ensures { self.new ≡ heard_damage before begin self.old }
     {
+        let is_over = is_over(begin, before, self.limits);
         let damaged = &mut self.traffic.damaged;
-        if is_over(begin, before, self.limits) {
+        if is_over {
             damaged.after_loss = one_more(damaged.after_loss);
         } else if is_awaited(self.request) {
             damaged.replying = one_more(damaged.replying);
-        } else if is_in_slot(begin, self.offer, self.limits) {
+        } else if is_in_slot(begin, self.offer, self.limits, self.is_timed) {
             damaged.taking = one_more(damaged.taking);
         } else {
             damaged.other = one_more(damaged.other);
         }
-        self.request = damaged_open(self.request);
+        self.request = damaged_open(self.request, is_over);
         self.close();
         self.forget_telegrams();
     }
@@ -352,7 +362,7 @@ impl Statistics {
             self.request = Some(Open {
                 source,
                 to,
-                end,
+                end: known_at(self.is_timed, end),
                 answer: Answer::Awaited,
             });
         }
@@ -376,7 +386,7 @@ impl Statistics {
             request.to,
             burst.end,
             self.is_timed,
-            burst.begin.saturating_sub(request.end),
+            bits_since(self.is_timed, request.end, burst.begin),
             head,
         );
     }
@@ -392,13 +402,16 @@ impl Statistics {
     }
 }
 
-/// The open request after damage.
-fn damaged_open(request: Option<Open>) -> Option<Open>
-    ensures { result ≡ damaged_open request }
+/// The open request after damage: not answered, if the damage comes after a silence longer than a slot can be.
+fn damaged_open(request: Option<Open>, is_over: bool) -> Option<Open>
+    ensures { result ≡ damaged_open is_over request }
 {
     let Some(request) = request else {
         return None;
     };
+    if is_over {
+        return Some(request);
+    }
     let answer = match request.answer {
         Answer::Awaited => Answer::Damaged,
         answer => answer,
@@ -448,21 +461,48 @@ pub(crate) fn is_early(
         return false;
     };
     match offer {
-        Some(offer) => is_timed && begin.saturating_sub(offer.end) < limits.early,
+        Some(offer) => is_under(false, bits_since(is_timed, offer.end, begin), limits.early),
         None => false,
     }
 }
 
-/// Whether a moment is in the slot of a token that nobody has taken.
-fn is_in_slot(begin: u64, offer: Option<Offer>, limits: Option<Limits>) -> bool
-    ensures { result ≡ is_in_slot limits offer begin }
+/// Whether a burst is in the slot of a token that nobody has taken.
+fn is_in_slot(begin: u64, offer: Option<Offer>, limits: Option<Limits>, is_timed: bool) -> bool
+    ensures { result ≡ is_in_slot limits is_timed offer begin }
 {
     let Some(limits) = limits else {
         return false;
     };
     match offer {
-        Some(offer) => begin.saturating_sub(offer.end) < limits.tsl,
+        Some(offer) => is_under(true, bits_since(is_timed, offer.end, begin), limits.tsl),
         None => false,
+    }
+}
+
+/// A moment, if the capture gives it.
+pub(crate) fn known_at(is_timed: bool, moment: u64) -> Option<u64>
+    ensures { result ≡ known_at is_timed moment }
+{
+    if is_timed { Some(moment) } else { None }
+}
+
+/// How long after the end of an earlier telegram a burst begins, if both moments are known.
+pub(crate) fn bits_since(is_timed: bool, end: Option<u64>, begin: u64) -> Option<u64>
+    ensures { result ≡ bits_since is_timed end begin }
+{
+    match end {
+        Some(end) if is_timed => Some(begin.saturating_sub(end)),
+        _ => None,
+    }
+}
+
+/// Whether a duration is less than a limit, where it is known.
+fn is_under(unknown: bool, bits: Option<u64>, limit: u64) -> bool
+    ensures { result ≡ is_under unknown bits limit }
+{
+    match bits {
+        Some(bits) => bits < limit,
+        None => unknown,
     }
 }
 

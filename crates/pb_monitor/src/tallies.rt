@@ -5,7 +5,7 @@ ghost use Rattle.pb_monitor.specs.Known.{changed_at, closed_by, initiated, polle
 
 use crate::meanings::InitiatorTelegram;
 use crate::stations::{Station, one_more};
-use crate::statistics::{Answer, Limits, Offer, is_early};
+use crate::statistics::{Answer, Limits, Offer, bits_since, is_early};
 use pb_telegram::Head;
 
 /// Notes who took a token that was offered, or that it was sent again after its slot.
@@ -29,8 +29,8 @@ pub(crate) fn take_offer(
         return;
     }
     if offer.to == said.source {
-        if !said.is_claim && is_timed {
-            stations[place].take(offer.end, begin.saturating_sub(offer.end));
+        if !said.is_claim {
+            stations[place].take(offer.end, bits_since(is_timed, offer.end, begin));
         }
     } else if is_repeat && !is_early(begin, Some(offer), *limits, is_timed) {
         stations[place].tokens_not_taken = one_more(stations[place].tokens_not_taken);
@@ -84,13 +84,13 @@ pub(crate) fn ask(stations: &mut [Station], source: u8, to: u8, is_poll: bool)
     }
 }
 
-/// Counts a reply that ended at a moment, some bit times after the request.
+/// Counts a reply that ended at a moment, some bit times after the request, if that is known.
 pub(crate) fn reply(
     stations: &mut [Station],
     to: u8,
     end: u64,
     is_timed: bool,
-    bits: u64,
+    bits: Option<u64>,
     head: Option<Head>,
 )
     ensures { stations.new ≡ changed_at to (replied is_timed end bits head) stations.old }

@@ -1,7 +1,7 @@
 //! What is counted for the bus.
 
 ghost use Rattle.std.specs.Prelude.{◌≡◌, ◌-◌, ◌*◌, ◌/◌, min};
-ghost use Rattle.pb_monitor.specs.Known.{damage_of, load_of, new_traffic, one_more, traffic_with};
+ghost use Rattle.pb_monitor.specs.Known.{damage_of, has_moments, load_of, new_traffic, one_more, span_with, traffic_with};
 
 use crate::bursts::Burst;
 use crate::stations::one_more;
@@ -15,6 +15,8 @@ pub struct Traffic {
     pub last: Option<u64>,
     /// How long there was a burst, in sum.
     pub busy: u64,
+    /// How long all moments are known, in sum: of the bursts with moments and of the silences between two of them.
+    pub span: u64,
     /// How many bursts there were.
     pub bursts: u64,
     /// How many of them spelled no telegram, by place.
@@ -67,6 +69,7 @@ impl Traffic {
             first: None,
             last: None,
             busy: 0,
+            span: 0,
             bursts: 0,
             damaged,
             longest_silence: 0,
@@ -83,6 +86,9 @@ impl Traffic {
         self.busy = self
             .busy
             .saturating_add(burst.end.saturating_sub(burst.begin));
+        self.span = self
+            .span
+            .saturating_add(span_with(burst.begin, burst.end, before));
         if self.first.is_none() {
             self.first = Some(burst.begin);
         }
@@ -100,20 +106,29 @@ impl Traffic {
         self.bursts = one_more(self.bursts);
     }
 
-    /// The load of the bus in tenths of a percent, 0 to 1000, from the first burst to the end of the last.
-    pub fn load(&self) -> u64
-        ensures { result ≡ load_of self.now.busy self.now.first self.now.last }
+    /// Whether a burst had moments, or none has come yet.
+    pub(crate) fn has_moments(&self) -> bool
+        ensures { result ≡ has_moments self.now }
     {
-        let Some(first) = self.first else {
-            return 0;
-        };
-        let Some(last) = self.last else {
-            return 0;
-        };
-        let span = u128::from(last.saturating_sub(first));
+        self.first.is_some() || self.bursts == 0
+    }
+
+    /// The load of the bus in tenths of a percent, 0 to 1000, of the stretches in which all moments are known; 0 if there
+    /// are none.
+    pub fn load(&self) -> u64
+        ensures { result ≡ load_of self.now.busy self.now.span }
+    {
+        let span = u128::from(self.span);
         if span == 0 {
             return 0;
         }
         (u128::from(self.busy) * 1000 / span).min(1000) as u64
     }
+}
+
+/// How long it was from the end of the burst before, if that is known, to the end of a burst.
+fn span_with(begin: u64, end: u64, before: Option<u64>) -> u64
+    ensures { result ≡ span_with before begin end }
+{
+    end.saturating_sub(before.unwrap_or(begin))
 }
