@@ -91,15 +91,21 @@ silences_before p slack delay since trace j begin start late solid s = by (nat_l
     by : (c : Bool) → nat_le (j.quiet + 6 * p.tsl) (begin + (p.ttd + slack)) ≡ c → (d : Bool) → nat_le begin (j.silent_to + (p.ttd + slack)) ≡ d
         → Silences p delay since trace (if c then record j { silent_from = if d then j.silent_from else j.quiet; silent_to = begin } else j) begin
     by true w true y = record {
-      long = λ u v a some len h clear. (h, λ near. ⊎_elim
-          (λ (past : j.quiet < v). let l = behind_it u v a past clear in let f = s.from in omega (arith, l, f))
-          (λ (in_time : v ≤ j.quiet). (s.long u v a some len in_time clear).1 (omega (arith, late, near))) (cases_lt j.quiet v));
+      long = λ u v a some len h clear. (
+        h,
+        λ near. ⊎_elim
+            (λ (past : j.quiet < v). let l = behind_it u v a past clear in let f = s.from in omega (arith, l, f))
+            (λ (in_time : v ≤ j.quiet). (s.long u v a some len in_time clear).1 (omega (arith, late, near))) (cases_lt j.quiet v),
+      );
       from = let f = s.from in omega (arith, f, late);
     }
     by true w false y = let z = leb-false begin (j.silent_to + (p.ttd + slack)) y in record {
-      long = λ u v a some len h clear. (h, λ near. ⊎_elim
-          (λ (past : j.quiet < v). behind_it u v a past clear)
-          (λ (in_time : v ≤ j.quiet). let t = (s.long u v a some len in_time clear).0 in absurd (omega (arith, z, near, t))) (cases_lt j.quiet v));
+      long = λ u v a some len h clear. (
+        h,
+        λ near. ⊎_elim
+            (λ (past : j.quiet < v). behind_it u v a past clear)
+            (λ (in_time : v ≤ j.quiet). let t = (s.long u v a some len in_time clear).0 in absurd (omega (arith, z, near, t))) (cases_lt j.quiet v),
+      );
       from = late;
     }
     by false w d y = let z = leb-false (j.quiet + 6 * p.tsl) (begin + (p.ttd + slack)) w in record {

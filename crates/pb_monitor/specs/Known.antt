@@ -289,11 +289,11 @@ is_poll (Send service priority) = false
 is_poll Status = true
 is_poll Unknown = false
 
-abbrev pub request_of : Head → (end : Option ℕ) → Open
-request_of h end = record { source = h.sa % 128; to = h.da % 128; end = end; answer = Awaited }
+abbrev pub request_of : Head → (end : Option ℕ) → (poll : Bool) → Open
+request_of h end poll = record { source = h.sa % 128; to = h.da % 128; end = end; is_poll = poll; answer = Awaited }
 
 abbrev pub open_behind : Head → (end : Option ℕ) → Asked → Option Open → Option Open
-open_behind h end a before = if wants_answer a then Some (request_of h end) else before
+open_behind h end a before = if wants_answer a then Some (request_of h end (is_poll a)) else before
 
 abbrev pub polled_by : (poll : Bool) → (to : ℕ) → List Station → List Station
 polled_by poll to stations = if poll then changed_at to was_polled stations else stations
@@ -338,10 +338,10 @@ heard_initiator begin end t said claims k =
 
 -- ---- a reply
 
--- a telegram answers a request
+-- A telegram answers a request: one for a status only by a reply that all is well, which tells it.
 abbrev pub answers : Open → Option Head → Bool
-answers o None = true
-answers o (Some h) = h.sa % 128 == o.to && h.da % 128 == o.source
+answers o None = not o.is_poll
+answers o (Some h) = h.sa % 128 == o.to && h.da % 128 == o.source && (not o.is_poll || h.fc % 16 == 0)
 
 abbrev pub answered_by : (begin end : ℕ) → Option Head → Open → Known → Known
 answered_by begin end head o k =

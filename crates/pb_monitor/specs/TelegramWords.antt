@@ -36,7 +36,7 @@ reply_name code =
     if code == 0 then codes "reply: OK"
     else if code == 1 then codes "reply: user error"
     else if code == 2 then codes "reply: no resource"
-    else if code == 3 then codes "reply: no such service"
+    else if code == 3 then codes "reply: service not activated"
     else if code == 8 then codes "reply: data low"
     else if code == 9 then codes "reply: no data"
     else if code == 10 then codes "reply: data high"

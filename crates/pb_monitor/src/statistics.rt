@@ -37,6 +37,8 @@ pub(crate) struct Open {
     pub to: u8,
     /// When it ended, if that is known.
     pub end: Option<u64>,
+    /// Whether it asks for a status.
+    pub is_poll: bool,
     pub answer: Answer,
 }
 
@@ -357,12 +359,14 @@ impl Statistics {
         };
         let (source, to) = (head.sa % 128, head.da % 128);
         let asked = Asked::by(Fc(head.fc).code());
-        ask(&mut self.stations, source, to, asked == Asked::Status);
+        let is_poll = asked == Asked::Status;
+        ask(&mut self.stations, source, to, is_poll);
         if is_answered(asked) {
             self.request = Some(Open {
                 source,
                 to,
                 end: known_at(self.is_timed, end),
+                is_poll,
                 answer: Answer::Awaited,
             });
         }
@@ -420,6 +424,7 @@ fn damaged_open(request: Option<Open>, is_over: bool) -> Option<Open>
         source: request.source,
         to: request.to,
         end: request.end,
+        is_poll: request.is_poll,
         answer,
     })
 }
@@ -517,12 +522,16 @@ fn is_answered(asked: Asked) -> bool
     }
 }
 
-/// Whether a telegram is an answer to a request.
+/// Whether a telegram is an answer to a request: one for a status is answered only by a reply that all is well.
 fn answers(request: &Open, head: Option<Head>) -> bool
     ensures { result ≡ answers request.now head }
 {
     match head {
-        Some(head) => head.sa % 128 == request.to && head.da % 128 == request.source,
-        None => true,
+        Some(head) => {
+            head.sa % 128 == request.to
+                && head.da % 128 == request.source
+                && (!request.is_poll || head.fc % 16 == 0)
+        }
+        None => !request.is_poll,
     }
 }

@@ -154,7 +154,7 @@ fn reply_name(code: u8) -> Option<&'static str>
         0 => Some("reply: OK"),
         1 => Some("reply: user error"),
         2 => Some("reply: no resource"),
-        3 => Some("reply: no such service"),
+        3 => Some("reply: service not activated"),
         8 => Some("reply: data low"),
         9 => Some("reply: no data"),
         10 => Some("reply: data high"),

@@ -5,35 +5,38 @@ use Rattle.law_model.specs.Medium.{TapSpec}
 use Rattle.law_live.specs.NeverDead.{longest_without}
 use Rattle.law_rings.specs.Rotation.{rotation_time}
 use Rattle.pb_scenario.specs.Scenarios.{ScenarioView}
+use Rattle.pb_texts.specs.declared.numbers.Rounding.{Rounding}
+use Rattle.pb_texts.specs.declared.numbers.Rounding.TheVariants.{Up, Down}
 use Rattle.pb_texts.specs.Bounds.{silence_bound, beyond_ttr, take_margin, reply_margin, lag_margin, masters_of, never_asks, is_round_long}
 
 -- Some words are unfolded in few proofs alone, so that longer texts stay short terms.
 
 -- ---- numbers
 
--- bit times at a number of bits a second, in microseconds, rounded up
-unfoldable pub micros : (baud bits : ℕ) → ℕ
-micros baud n = (n * 1000000 + (baud - 1)) / baud
+-- Bit times at a number of bits a second, in microseconds: a bound is rounded up, a margin down.
+unfoldable pub micros : Rounding → (baud bits : ℕ) → ℕ
+micros Up baud n = (n * 1000000 + (baud - 1)) / baud
+micros Down baud n = n * 1000000 / baud
 
 -- a thousandth of a number, with three decimals
 unfoldable pub thousandth : ℕ → List ℕ
 thousandth n = decimal (n / 1000) ++ codes "." ++ decimal (n / 100 % 10) ++ decimal (n / 10 % 10) ++ decimal (n % 10)
 
 -- bit times in milliseconds
-unfoldable pub millis : (baud bits : ℕ) → List ℕ
-millis baud n = thousandth (micros baud n)
+unfoldable pub millis : Rounding → (baud bits : ℕ) → List ℕ
+millis r baud n = thousandth (micros r baud n)
 
 -- ---- lines
 
 -- bit times, in milliseconds too, and the law or the rule that they are from
-unfoldable pub number_line : (baud : ℕ) (title : List ℕ) (bits : ℕ) (law : List ℕ) → List ℕ
-number_line baud title n law = title ++ decimal n ++ codes " bit times, " ++ millis baud n ++ codes " ms (" ++ law ++ codes ")\n"
+unfoldable pub number_line : Rounding → (baud : ℕ) (title : List ℕ) (bits : ℕ) (law : List ℕ) → List ℕ
+number_line r baud title n law = title ++ decimal n ++ codes " bit times, " ++ millis r baud n ++ codes " ms (" ++ law ++ codes ")\n"
 
 abbrev pub master_lines : (baud : ℕ) → Params → (name : List ℕ) (address : ℕ) → List ℕ
 master_lines baud p name address =
-    name ++ number_line baud (codes ": time-out ") (tto p address) (codes "a_claim_waits_for_a_time_out")
-    ++ name ++ number_line baud (codes ": silence bound ") (silence_bound p address) (codes "no_master_is_left_in_silence")
-    ++ name ++ number_line baud (codes ": never-dead bound ") (longest_without p address) (codes "the_bus_is_never_dead")
+    name ++ number_line Up baud (codes ": time-out ") (tto p address) (codes "a_claim_waits_for_a_time_out")
+    ++ name ++ number_line Up baud (codes ": silence bound ") (silence_bound p address) (codes "no_master_is_left_in_silence")
+    ++ name ++ number_line Up baud (codes ": never-dead bound ") (longest_without p address) (codes "the_bus_is_never_dead")
 
 -- those of a tap, if it is a master
 abbrev pub tap_lines : (baud : ℕ) → Params → (name : List ℕ) → TapSpec → List ℕ
@@ -48,14 +51,14 @@ taps_lines baud p (name ∷ names) (spec ∷ specs) = tap_lines baud p name spec
 abbrev pub rotation_lines : (baud : ℕ) → Params → (masters : ℕ) → List ℕ
 rotation_lines baud p masters =
     if masters == 0 then []
-    else number_line baud (codes "rotation bound ") (rotation_time p masters) (codes "a_rotation_is_bounded")
-    ++ number_line baud (codes "rotation bound beyond ttr ") (beyond_ttr p masters) (codes "a_rotation_is_bounded")
+    else number_line Up baud (codes "rotation bound ") (rotation_time p masters) (codes "a_rotation_is_bounded")
+    ++ number_line Up baud (codes "rotation bound beyond ttr ") (beyond_ttr p masters) (codes "a_rotation_is_bounded")
 
 abbrev pub margin_lines : (baud : ℕ) → Params → List ℕ
 margin_lines baud p =
-    number_line baud (codes "slot margin of a take ") (take_margin p) (codes "TakeLate")
-    ++ number_line baud (codes "slot margin of a reply ") (reply_margin p) (codes "ReplyLate")
-    ++ number_line baud (codes "lag margin ") (lag_margin p) (codes "TakeLate, ReplyLate")
+    number_line Down baud (codes "slot margin of a take ") (take_margin p) (codes "TakeLate")
+    ++ number_line Down baud (codes "slot margin of a reply ") (reply_margin p) (codes "ReplyLate")
+    ++ number_line Down baud (codes "lag margin ") (lag_margin p) (codes "TakeLate, ReplyLate")
 
 -- ---- warnings
 
@@ -81,15 +84,15 @@ bounds_text baud s =
 -- ---- JSON
 
 -- a member of an object: its key with what stands before it, and bit times, in milliseconds too
-unfoldable pub member : (baud : ℕ) (key : List ℕ) (bits : ℕ) → List ℕ
-member baud key n = key ++ codes "{\"bit_times\":" ++ decimal n ++ codes ",\"ms\":" ++ millis baud n ++ codes "}"
+unfoldable pub member : Rounding → (baud : ℕ) (key : List ℕ) (bits : ℕ) → List ℕ
+member r baud key n = key ++ codes "{\"bit_times\":" ++ decimal n ++ codes ",\"ms\":" ++ millis r baud n ++ codes "}"
 
 abbrev pub master_object : (baud : ℕ) → Params → (name : List ℕ) (address : ℕ) → List ℕ
 master_object baud p name address =
     codes "{\"name\":\"" ++ name ++ codes "\""
-    ++ member baud (codes ",\"time_out\":") (tto p address)
-    ++ member baud (codes ",\"silence_bound\":") (silence_bound p address)
-    ++ member baud (codes ",\"never_dead_bound\":") (longest_without p address)
+    ++ member Up baud (codes ",\"time_out\":") (tto p address)
+    ++ member Up baud (codes ",\"silence_bound\":") (silence_bound p address)
+    ++ member Up baud (codes ",\"never_dead_bound\":") (longest_without p address)
     ++ codes "}"
 
 unfoldable pub comma_if : Bool → List ℕ
@@ -108,14 +111,14 @@ master_objects baud p behind (name ∷ names) (spec ∷ specs) =
 abbrev pub rotation_members : (baud : ℕ) → Params → (masters : ℕ) → List ℕ
 rotation_members baud p masters =
     if masters == 0 then []
-    else member baud (codes ",\"rotation_bound\":") (rotation_time p masters)
-    ++ member baud (codes ",\"rotation_bound_beyond_ttr\":") (beyond_ttr p masters)
+    else member Up baud (codes ",\"rotation_bound\":") (rotation_time p masters)
+    ++ member Up baud (codes ",\"rotation_bound_beyond_ttr\":") (beyond_ttr p masters)
 
 abbrev pub margin_members : (baud : ℕ) → Params → List ℕ
 margin_members baud p =
-    member baud (codes ",\"take_margin\":") (take_margin p)
-    ++ member baud (codes ",\"reply_margin\":") (reply_margin p)
-    ++ member baud (codes ",\"lag_margin\":") (lag_margin p)
+    member Down baud (codes ",\"take_margin\":") (take_margin p)
+    ++ member Down baud (codes ",\"reply_margin\":") (reply_margin p)
+    ++ member Down baud (codes ",\"lag_margin\":") (lag_margin p)
 
 -- words in quotes, if there are some
 unfoldable pub quoted_if : Bool → List ℕ → List ℕ

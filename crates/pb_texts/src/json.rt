@@ -10,7 +10,7 @@ use crate::bounds::{
     beyond_ttr, is_master, is_round_long, lag_margin, masters_of, never_asks, reply_margin,
     rotation_bound, silence_bound, take_margin,
 };
-use crate::numbers::push_millis;
+use crate::numbers::{Rounding, push_millis};
 use crate::texts::{asks_words, round_words};
 use pb_scenario::{Scenario, push_number};
 use pb_taps::{NewFault, check_taps};
@@ -21,8 +21,8 @@ use std::alloc::{AllocError, Global};
 /// The numbers of a scenario's bus as one JSON object on a line: `baud`; `masters`, an array with the `name`, `time_out`,
 /// `silence_bound` and `never_dead_bound` of each; `rotation_bound` and `rotation_bound_beyond_ttr`, if there are masters;
 /// `take_margin`, `reply_margin` and `lag_margin`; `warnings`, an array of texts. Each number has `bit_times`, and `ms` at
-/// a number of bits a second, rounded up to a microsecond. A name needs no escape: it has letters and digits alone, where a
-/// file was read.
+/// a number of bits a second, to a microsecond: bounds are rounded up, margins down. A name needs no escape: it has letters
+/// and digits alone, where a file was read.
 ///
 /// Faults: those of a new world on that bus, the first that applies; or `NoMemory`.
 pub fn bounds_json(alloc: Global, scenario: &Scenario, baud: u32) -> Result<Vec<u8>, NewFault>
@@ -90,15 +90,23 @@ fn push_master(
     text.extend_from_slice(b"{\"name\":\"")?;
     text.extend_from_slice(name.as_bytes())?;
     text.extend_from_slice(b"\"")?;
-    push_member(text, b",\"time_out\":", params.tto(address), baud)?;
     push_member(
         text,
+        Rounding::Up,
+        b",\"time_out\":",
+        params.tto(address),
+        baud,
+    )?;
+    push_member(
+        text,
+        Rounding::Up,
         b",\"silence_bound\":",
         silence_bound(params, address),
         baud,
     )?;
     push_member(
         text,
+        Rounding::Up,
         b",\"never_dead_bound\":",
         longest_without(params, address),
         baud,
@@ -122,9 +130,15 @@ fn push_rotation(
         return Ok(());
     }
     let bound = rotation_bound(params, masters);
-    push_member(text, b",\"rotation_bound\":", bound, baud)?;
+    push_member(text, Rounding::Up, b",\"rotation_bound\":", bound, baud)?;
     let beyond = beyond_ttr(params, masters);
-    push_member(text, b",\"rotation_bound_beyond_ttr\":", beyond, baud)
+    push_member(
+        text,
+        Rounding::Up,
+        b",\"rotation_bound_beyond_ttr\":",
+        beyond,
+        baud,
+    )
 }
 
 /// Appends the margins.
@@ -132,22 +146,46 @@ fn push_margins(text: &mut Vec<u8>, params: &BusParams, baud: u32) -> Result<(),
     requires { 0 < baud }
     ensures { OnOk result (text.new.items ≡ text.old.items ++ texts.margin_members baud params.now) }
 {
-    push_member(text, b",\"take_margin\":", take_margin(params), baud)?;
-    push_member(text, b",\"reply_margin\":", reply_margin(params), baud)?;
-    push_member(text, b",\"lag_margin\":", lag_margin(params), baud)
+    push_member(
+        text,
+        Rounding::Down,
+        b",\"take_margin\":",
+        take_margin(params),
+        baud,
+    )?;
+    push_member(
+        text,
+        Rounding::Down,
+        b",\"reply_margin\":",
+        reply_margin(params),
+        baud,
+    )?;
+    push_member(
+        text,
+        Rounding::Down,
+        b",\"lag_margin\":",
+        lag_margin(params),
+        baud,
+    )
 }
 
 /// Appends a key with what stands before it, and bit times.
 #[tactic(auto, unfolding(crate::specs::Texts::member))]
-fn push_member(text: &mut Vec<u8>, key: &[u8], bits: u64, baud: u32) -> Result<(), AllocError>
+fn push_member(
+    text: &mut Vec<u8>,
+    rounding: Rounding,
+    key: &[u8],
+    bits: u64,
+    baud: u32,
+) -> Result<(), AllocError>
     requires { 0 < baud }
-    ensures { OnOk result (text.new.items ≡ text.old.items ++ texts.member baud key.now bits) }
+    ensures { OnOk result (text.new.items ≡ text.old.items ++ texts.member rounding baud key.now bits) }
 {
     text.extend_from_slice(key)?;
     text.extend_from_slice(b"{\"bit_times\":")?;
     push_number(text, bits)?;
     text.extend_from_slice(b",\"ms\":")?;
-    push_millis(text, baud, bits)?;
+    push_millis(text, rounding, baud, bits)?;
     text.extend_from_slice(b"}")
 }
 

@@ -6,23 +6,40 @@ ghost use Rattle.pb_texts.specs.Texts as texts;
 use pb_scenario::push_number;
 use std::alloc::AllocError;
 
-/// Appends bit times at a number of bits a second, in milliseconds.
-#[tactic(auto, unfolding(crate::specs::Texts::millis))]
-pub(crate) fn push_millis(text: &mut Vec<u8>, baud: u32, bits: u64) -> Result<(), AllocError>
-    requires { 0 < baud }
-    ensures { OnOk result (text.new.items ≡ text.old.items ++ texts.millis baud bits) }
-{
-    push_thousandth(text, micros(baud, bits))
+/// How a duration is rounded to a microsecond, so that no reader of a bound or a margin is promised too much.
+#[derive(Clone, Copy, Debug, PartialEq, Eq)]
+pub(crate) enum Rounding {
+    /// Up: a bound.
+    Up,
+    /// Down: a margin.
+    Down,
 }
 
-/// Bit times at a number of bits a second, in microseconds, rounded up.
-#[tactic(auto, unfolding(crate::specs::Texts::micros))]
-fn micros(baud: u32, bits: u64) -> u128
+/// Appends bit times at a number of bits a second, in milliseconds.
+#[tactic(auto, unfolding(crate::specs::Texts::millis))]
+pub(crate) fn push_millis(
+    text: &mut Vec<u8>,
+    rounding: Rounding,
+    baud: u32,
+    bits: u64,
+) -> Result<(), AllocError>
     requires { 0 < baud }
-    ensures { result ≡ texts.micros baud bits }
+    ensures { OnOk result (text.new.items ≡ text.old.items ++ texts.millis rounding baud bits) }
 {
-    let baud = u128::from(baud);
-    (u128::from(bits) * 1_000_000 + (baud - 1)) / baud
+    push_thousandth(text, micros(rounding, baud, bits))
+}
+
+/// Bit times at a number of bits a second, in microseconds.
+#[tactic(auto, unfolding(crate::specs::Texts::micros))]
+fn micros(rounding: Rounding, baud: u32, bits: u64) -> u128
+    requires { 0 < baud }
+    ensures { result ≡ texts.micros rounding baud bits }
+{
+    let (baud, bits) = (u128::from(baud), u128::from(bits));
+    match rounding {
+        Rounding::Up => (bits * 1_000_000 + (baud - 1)) / baud,
+        Rounding::Down => bits * 1_000_000 / baud,
+    }
 }
 
 /// Appends a thousandth of a number, with three decimals.

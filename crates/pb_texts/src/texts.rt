@@ -11,17 +11,17 @@ use crate::bounds::{
     beyond_ttr, is_master, is_round_long, lag_margin, masters_of, never_asks, reply_margin,
     rotation_bound, silence_bound, take_margin,
 };
-use crate::numbers::push_millis;
+use crate::numbers::{Rounding, push_millis};
 use pb_scenario::{Scenario, push_number};
 use pb_taps::{NewFault, TapSpec, check_taps};
 use pb_timers::BusParams;
 use pb_world::longest_without;
 use std::alloc::{AllocError, Global};
 
-/// A line for each number of a scenario's bus, in bit times and in milliseconds at a number of bits a second, rounded up
-/// to a microsecond, with the law or the rule that it is from: of each master its time-out, its silence bound and its
-/// never-dead bound; the rotation bound of a ring of all masters, and how much of it is beyond the target rotation time;
-/// the margins of the slot and of the lag; then a line for each warning.
+/// A line for each number of a scenario's bus, in bit times and in milliseconds at a number of bits a second, to a
+/// microsecond (bounds are rounded up, margins down), with the law or the rule that it is from: of each master its
+/// time-out, its silence bound and its never-dead bound; the rotation bound of a ring of all masters, and how much of it is
+/// beyond the target rotation time; the margins of the slot and of the lag; then a line for each warning.
 ///
 /// Faults: those of a new world on that bus, the first that applies; or `NoMemory`.
 pub fn bounds_text(alloc: Global, scenario: &Scenario, baud: u32) -> Result<Vec<u8>, NewFault>
@@ -91,30 +91,30 @@ fn push_master(
     ensures { OnOk result
         (text.new.items ≡ text.old.items ++ texts.master_lines baud params.now name.now address) }
 {
-    let timeout = params.tto(address);
     text.extend_from_slice(name.as_bytes())?;
     push_line(
         text,
+        Rounding::Up,
         b": time-out ",
-        timeout,
+        params.tto(address),
         b"a_claim_waits_for_a_time_out",
         baud,
     )?;
-    let silence = silence_bound(params, address);
     text.extend_from_slice(name.as_bytes())?;
     push_line(
         text,
+        Rounding::Up,
         b": silence bound ",
-        silence,
+        silence_bound(params, address),
         b"no_master_is_left_in_silence",
         baud,
     )?;
-    let without = longest_without(params, address);
     text.extend_from_slice(name.as_bytes())?;
     push_line(
         text,
+        Rounding::Up,
         b": never-dead bound ",
-        without,
+        longest_without(params, address),
         b"the_bus_is_never_dead",
         baud,
     )
@@ -137,6 +137,7 @@ fn push_rotation(
     }
     push_line(
         text,
+        Rounding::Up,
         b"rotation bound ",
         rotation_bound(params, masters),
         b"a_rotation_is_bounded",
@@ -144,6 +145,7 @@ fn push_rotation(
     )?;
     push_line(
         text,
+        Rounding::Up,
         b"rotation bound beyond ttr ",
         beyond_ttr(params, masters),
         b"a_rotation_is_bounded",
@@ -158,6 +160,7 @@ fn push_margins(text: &mut Vec<u8>, params: &BusParams, baud: u32) -> Result<(),
 {
     push_line(
         text,
+        Rounding::Down,
         b"slot margin of a take ",
         take_margin(params),
         b"TakeLate",
@@ -165,6 +168,7 @@ fn push_margins(text: &mut Vec<u8>, params: &BusParams, baud: u32) -> Result<(),
     )?;
     push_line(
         text,
+        Rounding::Down,
         b"slot margin of a reply ",
         reply_margin(params),
         b"ReplyLate",
@@ -172,6 +176,7 @@ fn push_margins(text: &mut Vec<u8>, params: &BusParams, baud: u32) -> Result<(),
     )?;
     push_line(
         text,
+        Rounding::Down,
         b"lag margin ",
         lag_margin(params),
         b"TakeLate, ReplyLate",
@@ -183,6 +188,7 @@ fn push_margins(text: &mut Vec<u8>, params: &BusParams, baud: u32) -> Result<(),
 #[tactic(auto, unfolding(crate::specs::Texts::number_line))]
 fn push_line(
     text: &mut Vec<u8>,
+    rounding: Rounding,
     title: &[u8],
     bits: u64,
     law: &[u8],
@@ -190,12 +196,12 @@ fn push_line(
 ) -> Result<(), AllocError>
     requires { 0 < baud }
     ensures { OnOk result
-        (text.new.items ≡ text.old.items ++ texts.number_line baud title.now bits law.now) }
+        (text.new.items ≡ text.old.items ++ texts.number_line rounding baud title.now bits law.now) }
 {
     text.extend_from_slice(title)?;
     push_number(text, bits)?;
     text.extend_from_slice(b" bit times, ")?;
-    push_millis(text, baud, bits)?;
+    push_millis(text, rounding, baud, bits)?;
     text.extend_from_slice(b" ms (")?;
     text.extend_from_slice(law)?;
     text.extend_from_slice(b")\n")

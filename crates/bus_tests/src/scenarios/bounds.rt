@@ -101,8 +101,8 @@ n: silence bound 1000 bit times, 0.667 ms (no_master_is_left_in_silence)
 n: never-dead bound 12836 bit times, 8.558 ms (the_bus_is_never_dead)
 rotation bound 17744 bit times, 11.830 ms (a_rotation_is_bounded)
 rotation bound beyond ttr 17358 bit times, 11.572 ms (a_rotation_is_bounded)
-slot margin of a take 67 bit times, 0.045 ms (TakeLate)
-slot margin of a reply 1 bit times, 0.001 ms (ReplyLate)
+slot margin of a take 67 bit times, 0.044 ms (TakeLate)
+slot margin of a reply 1 bit times, 0.000 ms (ReplyLate)
 lag margin 0 bit times, 0.000 ms (TakeLate, ReplyLate)
 ";
     assert!(rt; text.as_slice() == lines.as_bytes());
@@ -112,7 +112,7 @@ lag margin 0 bit times, 0.000 ms (TakeLate, ReplyLate)
 fn bounds_are_an_object(rt: HostRuntime) {
     let json = bounds_json(rt.alloc(), &scenario(&rt, ALONE), 9_600).expect(&rt, "text");
     let object =
-        "{\"baud\":9600,\"masters\":[{\"name\":\"a\",\"time_out\":{\"bit_times\":600,\"ms\":62.500},\"silence_bound\":{\"bit_times\":600,\"ms\":62.500},\"never_dead_bound\":{\"bit_times\":12306,\"ms\":1281.875}}],\"rotation_bound\":{\"bit_times\":11806,\"ms\":1229.792},\"rotation_bound_beyond_ttr\":{\"bit_times\":11550,\"ms\":1203.125},\"take_margin\":{\"bit_times\":67,\"ms\":6.980},\"reply_margin\":{\"bit_times\":89,\"ms\":9.271},\"lag_margin\":{\"bit_times\":66,\"ms\":6.875},\"warnings\":[\"a GAP round of all free addresses takes longer than gap * ttr, after which the next is due\"]}\n";
+        "{\"baud\":9600,\"masters\":[{\"name\":\"a\",\"time_out\":{\"bit_times\":600,\"ms\":62.500},\"silence_bound\":{\"bit_times\":600,\"ms\":62.500},\"never_dead_bound\":{\"bit_times\":12306,\"ms\":1281.875}}],\"rotation_bound\":{\"bit_times\":11806,\"ms\":1229.792},\"rotation_bound_beyond_ttr\":{\"bit_times\":11550,\"ms\":1203.125},\"take_margin\":{\"bit_times\":67,\"ms\":6.979},\"reply_margin\":{\"bit_times\":89,\"ms\":9.270},\"lag_margin\":{\"bit_times\":66,\"ms\":6.875},\"warnings\":[\"a GAP round of all free addresses takes longer than gap * ttr, after which the next is due\"]}\n";
     assert!(rt; json.as_slice() == object.as_bytes());
 }
 

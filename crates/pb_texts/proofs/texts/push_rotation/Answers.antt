@@ -3,6 +3,7 @@ use Rattle.std.specs.Prelude.{codes, OnOk}
 use Rattle.law_rings.specs.Rotation.{rotation_time}
 use Rattle.pb_texts.proofs.Pieces.{front, last, not_zero}
 use Rattle.pb_texts.specs.Bounds.{beyond_ttr}
+use Rattle.pb_texts.specs.declared.numbers.Rounding.TheVariants.{Up}
 use Rattle.pb_texts.specs.Texts.{number_line}
 use Rattle.pb_texts.proofs.texts.push_rotation.Goals as goal
 
@@ -10,7 +11,7 @@ pub returns : goal.returns
 returns c =
     let baud = c.args.baud in
     let text = c.args.text.now.items in
-    let line : List ℕ → ℕ → List ℕ = λ title n. number_line baud title n (codes "a_rotation_is_bounded") in
+    let line : List ℕ → ℕ → List ℕ = λ title n. number_line Up baud title n (codes "a_rotation_is_bounded") in
     let p0 : List ℕ = line (codes "rotation bound ") (rotation_time c.args.params.now c.args.masters) in
     let p1 : List ℕ = line (codes "rotation bound beyond ttr ") (beyond_ttr c.args.params.now c.args.masters) in
     let s0 : c.push_line.new.text.items ≡ text ++ p0 =
