@@ -718,10 +718,12 @@ impl Station {
         }
     }
 
-    fn receive(&mut self, moment: u64) {
-        if let Some(before) = self.receipt.replace(moment) {
+    /// It received the token, at a moment if that is known.
+    fn receive(&mut self, moment: Option<u64>) {
+        if let (Some(moment), Some(before)) = (moment, self.receipt) {
             self.rotation.add(moment.saturating_sub(before));
         }
+        self.receipt = moment;
     }
 }
 
@@ -773,8 +775,22 @@ enum Answer {
 struct Open {
     source: u8,
     to: u8,
-    end: u64,
+    end: Option<u64>,
+    is_poll: bool,
     answer: Answer,
+}
+
+impl Open {
+    /// Whether a telegram with this head, if it has one, is its answer.
+    fn is_answered_by(&self, head: Option<Head>) -> bool {
+        match head {
+            Some(head) => {
+                let is_back = head.sa % 128 == self.to && head.da % 128 == self.source;
+                is_back && (!self.is_poll || head.fc % 16 == 0)
+            }
+            None => !self.is_poll,
+        }
+    }
 }
 
 /// Damaged bursts by place.
@@ -812,6 +828,8 @@ struct Statistics {
     first: Option<u64>,
     last: Option<u64>,
     busy: u64,
+    /// How long all moments are known.
+    span: u64,
     bursts: u64,
     damage: Damage,
     longest_silence: u64,
@@ -821,8 +839,8 @@ struct Statistics {
     ring: Ring,
     /// The octets of the last token or request.
     previous: Vec<u8>,
-    /// A token to another station that nobody has taken: to whom, and its end.
-    offer: Option<(u8, u64)>,
+    /// A token to another station that nobody has taken: to whom, and its end, if that is known.
+    offer: Option<(u8, Option<u64>)>,
     open: Option<Open>,
     quiet: Option<u64>,
     is_timed: bool,
@@ -836,6 +854,7 @@ impl Statistics {
             first: None,
             last: None,
             busy: 0,
+            span: 0,
             bursts: 0,
             damage: Damage::default(),
             longest_silence: 0,
@@ -847,13 +866,14 @@ impl Statistics {
             offer: None,
             open: None,
             quiet: None,
-            is_timed: false,
+            is_timed: true,
         }
     }
 
     /// Forgets what came before: something was missed.
     fn forget(&mut self) {
         self.quiet = None;
+        self.is_timed = true;
         self.forget_telegrams();
     }
 
@@ -871,12 +891,15 @@ impl Statistics {
     }
 
     fn hear(&mut self, burst: &Burst) {
+        // After a burst without moments no silence is known.
+        let before = if self.is_timed { self.quiet } else { Some(burst.begin) };
         self.is_timed = true;
         self.bursts += 1;
         self.busy += burst.end - burst.begin;
+        self.span += burst.end.saturating_sub(before.unwrap_or(burst.begin));
         self.first.get_or_insert(burst.begin);
         self.last = Some(burst.end);
-        let before = self.quiet.replace(burst.end);
+        self.quiet = Some(burst.end);
         let silence = before.map(|end| burst.begin.saturating_sub(end));
         self.longest_silence = self.longest_silence.max(silence.unwrap_or(0));
         self.hear_telegram(burst, silence);
@@ -903,17 +926,19 @@ impl Statistics {
 
     fn hear_damage(&mut self, begin: u64, silence: Option<u64>) {
         let is_awaited = self.open.is_some_and(|open| open.answer == Answer::Awaited);
-        if silence.is_some_and(|bits| bits > self.longest_live) {
+        let is_over = silence.is_some_and(|bits| bits > self.longest_live);
+        if is_over {
             self.damage.after_loss += 1;
         } else if is_awaited {
             self.damage.replying += 1;
-        } else if self.offer.is_some_and(|(_, end)| begin.saturating_sub(end) < self.tsl) {
+        } else if self.offer.is_some_and(|(_, end)| self.bits_since(end, begin).is_none_or(|bits| bits < self.tsl)) {
             self.damage.taking += 1;
         } else {
             self.damage.other += 1;
         }
         if let Some(open) = &mut self.open
             && is_awaited
+            && !is_over
         {
             open.answer = Answer::Damaged;
         }
@@ -929,7 +954,7 @@ impl Statistics {
             self.previous.extend_from_slice(burst.octets);
         }
         self.take_offer(burst.begin, said, is_repeat);
-        self.offer = said.offered.map(|to| (to, burst.end));
+        self.offer = said.offered.map(|to| (to, self.known(burst.end)));
         let station = &mut self.stations[usize::from(said.source)];
         station.note(burst.end, self.is_timed);
         station.repeats += u64::from(is_repeat);
@@ -948,27 +973,41 @@ impl Statistics {
         let Some((to, end)) = self.offer else {
             return;
         };
+        let bits = self.bits_since(end, begin);
         let station = &mut self.stations[usize::from(to)];
         if to == said.source {
-            if !said.is_claim && self.is_timed {
+            if !said.is_claim {
                 station.receive(end);
-                station.taking.add(begin.saturating_sub(end));
+                if let Some(bits) = bits {
+                    station.taking.add(bits);
+                }
             }
-        } else if is_repeat && !(self.is_timed && begin.saturating_sub(end) < self.tsl) {
+        } else if is_repeat && bits.is_none_or(|bits| bits >= self.tsl) {
             station.tokens_not_taken += 1;
         }
+    }
+
+    /// A moment of the last burst, if the capture gives it.
+    fn known(&self, moment: u64) -> Option<u64> {
+        self.is_timed.then_some(moment)
+    }
+
+    /// How long after an earlier end the last burst begins, if both moments are known.
+    fn bits_since(&self, end: Option<u64>, begin: u64) -> Option<u64> {
+        Some(self.known(begin)?.saturating_sub(end?))
     }
 
     fn hear_token(&mut self, end: u64, said: Initiation, is_claim: bool) {
         if is_claim {
             self.forget_receipts();
         }
+        let end = self.known(end);
         let station = &mut self.stations[usize::from(said.source)];
         station.tokens += 1;
         station.role = Role::MasterInRing;
         if is_claim {
             station.claims += 1;
-        } else if said.is_claim && self.is_timed {
+        } else if said.is_claim {
             station.receive(end);
         }
     }
@@ -978,32 +1017,31 @@ impl Statistics {
         let service = Control(head.fc).service();
         let station = &mut self.stations[usize::from(source)];
         station.requests += 1;
-        if service == Service::Status {
+        let is_poll = service == Service::Status;
+        if is_poll {
             station.polls += 1;
             if let Some(asked) = self.stations.get_mut(usize::from(to)) {
                 asked.polled += 1;
             }
         }
         if !matches!(service, Service::Sdn | Service::Unknown) {
-            self.open = Some(Open { source, to, end, answer: Answer::Awaited });
+            self.open = Some(Open { source, to, end: self.known(end), is_poll, answer: Answer::Awaited });
         }
     }
 
     fn hear_reply(&mut self, burst: &Burst, telegram: &Telegram) {
         let head = telegram.head();
-        let Some(open) = self.open.as_mut().filter(|open| open.answer == Answer::Awaited) else {
+        let Some(open) = self.open.filter(|open| open.answer == Answer::Awaited && open.is_answered_by(head)) else {
             return;
         };
-        if head.is_some_and(|head| head.sa % 128 != open.to || head.da % 128 != open.source) {
-            return;
-        }
-        open.answer = Answer::Good;
+        self.open = Some(Open { answer: Answer::Good, ..open });
+        let bits = self.bits_since(open.end, burst.begin);
         let Some(station) = self.stations.get_mut(usize::from(open.to)) else {
             return;
         };
         station.note(burst.end, self.is_timed);
-        if self.is_timed {
-            station.replying.add(burst.begin.saturating_sub(open.end));
+        if let Some(bits) = bits {
+            station.replying.add(bits);
         }
         if let Some(head) = head
             && station.role != Role::MasterInRing
@@ -1027,8 +1065,7 @@ impl Statistics {
 
     /// The load of the bus in tenths of a percent.
     fn load(&self) -> u64 {
-        let span = self.last.unwrap_or(0) - self.first.unwrap_or(0);
-        let load = (u128::from(self.busy) * 1_000).checked_div(u128::from(span));
+        let load = (u128::from(self.busy) * 1_000).checked_div(u128::from(self.span));
         load.unwrap_or(0).min(1_000) as u64
     }
 
@@ -1314,6 +1351,9 @@ impl Monitor {
         self.quiet = Some(end);
         let burst = Burst::new(begin, end, characters);
         self.statistics.hear(&burst);
+        if self.judge.is_none() {
+            self.order = None;
+        }
         let judge = self.judge.get_or_insert_with(|| Judge::new(begin));
         judge.end_silence(&self.bus, begin);
         let raised = burst.said.and_then(|said| Some((judge.alarm(&self.bus, begin, said)?, said, *judge)));
@@ -1570,7 +1610,7 @@ fn push_reply(text: &mut Vec<u8>, control: Control, is_empty: bool) {
         0 => b"reply: OK",
         1 => b"reply: user error",
         2 => b"reply: no resource",
-        3 => b"reply: no such service",
+        3 => b"reply: service not activated",
         8 => b"reply: data low",
         9 => b"reply: no data",
         10 => b"reply: data high",
