@@ -22,6 +22,10 @@ all_classes = record { legality = true; loss = true; timing = true }
 abbrev pub alarms_in : List Burst → List (ℕ × Alarm)
 alarms_in bs = alarms example_bus 0 all_classes 0 (listening 0) bs
 
+-- with a slack of five slots
+abbrev pub loose_alarms_in : List Burst → List (ℕ × Alarm)
+loose_alarms_in bs = alarms example_bus 500 all_classes 0 (listening 0) bs
+
 -- the first station claims the token, finds the second, and passes it on, until 1153
 abbrev pub ring : List Burst → List Burst
 ring bs = at 800 (token 1 1) ∷ at 870 (token 1 1) ∷ at 940 (question 2 1) ∷ at 1017 (answer 1 2) ∷ at 1120 (token 2 1) ∷ bs

@@ -5,7 +5,7 @@ ghost use Rattle.law_runs.specs.Traces.{token, question, answer};
 ghost use Rattle.pb_monitor.specs.declared.alarms.Alarm.TheVariants.{SpokeWithoutToken, SpokeOutOfTurn, PassedAgainTooEarly, PassedAgainThoughHeard, TookAfterSlot, ClaimedTooEarly, SpokeAfterLoss, ClaimedTooEarlyAfterLoss, TookLate, TookTooSoon};
 ghost use Rattle.pb_monitor.specs.Cutting.{TelegramsAreCut};
 ghost use Rattle.pb_monitor.specs.Promises.{LegalOrdersAreRight, LegalTracesRaiseNone};
-ghost use Rattle.pb_monitor.specs.Examples.{at, disturbed, alarms_in, ring};
+ghost use Rattle.pb_monitor.specs.Examples.{at, disturbed, alarms_in, loose_alarms_in, ring};
 
 /// Whatever a listener hears of a legal trace raises no alarm of legality, whatever the premises.
 pub fn legal_traces_raise_no_alarm()
@@ -37,6 +37,9 @@ pub fn captures_are_judged()
     ensures claims_lost { alarms_in (ring (at 2152 (token 2 2) ∷ []))
         ≡ (2152, ClaimedTooEarlyAfterLoss) ∷ [] }
     ensures claims_after_ttos { alarms_in (ring (at 2153 (token 2 2) ∷ [])) ≡ [] }
+    ensures claims_loosely { loose_alarms_in (ring (at 1190 (question 3 2) ∷ at 1356 (token 0 0) ∷ [])) ≡ [] }
+    ensures claims_early_loosely { loose_alarms_in (ring (at 1190 (question 3 2) ∷ at 1355 (token 0 0) ∷ []))
+        ≡ (1355, ClaimedTooEarly) ∷ [] }
     ensures speaks_lost { alarms_in (ring (at 1254 (question 3 2) ∷ [])) ≡ (1254, SpokeAfterLoss) ∷ [] }
 {}
 

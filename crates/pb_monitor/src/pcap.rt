@@ -1,6 +1,6 @@
 //! Reads files of packets, pcap and pcapng, as they come: piece by piece, whole heads and packets where they are all there.
 
-ghost use Rattle.std.specs.Prelude.{◌≡◌, ◌<◌, ◌≤◌, ◌+◌, length, IfSome};
+ghost use Rattle.std.specs.Prelude.{◌≡◌, ◌<◌, ◌≤◌, ◌+◌, ◌++◌, length, take, IfSome};
 
 use arrayvec::ArrayVec;
 use pb_telegram::{Receiver, RxChar};
@@ -496,8 +496,10 @@ impl Heads {
     /// The packet whose head and octets are the front of some octets, if they are all there.
     #[inline(always)]
     pub(crate) fn whole<'a>(&self, octets: &'a [u8]) -> Option<Whole<'a>>
-        ensures { IfSome result (λ whole. 16 + length whole.octets.now + length whole.behind.now
+        ensures lengths { IfSome result (λ whole. 16 + length whole.octets.now + length whole.behind.now
             ≡ length octets.now) }
+        ensures parts { IfSome result (λ whole. take 16 octets.now ++ whole.octets.now ++ whole.behind.now
+            ≡ octets.now) }
     {
         let (head, rest) = octets.split_at_checked(PACKET_HEAD)?;
         let (octets, behind) = rest.split_at_checked(long_in(head, 8, self.is_big) as usize)?;

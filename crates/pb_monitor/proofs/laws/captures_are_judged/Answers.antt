@@ -46,5 +46,11 @@ returns-clause-claims_lost c = refl
 pub returns-clause-claims_after_ttos : goal.returns-clause-claims_after_ttos
 returns-clause-claims_after_ttos c = refl
 
+pub returns-clause-claims_loosely : goal.returns-clause-claims_loosely
+returns-clause-claims_loosely c = refl
+
+pub returns-clause-claims_early_loosely : goal.returns-clause-claims_early_loosely
+returns-clause-claims_early_loosely c = refl
+
 pub returns-clause-speaks_lost : goal.returns-clause-speaks_lost
 returns-clause-speaks_lost c = refl
