@@ -498,7 +498,7 @@ impl Heads {
     pub(crate) fn whole<'a>(&self, octets: &'a [u8]) -> Option<Whole<'a>>
         ensures lengths { IfSome result (λ whole. 16 + length whole.octets.now + length whole.behind.now
             ≡ length octets.now) }
-        ensures parts { IfSome result (λ whole. take 16 octets.now ++ whole.octets.now ++ whole.behind.now
+        ensures parts { IfSome result (λ whole. take 16 octets.now ++ (whole.octets.now ++ whole.behind.now)
             ≡ octets.now) }
     {
         let (head, rest) = octets.split_at_checked(PACKET_HEAD)?;
