@@ -303,7 +303,7 @@ fn happens_in_time<S: Stage>(
 {
     match stage.apply_in_time(alloc, event) {
         Ok(()) => Ok(()),
-        Err(fault) => Err(RunFault::At(now, fault)),
+        Err(refused) => Err(RunFault::At(now, refused)),
     }
 }
 
