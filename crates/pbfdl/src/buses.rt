@@ -93,7 +93,12 @@ pub extern "C" fn fdl_bus_turn(alloc: Global, bus: &mut BusHandle, tap: usize) -
     ensures none { bus.old.value ≡ None → FindsNoBus result bus.new.value }
     ensures turn { IfSome bus.old.value (λ b. Meets b (model.Turn tap) result bus.new.value) }
 {
-    happens(alloc, bus, &Event::Turn(tap))
+    let Some(mut there) = bus.take(alloc) else {
+        return NO_BUS;
+    };
+    let code = event_code(there.turn(alloc, tap));
+    bus.put(there);
+    code
 }
 
 /// Time passes, in bit times. Codes: 73, 85, 86, 87, 45.
@@ -102,7 +107,12 @@ pub extern "C" fn fdl_bus_pass(alloc: Global, bus: &mut BusHandle, bits: u64) ->
     ensures none { bus.old.value ≡ None → FindsNoBus result bus.new.value }
     ensures passes { IfSome bus.old.value (λ b. Meets b (model.Pass bits) result bus.new.value) }
 {
-    happens(alloc, bus, &Event::Pass(bits))
+    let Some(mut there) = bus.take(alloc) else {
+        return NO_BUS;
+    };
+    let code = event_code(there.pass(alloc, bits));
+    bus.put(there);
+    code
 }
 
 /// Noise reaches every tap, for some bit times. Codes: 86 for more than 4,294,967,295; 73, 85, 90, 63.
@@ -265,7 +275,7 @@ fn make(
     }
 }
 
-/// Applies an event to the bus of a handle.
+/// Applies an event to the bus of a handle. Turns and passes of time don't: making an event clears room for a request.
 fn happens(alloc: Global, bus: &mut BusHandle, event: &Event) -> u32
     ensures none { bus.old.value ≡ None → FindsNoBus result bus.new.value }
     ensures meets { IfSome bus.old.value (λ b. Meets b (event_of event.now) result bus.new.value) }
