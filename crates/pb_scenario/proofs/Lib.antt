@@ -16,4 +16,3 @@ pub mod Happenings
 pub mod Moves
 pub mod SameFiles
 pub mod Repeating
-pub mod OctetPairs

@@ -22,7 +22,6 @@ pub mod Counting
 pub mod Courses
 pub mod Plays
 pub mod Judged
-pub mod Digits
 pub mod Fields
 pub mod Tables
 pub mod Files

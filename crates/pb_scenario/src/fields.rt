@@ -4,7 +4,6 @@ ghost use Rattle.std.specs.Prelude.{◌≡◌, Some, option_map};
 ghost use Rattle.pb_scenario.specs.Keys.{is_named};
 ghost use Rattle.pb_scenario.specs.Fields.{Tells, in_range, known_or, octets_in};
 
-use crate::digits::spell_into;
 use crate::faults::ScenarioFault;
 use crate::keys::{Key, Path, Section, UnknownKey};
 use crate::versions::Version;
@@ -214,7 +213,7 @@ fn octets_in(text: &str) -> Option<ArrayVec<u8, 246>>
     }
     let mut room = [0; LONGEST_UNIT];
     let octets = &mut room[..digits.len() / 2];
-    if !spell_into(digits, octets) {
+    if hex::decode_to_slice(digits, octets).is_err() {
         return None;
     }
     let mut unit = ArrayVec::new();

@@ -8,7 +8,6 @@ mod agendas;
 mod coming;
 mod courses;
 mod deeds;
-mod digits;
 mod faults;
 mod fields;
 mod files;
