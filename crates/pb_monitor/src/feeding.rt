@@ -220,7 +220,7 @@ impl Monitor {
         let step = self.packets.read(octets, &mut self.receiver);
         let taken = step.taken;
         match step.item {
-            Some(Item::Packet(stamp)) if step.is_whole => {
+            Some(Item::Packet { stamp, .. }) if step.is_whole => {
                 self.place = self.place.saturating_add(1);
                 let when = self.when(stamp);
                 self.hear_rare_octets(when, &octets[..taken], rooms, text)?
@@ -249,10 +249,13 @@ impl Monitor {
     #[inline(never)]
     pub(crate) fn hear_item(&mut self, item: Item, text: &mut Vec<u8>) -> Result<(), AllocError> {
         match item {
-            Item::Packet(stamp) => {
+            Item::Packet { stamp, missing } => {
                 self.place = self.place.saturating_add(1);
+                if missing > 0 && self.kept.is_wanted() {
+                    self.kept.note(RxChar::Bad);
+                }
                 let when = self.when(stamp);
-                self.hear_fed(when, text)
+                self.hear_fed(when, missing.saturating_sub(1), text)
             }
             Item::Refused(offset, fault) => self.refuse_packet(offset, fault, text),
         }

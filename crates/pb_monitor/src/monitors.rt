@@ -326,7 +326,7 @@ impl Monitor {
             Told::Burst(when, Characters::Octets(count)) => {
                 self.hear_rare_octets(when, &room[..count], rooms, text)
             }
-            Told::Burst(when, Characters::Fed) => self.hear_fed(when, text),
+            Told::Burst(when, Characters::Fed) => self.hear_fed(when, 0, text),
         }
     }
 
@@ -356,13 +356,18 @@ impl Monitor {
         self.hear_when(when, burst, octets, octets.len() as u64, text)
     }
 
-    /// A burst of the characters that the receiver was fed has come.
+    /// A burst of the characters that the receiver was fed has come, and of so many that it was not fed.
     #[inline(never)]
-    pub(crate) fn hear_fed(&mut self, when: When, text: &mut Vec<u8>) -> Result<(), AllocError> {
+    pub(crate) fn hear_fed(
+        &mut self,
+        when: When,
+        unfed: u64,
+        text: &mut Vec<u8>,
+    ) -> Result<(), AllocError> {
         let mut burst = Burst::none();
         burst.telegram = self.receiver.answer();
         let octets = octets_of(&burst.telegram);
-        let count = self.receiver.fed();
+        let count = self.receiver.fed().saturating_add(unfed);
         self.hear_when(when, &mut burst, &octets, count, text)
     }
 

@@ -29,8 +29,13 @@ const NANOS: u64 = 1_000_000_000;
 /// What has been read of a file of packets.
 #[derive(Debug, PartialEq, Eq, Drop)]
 pub(crate) enum Item {
-    /// A packet ended, whose octets the receiver was fed, with its time, if the file gives one.
-    Packet(Option<Stamp>),
+    /// A packet ended, whose octets the receiver was fed.
+    Packet {
+        /// Its time, if the file gives one.
+        stamp: Option<Stamp>,
+        /// How many octets it had on the line that the file does not have. The receiver was fed one damaged character for them.
+        missing: u64,
+    },
     /// Something is refused, from an offset on.
     Refused(u64, PcapFault),
 }
@@ -55,6 +60,15 @@ pub(crate) struct Step {
     pub(crate) item: Option<Item>,
     /// Whether they are all the octets of a packet.
     pub(crate) is_whole: bool,
+}
+
+/// How many octets a packet has.
+#[derive(Clone, Copy, Debug)]
+pub(crate) struct Size {
+    /// In the file.
+    pub(crate) kept: u64,
+    /// On the line.
+    pub(crate) sent: u64,
 }
 
 /// The time of a packet.
@@ -150,6 +164,8 @@ pub(crate) struct Packets {
     pub(crate) head: ArrayVec<u8, LONGEST_HEAD>,
     /// How many octets of a packet, or of octets that are skipped, are to come.
     pub(crate) left: u64,
+    /// How many octets of the packet the file does not have.
+    missing: u64,
     /// How many octets of the block are to come behind this part.
     pub(crate) rest: u64,
     /// The type of the block of pcapng.
@@ -172,6 +188,7 @@ impl Packets {
             part: Part::Magic,
             head: ArrayVec::new(),
             left: 0,
+            missing: 0,
             rest: 0,
             block: 0,
             is_big: false,
@@ -242,9 +259,12 @@ impl Packets {
     {
         let is_first = receiver.fed() == 0;
         let taken = self.come(octets.len());
-        let is_whole = is_first && self.left == 0;
+        let is_whole = is_first && self.left == 0 && self.missing == 0;
         if !is_whole {
             feed_all(&octets[..taken], receiver);
+        }
+        if self.left == 0 {
+            self.feed_missing(receiver);
         }
         Step {
             taken,
@@ -332,7 +352,10 @@ impl Packets {
         match self.part {
             Part::Packet => {
                 self.skip_rest();
-                Some(Item::Packet(self.stamp))
+                Some(Item::Packet {
+                    stamp: self.stamp,
+                    missing: self.missing,
+                })
             }
             Part::OtherPacket => {
                 self.skip_rest();
@@ -459,28 +482,40 @@ impl Packets {
     /// A packet of a pcap file comes.
     fn end_packet_head(&mut self, head: &[u8], receiver: &mut Receiver) -> Option<Item> {
         self.stamp = Some(self.file_heads().stamp(head));
-        let octets = u64::from(self.long(head, 8));
-        self.begin_packet(octets, true, receiver)
+        let size = Size {
+            kept: u64::from(self.long(head, 8)),
+            sent: u64::from(self.long(head, 12)),
+        };
+        self.begin_packet(size, true, receiver)
     }
 
     /// The octets of a packet come.
     pub(crate) fn begin_packet(
         &mut self,
-        octets: u64,
+        size: Size,
         is_wanted: bool,
         receiver: &mut Receiver,
     ) -> Option<Item> {
         receiver.restart();
-        self.left = octets;
+        self.left = size.kept;
+        self.missing = size.sent.saturating_sub(size.kept);
         self.part = if is_wanted {
             Part::Packet
         } else {
             Part::OtherPacket
         };
-        if octets > 0 {
+        if size.kept > 0 {
             return None;
         }
+        self.feed_missing(receiver);
         self.end_of_part()
+    }
+
+    /// Of a packet whose octets are not all in the file, the others are one damaged character.
+    fn feed_missing(&self, receiver: &mut Receiver) {
+        if self.missing > 0 && receiver.fed() < u64::from(u32::MAX) {
+            receiver.feed(RxChar::Bad);
+        }
     }
 }
 
@@ -493,7 +528,7 @@ pub(crate) struct Heads {
 }
 
 impl Heads {
-    /// The packet whose head and octets are the front of some octets, if they are all there.
+    /// The packet whose head and octets are the front of some octets, if they are all there, and all that it had on the line.
     #[inline(always)]
     pub(crate) fn whole<'a>(&self, octets: &'a [u8]) -> Option<Whole<'a>>
         ensures lengths { IfSome result (λ whole. 16 + length whole.octets.now + length whole.behind.now
@@ -502,7 +537,14 @@ impl Heads {
             ≡ octets.now) }
     {
         let (head, rest) = octets.split_at_checked(PACKET_HEAD)?;
-        let (octets, behind) = rest.split_at_checked(long_in(head, 8, self.is_big) as usize)?;
+        let (kept, sent) = (
+            long_in(head, 8, self.is_big),
+            long_in(head, 12, self.is_big),
+        );
+        if sent > kept {
+            return None;
+        }
+        let (octets, behind) = rest.split_at_checked(kept as usize)?;
         Some(Whole {
             stamp: self.stamp(head),
             octets,

@@ -1,6 +1,6 @@
 //! Reads the blocks of a pcapng file.
 
-use crate::pcap::{Interface, Item, MICROS, Packets, Part, PcapFault, Stamp, is_profibus};
+use crate::pcap::{Interface, Item, MICROS, Packets, Part, PcapFault, Size, Stamp, is_profibus};
 use pb_telegram::Receiver;
 
 /// The type of the head of a section, which reads the same in either byte order.
@@ -124,8 +124,11 @@ impl Packets {
         head: &[u8],
         receiver: &mut Receiver,
     ) -> Option<Item> {
-        let octets = u64::from(self.long(head, 12));
-        match self.rest.checked_sub(octets) {
+        let size = Size {
+            kept: u64::from(self.long(head, 12)),
+            sent: u64::from(self.long(head, 16)),
+        };
+        match self.rest.checked_sub(size.kept) {
             Some(rest) => self.rest = rest,
             None => return self.give_up(PcapFault::BadBlock),
         }
@@ -136,22 +139,23 @@ impl Packets {
                     ticks,
                     per_second: interface.per_second,
                 });
-                self.begin_packet(octets, true, receiver)
+                self.begin_packet(size, true, receiver)
             }
-            _ => self.begin_packet(octets, false, receiver),
+            _ => self.begin_packet(size, false, receiver),
         }
     }
 
     /// A packet of the first interface comes, without a time.
     pub(crate) fn end_simple_head(&mut self, head: &[u8], receiver: &mut Receiver) -> Option<Item> {
-        let octets = u64::from(self.long(head, 0)).min(self.rest.saturating_sub(4));
-        self.rest = self.rest.saturating_sub(octets);
+        let sent = u64::from(self.long(head, 0));
+        let kept = sent.min(self.rest.saturating_sub(4));
+        self.rest = self.rest.saturating_sub(kept);
         self.stamp = None;
         let is_wanted = match self.interfaces.first() {
             Some(interface) => interface.is_profibus,
             None => false,
         };
-        self.begin_packet(octets, is_wanted, receiver)
+        self.begin_packet(Size { kept, sent }, is_wanted, receiver)
     }
 }
 

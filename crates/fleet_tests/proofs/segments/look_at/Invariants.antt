@@ -1,4 +1,4 @@
-use Rattle.pb_segment.proofs.tests.look_at.Given as goal
+use Rattle.fleet_tests.proofs.segments.look_at.Given as goal
 
 abbrev pub ghosts-looked_at : goal.ghosts-looked_at
 ghosts-looked_at g a = record { name = a.blank.name; parts = a.blank.parts }
