@@ -361,7 +361,7 @@ impl LineFault<'_> {
             }
             LineFault::NoMoment(field) => {
                 push_quoted(text, field);
-                b" is no moment; wanted: bit times, 0 to 18446744073709551615\n"
+                b" is no moment; wanted: bit times, 0 to 18446744073709551615, or HEX alone with no blanks inside\n"
             }
             LineFault::NotHex(field) => {
                 push_quoted(text, field);

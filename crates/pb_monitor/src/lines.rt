@@ -72,7 +72,7 @@ impl LineFault<'_> {
             LineFault::NoMoment(field) => {
                 push_quoted(text, field)?;
                 text.extend_from_slice(
-                    b" is no moment; wanted: bit times, 0 to 18446744073709551615",
+                    b" is no moment; wanted: bit times, 0 to 18446744073709551615, or HEX alone with no blanks inside",
                 )
             }
             LineFault::NotHex(field) => {
