@@ -46,17 +46,25 @@ shortest_hold p = p.tid1 + bits 3 + p.ttd
 abbrev pub shortest_rotation : Params → ℕ → ℕ
 shortest_rotation p masters = if masters == 1 then p.tid1 + bits 3 else masters * shortest_hold p
 
+-- The shortest rotation and the idle time behind the receipt.
+abbrev pub shortest_asking : Params → ℕ → ℕ
+shortest_asking p masters = shortest_rotation p masters + p.tid1
+
 -- No holding time is left for a GAP request, once a rotation has been measured: the shortest one and the idle time behind the receipt take the target rotation time.
 abbrev pub never_asks : Params → ℕ → Bool
-never_asks p masters = nat_le p.ttr (shortest_rotation p masters + p.tid1)
+never_asks p masters = nat_le p.ttr (shortest_asking p masters)
 
 -- how many addresses have no master
 abbrev pub free_addresses : Params → ℕ → ℕ
 free_addresses p masters = p.hsa + 1 - masters
 
--- A GAP round of all of them, one a rotation, takes longer than it is to be until the next.
+-- the shortest GAP round of all of them, one a rotation
+abbrev pub shortest_round : Params → ℕ → ℕ
+shortest_round p masters = free_addresses p masters * shortest_rotation p masters
+
+-- That round takes longer than it is to be until the next.
 abbrev pub is_round_long : Params → ℕ → Bool
-is_round_long p masters = nat_lt (p.gap * p.ttr) (free_addresses p masters * shortest_rotation p masters)
+is_round_long p masters = nat_lt (p.gap * p.ttr) (shortest_round p masters)
 
 -- ---- the world
 

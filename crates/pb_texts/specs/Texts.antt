@@ -7,7 +7,7 @@ use Rattle.law_rings.specs.Rotation.{rotation_time}
 use Rattle.pb_scenario.specs.Scenarios.{ScenarioView}
 use Rattle.pb_texts.specs.declared.numbers.Rounding.{Rounding}
 use Rattle.pb_texts.specs.declared.numbers.Rounding.TheVariants.{Up, Down}
-use Rattle.pb_texts.specs.Bounds.{silence_bound, beyond_ttr, take_margin, reply_margin, lag_margin, masters_of, never_asks, is_round_long}
+use Rattle.pb_texts.specs.Bounds.{silence_bound, beyond_ttr, take_margin, reply_margin, lag_margin, masters_of, never_asks, is_round_long, shortest_asking, shortest_round}
 
 -- Some words are unfolded in few proofs alone, so that longer texts stay short terms.
 
@@ -62,18 +62,21 @@ margin_lines baud p =
 
 -- ---- warnings
 
+-- the words of a warning, and the number that is wanted behind them
 unfoldable pub asks_words : List ℕ
-asks_words = codes "ttr is at most the shortest rotation and an idle time: after a first receipt a ring of all masters sends no GAP request"
+asks_words = codes "ttr is at most the shortest rotation and an idle time: after a first receipt a ring of all masters sends no GAP request; wanted: over "
 
 unfoldable pub round_words : List ℕ
-round_words = codes "a GAP round of all free addresses takes longer than gap * ttr, after which the next is due"
+round_words = codes "a GAP round of all free addresses takes longer than gap * ttr, after which the next is due; wanted: at least "
 
-unfoldable pub line_if : Bool → List ℕ → List ℕ
-line_if true words = codes "warning: " ++ words ++ codes "\n"
-line_if false words = []
+unfoldable pub line_if : Bool → (words : List ℕ) (wanted : ℕ) → List ℕ
+line_if true words wanted = codes "warning: " ++ words ++ decimal wanted ++ codes "\n"
+line_if false words wanted = []
 
 abbrev pub warning_lines : Params → (masters : ℕ) → List ℕ
-warning_lines p masters = line_if (never_asks p masters) asks_words ++ line_if (is_round_long p masters) round_words
+warning_lines p masters =
+    line_if (never_asks p masters) asks_words (shortest_asking p masters)
+    ++ line_if (is_round_long p masters) round_words (shortest_round p masters)
 
 abbrev pub bounds_text : (baud : ℕ) → ScenarioView → List ℕ
 bounds_text baud s =
@@ -120,15 +123,16 @@ margin_members baud p =
     ++ member Down baud (codes ",\"reply_margin\":") (reply_margin p)
     ++ member Down baud (codes ",\"lag_margin\":") (lag_margin p)
 
--- words in quotes, if there are some
-unfoldable pub quoted_if : Bool → List ℕ → List ℕ
-quoted_if true words = codes "\"" ++ words ++ codes "\""
-quoted_if false words = []
+-- a warning in quotes, if there is one
+unfoldable pub quoted_if : Bool → (words : List ℕ) (wanted : ℕ) → List ℕ
+quoted_if true words wanted = codes "\"" ++ words ++ decimal wanted ++ codes "\""
+quoted_if false words wanted = []
 
 abbrev pub warning_items : Params → (masters : ℕ) → List ℕ
 warning_items p masters =
-    quoted_if (never_asks p masters) asks_words ++ comma_if (never_asks p masters && is_round_long p masters)
-    ++ quoted_if (is_round_long p masters) round_words
+    quoted_if (never_asks p masters) asks_words (shortest_asking p masters)
+    ++ comma_if (never_asks p masters && is_round_long p masters)
+    ++ quoted_if (is_round_long p masters) round_words (shortest_round p masters)
 
 unfoldable pub masters_member : (baud : ℕ) → ScenarioView → List ℕ
 masters_member baud s = codes ",\"masters\":[" ++ master_objects baud s.scenario.params false s.names s.scenario.taps ++ codes "]"

@@ -121,7 +121,16 @@ pub fn never_asks(params: &BusParams, masters: usize) -> bool
     requires { masters ≤ 127 }
     ensures { result ≡ bounds.never_asks params.now masters }
 {
-    u64::from(params.ttr()) <= shortest_rotation(params, masters) + u64::from(params.tid1())
+    u64::from(params.ttr()) <= shortest_asking(params, masters)
+}
+
+/// The shortest rotation of up to 127 masters and an idle time, in bit times: the target rotation time with which they
+/// have holding time for a GAP request is longer.
+pub(crate) fn shortest_asking(params: &BusParams, masters: usize) -> u64
+    requires { masters ≤ 127 }
+    ensures { result ≡ bounds.shortest_asking params.now masters }
+{
+    shortest_rotation(params, masters) + u64::from(params.tid1())
 }
 
 /// Whether a GAP round of all addresses that have none of up to 127 masters, one a rotation, takes longer than it is to
@@ -130,9 +139,17 @@ pub fn is_round_long(params: &BusParams, masters: usize) -> bool
     requires { masters ≤ 127 }
     ensures { result ≡ bounds.is_round_long params.now masters }
 {
-    let free = free_addresses(params, masters);
     let asked = u64::from(params.gap()) * u64::from(params.ttr());
-    u128::from(asked) < u128::from(free) * u128::from(shortest_rotation(params, masters))
+    u128::from(asked) < shortest_round(params, masters)
+}
+
+/// The shortest GAP round of all addresses that have none of up to 127 masters, one a rotation, in bit times.
+pub(crate) fn shortest_round(params: &BusParams, masters: usize) -> u128
+    requires { masters ≤ 127 }
+    ensures { result ≡ bounds.shortest_round params.now masters }
+{
+    let free = free_addresses(params, masters);
+    u128::from(free) * u128::from(shortest_rotation(params, masters))
 }
 
 /// How many addresses none of some masters has.

@@ -3,6 +3,11 @@
 use bstr::ByteSlice;
 use pb_scenario::Section;
 
+/// The keys whose values are bit times.
+const DURATIONS: [&str; 11] = [
+    "until", "tsl", "tid1", "tid2", "tsdr", "lag", "ttr", "ttd", "at", "bits", "every",
+];
+
 /// A place in a file.
 #[derive(Clone, Copy, Debug, PartialEq, Eq)]
 pub(crate) struct Spot {
@@ -128,6 +133,32 @@ pub(crate) fn earlier_in<'a>(file: &'a [u8], line: usize) -> Option<Earlier<'a>>
         }
     }
     found
+}
+
+/// Whether a line gives a duration with a unit.
+pub(crate) fn has_unit(file: &[u8], line: usize) -> bool {
+    let Some(text) = file.lines().nth(line.saturating_sub(1)) else {
+        return false;
+    };
+    match text.split_once_str(b"=") {
+        Some((name, value)) => {
+            let name = bare(name);
+            let is_duration = DURATIONS.iter().any(|key| name == key.as_bytes());
+            is_duration && is_number_with_unit(without_comment(value.trim_start()))
+        }
+        None => false,
+    }
+}
+
+/// Whether a value is digits with letters behind them.
+fn is_number_with_unit(value: &[u8]) -> bool {
+    let is_of_number = |octet: &u8| octet.is_ascii_digit() || *octet == b'_' || *octet == b'.';
+    let digits = value.iter().take_while(|octet| is_of_number(octet)).count();
+    let unit = (&value[digits.min(value.len())..]).trim_start();
+    match unit {
+        [first, ..] => digits > 0 && (first.is_ascii_alphabetic() || *first >= 128),
+        [] => false,
+    }
 }
 
 /// The name of the table, or of the list of tables, that a line opens.

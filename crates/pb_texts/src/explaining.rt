@@ -1,7 +1,7 @@
 //! Why a scenario file or its run is refused.
 
 use crate::documents::Document;
-use crate::file_hints::of_file;
+use crate::file_hints::{of_bus_file, of_file};
 use crate::run_hints::{of_run, of_settling_run};
 use crate::stream_hints::of_stream_run;
 use pb_scenario::{ScenarioFault, read, read_bus, read_stream};
@@ -14,7 +14,7 @@ pub const MOST_EVENTS: u64 = 1_000_000;
 /// text where it isn't refused. `name` is the file's name as people gave it. `events` is how many events a run may
 /// have, `None` where there is no limit.
 ///
-/// It takes as long as the run on one thread. Fault: memory was refused.
+/// It takes as long as the run on one thread, or twice as long for damage and losses. Fault: memory was refused.
 pub fn explain(
     alloc: Global,
     name: &str,
@@ -38,7 +38,7 @@ pub fn explain_bus(alloc: Global, name: &str, file: &[u8]) -> Result<String, All
     match read_bus(alloc, file) {
         Ok(_) => Ok(String::new(alloc)),
         Err(ScenarioFault::NoMemory) => Err(AllocError),
-        Err(fault) => of_file(&document, &fault),
+        Err(fault) => of_bus_file(&document, &fault),
     }
 }
 

@@ -1,7 +1,7 @@
 //! Why a file describes no scenario.
 
 use crate::documents::Document;
-use crate::entries::{Earlier, Spot};
+use crate::entries::{Earlier, Spot, has_unit};
 use crate::file_values as values;
 use crate::key_hints::{is_known, keys_of, table_name, wanted, words_of};
 use crate::near_words::nearest;
@@ -15,6 +15,9 @@ use toml::Table;
 /// What the reader of TOML says where a key or a table stands twice.
 const DUPLICATE: &str = "duplicate key";
 
+/// Behind the hint for a file that is no TOML where a bus is wanted: it may be a capture.
+const CAPTURE: &str = "; a capture comes on standard input: ringplay monitor BUS.toml <capture.txt";
+
 /// How many steps a file may have.
 const MOST_STEPS: usize = 10_000;
 
@@ -27,7 +30,7 @@ pub(crate) fn of_file(
     let top = match toml::table_from_slice(alloc, file) {
         Ok(top) => top,
         Err(error) if error.is_memory() => return Err(AllocError),
-        Err(error) => return not_toml(document, &error),
+        Err(error) => return not_toml(document, &error, ""),
     };
     match fault {
         ScenarioFault::NotToml | ScenarioFault::NoMemory => Err(AllocError),
@@ -44,15 +47,35 @@ pub(crate) fn of_file(
     }
 }
 
-/// A file that is no TOML, or no text.
-fn not_toml(document: &Document<'_>, error: &toml::de::Error) -> Result<String, AllocError> {
+/// The hint for a fault of a file that should give a bus to the monitor.
+pub(crate) fn of_bus_file(
+    document: &Document<'_>,
+    fault: &ScenarioFault,
+) -> Result<String, AllocError> {
+    match (fault, toml::table_from_slice(document.alloc, document.file)) {
+        (_, Err(error)) if error.is_memory() => Err(AllocError),
+        (ScenarioFault::NotToml, Err(error)) => not_toml(document, &error, CAPTURE),
+        _ => of_file(document, fault),
+    }
+}
+
+/// A file that is no TOML, or no text; `more` ends the line.
+fn not_toml(
+    document: &Document<'_>,
+    error: &toml::de::Error,
+    more: &str,
+) -> Result<String, AllocError> {
     let start = match error.span() {
         Some(span) => span.start,
         None => 0,
     };
     let (message, spot) = (error.message(), Spot::of(document.file, start));
     if message != DUPLICATE {
-        return document.at(spot, format_args!("the file is no TOML: {message}"));
+        let unit = unit_words(document, spot);
+        return document.at(
+            spot,
+            format_args!("the file is no TOML: {message}{unit}{more}"),
+        );
     }
     match document.earlier(spot.line) {
         Some(Earlier::Header { name, spot: first }) => {
@@ -60,7 +83,7 @@ fn not_toml(document: &Document<'_>, error: &toml::de::Error) -> Result<String, 
             document.at(
                 spot,
                 format_args!(
-                    "the file is no TOML: line {first} opens '{name}' too; wanted: [[{name}]] in both, for a list of tables"
+                    "the file is no TOML: line {first} opens '{name}' too; wanted: [[{name}]] in both, for a list of tables{more}"
                 ),
             )
         }
@@ -68,10 +91,21 @@ fn not_toml(document: &Document<'_>, error: &toml::de::Error) -> Result<String, 
             let (name, first) = (name.as_bstr(), first.line);
             document.at(
                 spot,
-                format_args!("the file is no TOML: the key '{name}' stands in line {first} too"),
+                format_args!(
+                    "the file is no TOML: the key '{name}' stands in line {first} too{more}"
+                ),
             )
         }
-        None => document.at(spot, format_args!("the file is no TOML: {message}")),
+        None => document.at(spot, format_args!("the file is no TOML: {message}{more}")),
+    }
+}
+
+/// What to do with a unit, if the line of a place has one.
+fn unit_words(document: &Document<'_>, spot: Spot) -> &'static str {
+    if has_unit(document.file, spot.line) {
+        "; wanted: bit times, without a unit"
+    } else {
+        ""
     }
 }
 
@@ -97,10 +131,7 @@ fn missing(document: &Document<'_>, top: &Table, path: Path) -> Result<String, A
         Path::Item(section) => return no_table(document, section),
         Path::Key(section, key) => (section, key),
     };
-    let (table, wanted) = (
-        table_name(section),
-        wanted(section, key, document.has_repeats()),
-    );
+    let (table, wanted) = (table_name(section), wanted(document, section, key));
     if let Some(near) = near_key(document, top, section, key)? {
         return document.at(
             document.unknown(section, near),
@@ -159,7 +190,7 @@ fn bad_value(document: &Document<'_>, path: Path) -> Result<String, AllocError> 
             format_args!("[{key}] is a single table; wanted: [[{key}]], a list of tables"),
         );
     }
-    let wanted = wanted(section, key, document.has_repeats());
+    let wanted = wanted(document, section, key);
     let found = document.value(section, key);
     let near = near_value(document, key, found.text)?;
     match found.text {

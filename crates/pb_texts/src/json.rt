@@ -8,7 +8,7 @@ ghost use Rattle.pb_texts.specs.Texts as texts;
 
 use crate::bounds::{
     beyond_ttr, is_master, is_round_long, lag_margin, masters_of, never_asks, reply_margin,
-    rotation_bound, silence_bound, take_margin,
+    rotation_bound, shortest_asking, shortest_round, silence_bound, take_margin,
 };
 use crate::numbers::{Rounding, push_millis};
 use crate::texts::{asks_words, round_words};
@@ -207,21 +207,28 @@ fn push_items(text: &mut Vec<u8>, params: &BusParams, masters: usize) -> Result<
 {
     let asks = never_asks(params, masters);
     let round = is_round_long(params, masters);
-    push_quoted(text, asks, asks_words())?;
+    let least = u128::from(shortest_asking(params, masters));
+    push_quoted(text, asks, asks_words(), least)?;
     push_comma(text, both(asks, round))?;
-    push_quoted(text, round, round_words())
+    push_quoted(text, round, round_words(), shortest_round(params, masters))
 }
 
-/// Appends words in quotes, if they apply.
+/// Appends a warning with the number that is wanted, in quotes, if it applies.
 #[tactic(auto, unfolding(crate::specs::Texts::quoted_if))]
-fn push_quoted(text: &mut Vec<u8>, applies: bool, words: &[u8]) -> Result<(), AllocError>
-    ensures { OnOk result (text.new.items ≡ text.old.items ++ texts.quoted_if applies words.now) }
+fn push_quoted(
+    text: &mut Vec<u8>,
+    applies: bool,
+    words: &[u8],
+    wanted: u128,
+) -> Result<(), AllocError>
+    ensures { OnOk result (text.new.items ≡ text.old.items ++ texts.quoted_if applies words.now wanted) }
 {
     if !applies {
         return Ok(());
     }
     text.extend_from_slice(b"\"")?;
     text.extend_from_slice(words)?;
+    push_number(text, wanted)?;
     text.extend_from_slice(b"\"")
 }
 

@@ -103,39 +103,67 @@ fn without_repeats(keys: &'static [&'static str]) -> &'static [&'static str] {
     }
 }
 
-/// What a key of a table may have for its value, in a file whose steps may repeat or in another one.
-pub(crate) fn wanted(section: Section, key: Key, has_repeats: bool) -> &'static str {
+/// What a key of a table may have for its value.
+pub(crate) fn wanted(document: &Document<'_>, section: Section, key: Key) -> &'static str {
     match key {
         Key::Version => "1, 2 or 3",
-        Key::Until if has_repeats => {
+        Key::Until if document.has_repeats() => {
             "an integer from 1 to 1000000000000, in bit times, without quotes"
         }
-        Key::Until => "an integer from 1 to 10000000, in bit times, without quotes",
+        Key::Until =>
+            "an integer from 1 to 10000000, in version 3 to 1000000000000, in bit times, without quotes",
         Key::Bus => "a table, [bus]",
         Key::Tap => match section {
             Section::Step(_) => "the name of a tap, in quotes",
             _ => "a list of tables, [[tap]] for each",
         },
         Key::Step => "a list of tables, [[step]] for each",
-        Key::Tsl | Key::Tid1 | Key::Tid2 | Key::Tsdr | Key::Lag | Key::Ttr | Key::Ttd | Key::Bits =>
-            { "an integer from 0 to 4294967295, in bit times, without quotes" }
-        Key::Gap | Key::Hsa | Key::Retries => "an integer from 0 to 4294967295, without quotes",
-        Key::Name if has_repeats => {
+        Key::Name if document.has_repeats() => {
             "1 to 32 ASCII letters, digits, '-' or '_' and nothing else, in quotes"
         }
         Key::Name =>
             "1 to 16 ASCII letters or digits and nothing else, in quotes; in version 3 to 32, also '-' and '_'",
         Key::Kind => "\"master\" or \"passive\"",
-        Key::Address | Key::Place => "an integer from 0 to 255, without quotes",
         Key::Reply | Key::Unit => "at most 246 octets, two hex digits each and no 0x, in quotes",
-        Key::At => "an integer from 0, in bit times",
         Key::Do =>
             "one of \"start\", \"stop\", \"queue\", \"damage\", \"noise\", \"unheard\", \"withhold\"",
         Key::Service => "\"sda\", \"sdn\" or \"srd\"",
-        Key::To => "an integer from 0 to 126, or 127 with the service \"sdn\"",
         Key::High => "true or false",
         Key::Speaker => "the name of a tap, in quotes",
+        Key::Bits if is_noise(document, section) => {
+            "an integer from 1 to 4294967295, in bit times, without quotes"
+        }
+        _ => wanted_number(key),
+    }
+}
+
+/// Whether a step makes noise.
+fn is_noise(document: &Document<'_>, section: Section) -> bool {
+    match document.entry(section, Key::Do) {
+        Some(entry) => entry.text == b"\"noise\"".as_slice(),
+        None => false,
+    }
+}
+
+/// What a key may have for its value whose values are numbers.
+fn wanted_number(key: Key) -> &'static str {
+    match key {
+        Key::Tsl => "an integer from 100 to 16383, in bit times, without quotes",
+        Key::Tid1 => "an integer from 33 to tid2, in bit times, without quotes",
+        Key::Tid2 => "an integer from tid1, under tsl, in bit times, without quotes",
+        Key::Tsdr => "an integer from 11, under tsl, in bit times, without quotes",
+        Key::Lag => "an integer from 0, under tsl, in bit times, without quotes",
+        Key::Ttd => "an integer from 0, under half of tsl, in bit times, without quotes",
+        Key::Ttr => "an integer from 256 to 16777215, in bit times, without quotes",
+        Key::Gap => "an integer from 1 to 100, in rotations, without quotes",
+        Key::Hsa => "an integer from 2 to 126, without quotes",
+        Key::Retries => "an integer from 0 to 7, without quotes",
+        Key::Address => "an integer from 0 to 126, of a master 0 to hsa, without quotes",
+        Key::Place => "an integer from 0 to 255, without quotes",
+        Key::At => "an integer from 0, in bit times",
+        Key::To => "an integer from 0 to 126, or 127 with the service \"sdn\"",
         Key::Every => "an integer from 1, in bit times, without quotes",
         Key::Count => "an integer from 1, how often in all, without quotes",
+        _ => "an integer from 0 to 4294967295, in bit times, without quotes",
     }
 }

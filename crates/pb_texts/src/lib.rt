@@ -2,6 +2,7 @@
 //! faults, and hints for people. Contracts name the bytes, but those of hints.
 #![tactic(auto)]
 
+mod air_hints;
 mod audit_hints;
 mod audits;
 mod bounds;

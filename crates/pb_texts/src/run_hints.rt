@@ -1,5 +1,6 @@
 //! Why the run of a scenario ends before its time.
 
+use crate::air_hints::nothing_in_air;
 use crate::documents::Document;
 use pb_scenario::{
     Deed, Event, Key, Kind, NewFault, RunFault, Scenario, Section, WorldFault, course_of,
@@ -200,33 +201,31 @@ fn of_step(
                 format_args!("at {at}, '{name}' is passive; only a master takes requests"),
             ),
         WorldFault::NotRunning => document.at(spot, format_args!("at {at}, '{name}' doesn't run")),
-        WorldFault::NothingInAir => {
-            let speaker = name_of(scenario, speaker_of(&step.deed));
-            document.at(
-                spot,
-                format_args!(
-                    "at {at}, '{speaker}' sends nothing that could be damaged or lost at '{name}'"
-                ),
-            )
-        }
+        WorldFault::NothingInAir => nothing_in_air(document, scenario, place, at, &step.deed),
         WorldFault::ZeroTime => {
             document.at(
                 document.value(Section::Step(place), Key::Bits).spot,
                 format_args!("at {at}, noise of 0 bit times; wanted: at least 1"),
             )
         }
-        WorldFault::QueueFull => document.at(
-            spot,
-            format_args!(
-                "at {at}, 16 requests of this priority wait at '{name}'; wanted: a later step"
-            ),
-        ),
+        WorldFault::QueueFull => {
+            let wanted = match document.entry(Section::Step(place), Key::Every) {
+                Some(_) => "a larger 'every'",
+                None => "a later step",
+            };
+            document.at(
+                spot,
+                format_args!(
+                    "at {at}, 16 requests of this priority wait at '{name}'; wanted: {wanted}"
+                ),
+            )
+        }
         _ => document.at(spot, format_args!("at {at}, the step is refused: {fault}")),
     }
 }
 
 /// Whether a tap is a passive station.
-fn is_passive(scenario: &Scenario, tap: usize) -> bool {
+pub(crate) fn is_passive(scenario: &Scenario, tap: usize) -> bool {
     match scenario.taps().get(tap) {
         Some(spec) => spec.kind == Kind::Passive,
         None => false,
@@ -238,16 +237,8 @@ fn is_request(deed: &Deed) -> bool {
     matches!(deed, Deed::Happens(Event::Queue { .. }))
 }
 
-/// The speaker that a step names, or else its tap.
-fn speaker_of(deed: &Deed) -> usize {
-    match deed {
-        Deed::Happens(Event::Damage { speaker, .. } | Event::Unheard { speaker, .. }) => *speaker,
-        _ => tap_of(deed),
-    }
-}
-
 /// The tap of a step.
-fn tap_of(deed: &Deed) -> usize {
+pub(crate) fn tap_of(deed: &Deed) -> usize {
     match deed {
         Deed::Withhold { tap, .. } => *tap,
         Deed::Happens(event) => match event {

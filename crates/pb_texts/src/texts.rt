@@ -9,7 +9,7 @@ ghost use Rattle.pb_texts.specs.Texts as texts;
 
 use crate::bounds::{
     beyond_ttr, is_master, is_round_long, lag_margin, masters_of, never_asks, reply_margin,
-    rotation_bound, silence_bound, take_margin,
+    rotation_bound, shortest_asking, shortest_round, silence_bound, take_margin,
 };
 use crate::numbers::{Rounding, push_millis};
 use pb_scenario::{Scenario, push_number};
@@ -212,35 +212,50 @@ fn push_warnings(text: &mut Vec<u8>, params: &BusParams, masters: usize) -> Resu
     requires { masters ≤ 127 }
     ensures { OnOk result (text.new.items ≡ text.old.items ++ texts.warning_lines params.now masters) }
 {
-    push_warning(text, never_asks(params, masters), asks_words())?;
-    push_warning(text, is_round_long(params, masters), round_words())
+    let (asking, round) = (
+        shortest_asking(params, masters),
+        shortest_round(params, masters),
+    );
+    push_warning(
+        text,
+        never_asks(params, masters),
+        asks_words(),
+        u128::from(asking),
+    )?;
+    push_warning(text, is_round_long(params, masters), round_words(), round)
 }
 
-/// Appends the line of a warning, if it applies.
+/// Appends the line of a warning with the number that is wanted, if it applies.
 #[tactic(auto, unfolding(crate::specs::Texts::line_if))]
-fn push_warning(text: &mut Vec<u8>, applies: bool, words: &[u8]) -> Result<(), AllocError>
-    ensures { OnOk result (text.new.items ≡ text.old.items ++ texts.line_if applies words.now) }
+fn push_warning(
+    text: &mut Vec<u8>,
+    applies: bool,
+    words: &[u8],
+    wanted: u128,
+) -> Result<(), AllocError>
+    ensures { OnOk result (text.new.items ≡ text.old.items ++ texts.line_if applies words.now wanted) }
 {
     if !applies {
         return Ok(());
     }
     text.extend_from_slice(b"warning: ")?;
     text.extend_from_slice(words)?;
+    push_number(text, wanted)?;
     text.extend_from_slice(b"\n")
 }
 
-/// The warning that a ring of all masters asks no address.
+/// The warning that a ring of all masters asks no address, up to the number that is wanted.
 #[tactic(auto, unfolding(crate::specs::Texts::asks_words))]
 pub(crate) fn asks_words() -> &'static [u8]
     ensures { result.now ≡ texts.asks_words }
 {
-    b"ttr is at most the shortest rotation and an idle time: after a first receipt a ring of all masters sends no GAP request"
+    b"ttr is at most the shortest rotation and an idle time: after a first receipt a ring of all masters sends no GAP request; wanted: over "
 }
 
-/// The warning that a GAP round is long.
+/// The warning that a GAP round is long, up to the number that is wanted.
 #[tactic(auto, unfolding(crate::specs::Texts::round_words))]
 pub(crate) fn round_words() -> &'static [u8]
     ensures { result.now ≡ texts.round_words }
 {
-    b"a GAP round of all free addresses takes longer than gap * ttr, after which the next is due"
+    b"a GAP round of all free addresses takes longer than gap * ttr, after which the next is due; wanted: at least "
 }

@@ -112,7 +112,7 @@ lag margin 0 bit times, 0.000 ms (TakeLate, ReplyLate)
 fn bounds_are_an_object(rt: HostRuntime) {
     let json = bounds_json(rt.alloc(), &scenario(&rt, ALONE), 9_600).expect(&rt, "text");
     let object =
-        "{\"baud\":9600,\"masters\":[{\"name\":\"a\",\"time_out\":{\"bit_times\":600,\"ms\":62.500},\"silence_bound\":{\"bit_times\":600,\"ms\":62.500},\"never_dead_bound\":{\"bit_times\":12306,\"ms\":1281.875}}],\"rotation_bound\":{\"bit_times\":11806,\"ms\":1229.792},\"rotation_bound_beyond_ttr\":{\"bit_times\":11550,\"ms\":1203.125},\"take_margin\":{\"bit_times\":67,\"ms\":6.979},\"reply_margin\":{\"bit_times\":89,\"ms\":9.270},\"lag_margin\":{\"bit_times\":66,\"ms\":6.875},\"warnings\":[\"a GAP round of all free addresses takes longer than gap * ttr, after which the next is due\"]}\n";
+        "{\"baud\":9600,\"masters\":[{\"name\":\"a\",\"time_out\":{\"bit_times\":600,\"ms\":62.500},\"silence_bound\":{\"bit_times\":600,\"ms\":62.500},\"never_dead_bound\":{\"bit_times\":12306,\"ms\":1281.875}}],\"rotation_bound\":{\"bit_times\":11806,\"ms\":1229.792},\"rotation_bound_beyond_ttr\":{\"bit_times\":11550,\"ms\":1203.125},\"take_margin\":{\"bit_times\":67,\"ms\":6.979},\"reply_margin\":{\"bit_times\":89,\"ms\":9.270},\"lag_margin\":{\"bit_times\":66,\"ms\":6.875},\"warnings\":[\"a GAP round of all free addresses takes longer than gap * ttr, after which the next is due; wanted: at least 8316\"]}\n";
     assert!(rt; json.as_slice() == object.as_bytes());
 }
 
@@ -120,7 +120,7 @@ fn bounds_are_an_object(rt: HostRuntime) {
 fn a_short_rotation_is_warned_of(rt: HostRuntime) {
     let text = bounds_text(rt.alloc(), &scenario(&rt, FOUR), 1_500_000).expect(&rt, "text");
     let warning =
-        "warning: ttr is at most the shortest rotation and an idle time: after a first receipt a ring of all masters sends no GAP request\n";
+        "warning: ttr is at most the shortest rotation and an idle time: after a first receipt a ring of all masters sends no GAP request; wanted: over 297\n";
     assert!(rt; text.as_slice().ends_with(warning.as_bytes()));
 }
 
