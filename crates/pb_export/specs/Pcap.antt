@@ -17,14 +17,14 @@ link_number Profibus = 257
 abbrev pub header : Link → List ℕ
 header link = word 0xa1b23c4d ++ half 2 ++ half 4 ++ word 0 ++ word 0 ++ word 65535 ++ word (link_number link)
 
--- seconds and nanoseconds of a moment in nanoseconds, the number of octets that are there and of those that should be, and
+-- seconds and nanoseconds of a moment in nanoseconds, the number of octets that are there and of those that there were, and
 -- the former
 abbrev pub packet_of : (at : ℕ) (octets : List ℕ) (count : ℕ) → List ℕ
 packet_of at octets count = word (at / 1000000000) ++ word (at % 1000000000) ++ word (length octets) ++ word count ++ octets
 
--- the octets that were sent, of those that were to be sent
+-- the octets that were sent
 abbrev pub packet : (baud : ℕ) → Record → List ℕ
-packet baud r = packet_of (nanos baud r.begin) (sent_octets r) (length r.octets)
+packet baud r = packet_of (nanos baud r.begin) (sent_octets r) (length (sent_octets r))
 
 -- noise has no packet
 abbrev pub entry_packet : (baud : ℕ) → Entry → List ℕ

@@ -49,7 +49,7 @@ comment_text s r =
 abbrev pub length_of : (octets comment : List ℕ) → ℕ
 length_of octets comment = 40 + padded (length octets) + padded (length comment)
 
--- the first interface, a moment in nanoseconds, the number of octets that are there and of those that should be, the former,
+-- the first interface, a moment in nanoseconds, the number of octets that are there and of those that there were, the former,
 -- and the comment (option 1)
 abbrev pub block : (at : ℕ) (comment octets : List ℕ) (count : ℕ) → List ℕ
 block at comment octets count =
@@ -58,9 +58,9 @@ block at comment octets count =
     ∷ half 1 ∷ half (length comment) ∷ comment ∷ padding (length comment)
     ∷ word 0 ∷ word (length_of octets comment) ∷ [])
 
--- the octets that were sent, of those that were to be sent; a comment is cut to the length that its field can say
+-- the octets that were sent; a comment is cut to the length that its field can say
 abbrev pub packet_block : (baud : ℕ) → ScenarioView → Record → List ℕ
-packet_block baud s r = block (nanos baud r.begin) (take 65535 (comment_text s r)) (sent_octets r) (length r.octets)
+packet_block baud s r = block (nanos baud r.begin) (take 65535 (comment_text s r)) (sent_octets r) (length (sent_octets r))
 
 -- noise has no packet
 abbrev pub entry_block : (baud : ℕ) → ScenarioView → Entry → List ℕ

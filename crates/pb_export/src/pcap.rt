@@ -20,7 +20,7 @@ const MAGIC: u64 = 0xa1b2_3c4d;
 const LONGEST_PACKET: u64 = 65_535;
 
 /// Appends a trace as a pcap file: a packet for each telegram that is shown, at the moment of its begin. Its octets are
-/// those that were sent, its original length counts those that were to be sent. Noise has no packet.
+/// those that were sent, and its original length counts them. Noise has no packet.
 ///
 /// Fault: memory was refused.
 pub fn push_pcap(
@@ -107,16 +107,12 @@ fn push_packet(file: &mut Vec<u8>, telegram: &Record, baud: u32) -> Result<(), A
     requires { 0 < baud }
     ensures { OnOk result (file.new.items ≡ file.old.items ++ pcap.packet baud (record_of telegram.now)) }
 {
-    let count = telegram.octets.len() as u64;
-    push_octets(
-        file,
-        nanos(baud, telegram.begin),
-        sent_octets(telegram),
-        count,
-    )
+    let octets = sent_octets(telegram);
+    let count = octets.len() as u64;
+    push_octets(file, nanos(baud, telegram.begin), octets, count)
 }
 
-/// Appends the packet of some octets at a moment in nanoseconds; `count` is how many there should be.
+/// Appends the packet of some octets at a moment in nanoseconds; `count` is how many there were.
 pub(crate) fn push_octets(
     file: &mut Vec<u8>,
     at: u64,

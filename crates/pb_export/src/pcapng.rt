@@ -19,8 +19,8 @@ use std::alloc::{AllocError, Global};
 pub(crate) const LONGEST_COMMENT: usize = 65_535;
 
 /// Appends a trace as a pcapng file with one interface: a packet for each telegram that is shown, at the moment of its
-/// begin in nanoseconds, with a comment. Its octets are those that were sent, its original length counts those that were
-/// to be sent. Noise has no packet.
+/// begin in nanoseconds, with a comment. Its octets are those that were sent, and its original length counts them. Noise
+/// has no packet.
 ///
 /// Fault: memory was refused.
 pub fn push_pcapng(
@@ -164,14 +164,9 @@ fn push_packet(
     let mut comment = Vec::new(alloc);
     push_comment(&mut comment, scenario, telegram)?;
     let comment = &comment[..comment.len().min(LONGEST_COMMENT)];
-    let count = telegram.octets.len() as u64;
-    push_block(
-        file,
-        nanos(baud, telegram.begin),
-        comment,
-        sent_octets(telegram),
-        count,
-    )
+    let octets = sent_octets(telegram);
+    let count = octets.len() as u64;
+    push_block(file, nanos(baud, telegram.begin), comment, octets, count)
 }
 
 /// Appends the comment of a telegram: when it began in bit times, who sent it, and how it reached each tap.
@@ -206,7 +201,7 @@ fn push_letters(text: &mut Vec<u8>, heard: &Reception) -> Result<(), AllocError>
     Ok(())
 }
 
-/// Appends the block of some octets with a comment, at a moment in nanoseconds; `count` is how many octets there should be.
+/// Appends the block of some octets with a comment, at a moment in nanoseconds; `count` is how many octets there were.
 pub(crate) fn push_block<'a>(
     file: &mut Vec<u8>,
     at: u64,
