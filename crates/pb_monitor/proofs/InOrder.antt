@@ -1,7 +1,7 @@
 -- Where no telegram is illegal, none is wrong by order alone: the order knows of the last telegram what the judge knows.
 use Rattle.std.proofs.Common.{◌≡◌, ℕ, ◌+◌, Bool, true, false, if◌then◌else◌, ◌==◌, ◌&&◌, ◌||◌, List, [], ◌∷◌, map, refl, sym, ap, ◌∙◌, Option, Some, None}
 use Rattle.std.specs.Prelude.{nat_lt, nat_le}
-use Rattle.pb_timers.specs.Timers.{Params, tto}
+use Rattle.pb_timers.specs.Timers.{Params}
 use Rattle.law_turn.specs.Arrivals.{arrival_of}
 use Rattle.law_runs.specs.Initiators.{initiates}
 use Rattle.pb_monitor.specs.declared.alarms.Alarm.TheVariants.{SpokeWithoutToken, SpokeOutOfTurn, TookAfterSlot}
@@ -12,7 +12,7 @@ use Rattle.pb_monitor.specs.declared.states.LastHeard.{LastHeard}
 use Rattle.pb_monitor.specs.declared.states.State.{State}
 use Rattle.pb_monitor.specs.Captures.{Burst}
 use Rattle.pb_monitor.specs.Meanings.{is_none, initiator_of, meaning_of}
-use Rattle.pb_monitor.specs.Judge.{behind, heard_at, judged_last, judged_offer, judged_passing, legal_alarm_of, may_claim, or_claim, silence_before, touch}
+use Rattle.pb_monitor.specs.Judge.{behind, heard_at, judged_last, judged_offer, judged_passing, legal_alarm_of, may_be_its, may_claim, or_claim, silence_before, touch}
 use Rattle.pb_monitor.specs.Orders.{alarm_after, alarm_of_another, last_in, with_wrong, wrong_by, wrong_in, wrongs}
 use Rattle.pb_monitor.proofs.Chosen.{AllLegal}
 use Rattle.pb_monitor.proofs.NoneRaised.{same_last}
@@ -88,8 +88,7 @@ telegram_right p slack since j begin t o same legal = by t.is_claim refl
     by false claim =
         let s = silence_before p slack j begin in
         let off : may_claim p slack since s begin t ≡ false =
-        ap (λ (b : Bool). b && (nat_lt begin (since + (p.ttd + tto p t.source + slack))
-        || (nat_le begin (s.silent_to + (p.ttd + slack)) && nat_le (s.silent_from + tto p t.source) (begin + slack)))) claim in
+        ap (λ (b : Bool). b && (nat_le begin (s.silent_to + (p.ttd + slack)) && may_be_its p slack since s begin t)) claim in
         last_right p slack j.last o begin t same claim
         (ap (λ (l : Option LastHeard). judged_last p slack l begin t) (sym (same_last p slack j begin))
         ∙ sym (ap (λ (b : Bool). if b then None else judged_last p slack s.last begin t) off) ∙ legal)

@@ -18,7 +18,7 @@ use Rattle.pb_monitor.specs.declared.alarms.Classes.{Classes}
 use Rattle.pb_monitor.specs.declared.states.LastHeard.{LastHeard}
 use Rattle.pb_monitor.specs.declared.states.State.{State}
 use Rattle.pb_monitor.specs.Meanings.{source_of, is_claim_like, is_none, initiator_of}
-use Rattle.pb_monitor.specs.Judge.{touch, may_be_timeout, silent_since, silence_before, last_behind, behind, may_claim, judged_legal, judged_last, alarm_of, alarms, listening}
+use Rattle.pb_monitor.specs.Judge.{touch, is_kept, silent_since, silence_before, last_behind, behind, may_claim, judged_legal, judged_last, alarm_of, alarms, listening}
 use Rattle.pb_monitor.specs.Promises.{IsBySource, IsNotOfLegality}
 use Rattle.pb_monitor.proofs.Chosen.{AllLegal, not_of_legality, with_good}
 use Rattle.pb_monitor.proofs.Follows.{Follows, Knowing, follows_it}
@@ -117,7 +117,7 @@ pub record Around (p : Params) (specs : List TapSpec) (since : ℕ) (trace : Lis
   pub facts : All (Facts specs p.ttd q b) trace
 
 pub same_last : (p : Params) (slack : ℕ) (j : State) (begin : ℕ) → (silence_before p slack j begin).last ≡ j.last
-same_last p slack j begin = by (may_be_timeout p slack j.quiet begin)
+same_last p slack j begin = by (is_kept p slack j begin)
   where
     by : (c : Bool) → (if c then record j { silent_from = silent_since p slack j begin; silent_to = begin } else j).last ≡ j.last
     by true = refl
@@ -151,7 +151,7 @@ none_at p slack specs since trace j b short least linked around init legal = by 
         subst (λ m. judged_legal p slack since i m (initiator_of a) ≡ None) (sym fill.0)
         (legal_is_silent p slack specs trace since i w r l a (same_last p slack j b.begin ∙ is) knows from
         (λ c. let d = claim_for (telegram_of r) (address_at specs r.tap) (is_silent p.ttd r.tap trace (r.begin - tto p (address_at specs r.tap)) r.begin) c in
-        claim_is_one p slack since trace i r.tap r.begin a short (least (source_of a)) (subst (λ m. Silences p p.ttd since trace i m) fill.0 silences)
+        claim_is_one p slack since trace i r.tap r.begin a short (least (source_of a)) around.order (subst (λ m. Silences p p.ttd since trace i m) fill.0 silences)
         (ap is_claim_like fill.2 ∙ claim_like (address_at specs r.tap) (telegram_of r) d.0)
         (subst (λ n. is_silent p.ttd r.tap trace (r.begin - tto p n) r.begin ≡ true) (sym from) d.1)) h)
 

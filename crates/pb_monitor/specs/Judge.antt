@@ -39,12 +39,17 @@ live p slack = p.tsl + p.lag + 2 * p.ttd + slack
 
 -- ---- an initiator telegram that begins at a moment
 
+-- The silence that is kept may be a claimer's time-out: it was as long, or it began no later than the listener did, which
+-- has not listened for so long.
+abbrev pub may_be_its : Params → (slack since : ℕ) → State → ℕ → InitiatorTelegram → Bool
+may_be_its p slack since j begin t =
+    (nat_le j.silent_from since && nat_lt begin (since + (p.ttd + tto p t.source + slack)))
+    || nat_le (j.silent_from + tto p t.source) (begin + slack)
+
 -- A claim, before which its speaker had silence for its time-out. Noise reaches a listener sooner than a telegram: so a
--- silence that ended a cable delay ago at most counts too. One that has not listened for so long can't tell.
+-- silence that ended a cable delay ago at most counts too.
 abbrev pub may_claim : Params → (slack since : ℕ) → State → ℕ → InitiatorTelegram → Bool
-may_claim p slack since j begin t =
-    t.is_claim && (nat_lt begin (since + (p.ttd + tto p t.source + slack))
-    || (nat_le begin (j.silent_to + (p.ttd + slack)) && nat_le (j.silent_from + tto p t.source) (begin + slack)))
+may_claim p slack since j begin t = t.is_claim && (nat_le begin (j.silent_to + (p.ttd + slack)) && may_be_its p slack since j begin t)
 
 abbrev pub or_alarm : Bool → Alarm → Option Alarm
 or_alarm good alarm = if good then None else Some alarm
@@ -111,9 +116,13 @@ may_be_timeout p slack from to = nat_le (from + 6 * p.tsl) (to + (p.ttd + slack)
 abbrev pub silent_since : Params → (slack : ℕ) → State → ℕ → ℕ
 silent_since p slack j begin = if nat_le begin (j.silent_to + (p.ttd + slack)) then j.silent_from else j.quiet
 
+-- A silence that is kept. One in which listening began may have begun earlier: it may always be a time-out.
+abbrev pub is_kept : Params → (slack : ℕ) → State → ℕ → Bool
+is_kept p slack j begin = j.quiet == j.silent_to || may_be_timeout p slack j.quiet begin
+
 abbrev pub silence_before : Params → (slack : ℕ) → State → ℕ → State
 silence_before p slack j begin =
-    if may_be_timeout p slack j.quiet begin then record j { silent_from = silent_since p slack j begin; silent_to = begin } else j
+    if is_kept p slack j begin then record j { silent_from = silent_since p slack j begin; silent_to = begin } else j
 
 -- something begins in the part of a token's slot in which its speaker surely hears it
 abbrev pub touch : Params → (slack : ℕ) → ℕ → Option LastHeard → Option LastHeard

@@ -46,13 +46,28 @@ fn may_claim(
 ) -> bool
     ensures { result ≡ judge.may_claim params.now slack since state begin telegram }
 {
+    let late = u128::from(params.ttd()) + u128::from(slack);
+    telegram.is_claim
+        && (u128::from(begin) <= u128::from(state.silent_to) + late
+            && may_be_its(params, slack, since, state, begin, telegram))
+}
+
+/// Whether the silence that is kept may be the time-out of the claimer.
+fn may_be_its(
+    params: &BusParams,
+    slack: u32,
+    since: u64,
+    state: State,
+    begin: u64,
+    telegram: InitiatorTelegram,
+) -> bool
+    ensures { result ≡ judge.may_be_its params.now slack since state begin telegram }
+{
     let (begin, slack) = (u128::from(begin), u128::from(slack));
     let ttd = u128::from(params.ttd());
     let timeout = u128::from(params.tto(telegram.source));
-    telegram.is_claim
-        && (begin < u128::from(since) + (ttd + timeout + slack)
-            || (begin <= u128::from(state.silent_to) + (ttd + slack)
-                && u128::from(state.silent_from) + timeout <= begin + slack))
+    (state.silent_from <= since && begin < u128::from(since) + (ttd + timeout + slack))
+        || u128::from(state.silent_from) + timeout <= begin + slack
 }
 
 /// The alarm of a telegram after the loss of the token.

@@ -61,7 +61,7 @@ pub(crate) fn hear(
 )
     ensures { state.new ≡ judge.behind_by params.now slack state.old begin end meaning }
 {
-    if may_be_timeout(params, slack, state.quiet, begin) {
+    if is_kept(params, slack, *state, begin) {
         state.silent_from = silent_since(params, slack, *state, begin);
         state.silent_to = begin;
     }
@@ -86,7 +86,7 @@ pub(crate) fn hear(
 pub(crate) fn silence_before(params: &BusParams, slack: u32, state: State, begin: u64) -> State
     ensures { result ≡ judge.silence_before params.now slack state begin }
 {
-    if may_be_timeout(params, slack, state.quiet, begin) {
+    if is_kept(params, slack, state, begin) {
         return State {
             last: state.last,
             quiet: state.quiet,
@@ -96,6 +96,13 @@ pub(crate) fn silence_before(params: &BusParams, slack: u32, state: State, begin
         };
     }
     state
+}
+
+/// Whether the silence that ends as something begins is kept: it may be a time-out, or listening began in it.
+fn is_kept(params: &BusParams, slack: u32, state: State, begin: u64) -> bool
+    ensures { result ≡ judge.is_kept params.now slack state begin }
+{
+    state.quiet == state.silent_to || may_be_timeout(params, slack, state.quiet, begin)
 }
 
 /// Whether a silence from one moment to another may be a time-out, of the station with the shortest.

@@ -11,7 +11,7 @@ use Rattle.law_runs.specs.Judging.{IsOrderedFrom}
 use Rattle.law_runs.specs.Legality.{is_legal_after, first_illegal_from}
 use Rattle.pb_monitor.specs.declared.states.State.{State}
 use Rattle.pb_monitor.specs.Captures.{Burst, All, Has, Fills}
-use Rattle.pb_monitor.specs.Judge.{may_be_timeout, silent_since, silence_before}
+use Rattle.pb_monitor.specs.Judge.{is_kept, silent_since, silence_before}
 use Rattle.pb_monitor.specs.Promises.{IsBySource}
 use Rattle.pb_monitor.proofs.Follows.{IsLast, Follows}
 use Rattle.pb_monitor.proofs.Heard.{Facts, LastFacts}
@@ -84,7 +84,7 @@ not_within from to b e (inl l) = ap (λ z. nat_lt b to && z) (le-ltb from e l) �
 not_within from to b e (inr l) = ap (λ z. z && nat_lt from e) (le-ltb b to l)
 
 pub same_last : (p : Params) (slack : ℕ) (j : State) (begin : ℕ) → ((silence_before p slack j begin).last ≡ j.last) × ((silence_before p slack j begin).quiet ≡ j.quiet)
-same_last p slack j begin = by (may_be_timeout p slack j.quiet begin)
+same_last p slack j begin = by (is_kept p slack j begin)
   where
     by : (c : Bool) → ((if c then record j { silent_from = silent_since p slack j begin; silent_to = begin } else j).last ≡ j.last)
         × ((if c then record j { silent_from = silent_since p slack j begin; silent_to = begin } else j).quiet ≡ j.quiet)
