@@ -456,7 +456,7 @@ struct Judge {
     last: Option<Last>,
     /// The end of the last burst.
     quiet: u64,
-    /// The last silence of more than a slot.
+    /// The last silence that may be a time-out.
     silence: (u64, u64),
     is_lost: bool,
 }
@@ -466,10 +466,11 @@ impl Judge {
         Judge { since, last: None, quiet: since, silence: (since, since), is_lost: false }
     }
 
-    /// A burst begins: it may end a silence of more than a slot.
+    /// A burst begins: it may end a silence that may be a time-out, or the one in which listening began.
     fn end_silence(&mut self, bus: &Bus, begin: u64) {
-        if self.quiet + bus.tsl < begin {
-            self.silence = (self.quiet, begin);
+        let (from, to) = self.silence;
+        if self.quiet == to || self.quiet + 6 * bus.tsl <= begin + bus.ttd {
+            self.silence = (if begin <= to + bus.ttd { from } else { self.quiet }, begin);
         }
         self.is_lost |= self.quiet + bus.longest_silence() < begin;
     }
@@ -500,7 +501,8 @@ impl Judge {
     fn may_claim(&self, bus: &Bus, begin: u64, source: u8) -> bool {
         let (from, to) = self.silence;
         let timeout = bus.timeout(source);
-        begin < self.since + bus.ttd + timeout || (begin <= to + bus.ttd && from + timeout <= begin)
+        let is_first = from <= self.since && begin < self.since + bus.ttd + timeout;
+        begin <= to + bus.ttd && (is_first || from + timeout <= begin)
     }
 
     /// A burst ends, with a telegram or without.

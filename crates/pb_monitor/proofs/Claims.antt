@@ -101,6 +101,12 @@ claim_fits p slack since j begin a claims late fit =
     over : (n : ℕ) → j.silent_from + n ≤ begin → j.silent_from + n ≤ begin + slack
     over n l = omega (arith, l)
 
+-- Where a listener has had silence since it began, up to a cable delay ago.
+pub so_far : (p : Params) (delay since : ℕ) (trace : List Entry) (j : State) (v m : ℕ) → Silences p delay since trace j m → v ≤ m → m ≤ v + p.ttd → (since < v → AllClear delay since v trace) → (v ≤ j.silent_to) × (j.silent_from ≤ since)
+so_far p delay since trace j v m s before near clear = ⊎_elim
+    (λ (l : since < v). let h = s.early v (omega (arith, l)) before clear in (h.0, h.1 near))
+    (λ (l : v ≤ since). let h = s.early since (omega arith) s.started (λ (w : since < since). absurd (omega (arith, w))) in let t = h.0 in (omega (arith, l, t), h.1 (omega (arith, l, near)))) (cases_lt since v)
+
 -- A claim, before which a tap had silence for its time-out.
 pub claim_is_one : (p : Params) (slack since : ℕ) (trace : List Entry) (j : State) (tap begin : ℕ) (a : Arrival) → 2 * p.ttd < p.tsl → 6 * p.tsl ≤ tto p (source_of a) → IsOrderedFrom 0 trace
     → Silences p p.ttd since trace j (begin + p.ttd) → is_claim_like a ≡ true
@@ -109,12 +115,6 @@ claim_is_one p slack since trace j tap begin a short least order s claims silent
   where
     none : list_any (λ e. is_within (begin - tto p (source_of a)) begin (active_at p.ttd tap e)) trace ≡ false
     none = unnot (list_any (λ e. is_within (begin - tto p (source_of a)) begin (active_at p.ttd tap e)) trace) silent
-
-    -- the listener has had silence since it began
-    so_far : (since < begin → AllClear p.ttd since begin trace) → (begin ≤ j.silent_to) × (j.silent_from ≤ since)
-    so_far clear = ⊎_elim
-        (λ (l : since < begin). let h = s.early begin (omega (arith, l)) (omega arith) clear in (h.0, h.1 (omega arith)))
-        (λ (l : begin ≤ since). let h = s.early since (omega arith) s.started (λ (w : since < since). absurd (omega (arith, w))) in let t = h.0 in (omega (arith, l, t), h.1 (omega (arith, l)))) (cases_lt since begin)
 
     by : (n : ℕ) → 6 * p.tsl ≤ n → list_any (λ e. is_within (begin - n) begin (active_at p.ttd tap e)) trace ≡ false
         → (begin + p.ttd ≤ j.silent_to + p.ttd → ((j.silent_from ≤ since) × (begin + p.ttd < since + (p.ttd + n))) ⊎ (j.silent_from + n ≤ begin + p.ttd) → may_claim p slack since j (begin + p.ttd) (initiator_of a) ≡ true)
@@ -131,7 +131,7 @@ claim_is_one p slack since trace j tap begin a short least order s claims silent
       where
         soon : begin < since + n → (begin - n + p.ttd ≤ since) ⊎ (begin - n ≡ 0) → may_claim p slack since j (begin + p.ttd) (initiator_of a) ≡ true
         soon l start =
-            let h = so_far (λ _. clear_since p.ttd tap (begin - n) since begin 0 trace order start none) in
+            let h = so_far p p.ttd since trace j begin (begin + p.ttd) s (omega arith) (omega arith) (λ _. clear_since p.ttd tap (begin - n) since begin 0 trace order start none) in
             let t = h.0 in
             fits (omega (arith, t)) (inl (h.1, omega (arith, l)))
 

@@ -17,7 +17,7 @@ use Rattle.law_monitor.specs.Anywhere.{as_heard}
 pub record ClaimHere (p : Params) (specs : List TapSpec) (delays : ℕ → ℕ) (heard : List Entry) (r : Record) : Type 0 where
   pub claims : claims_for (address_at specs r.tap) (telegram_of r) ≡ true
   pub near : delays r.tap ≤ p.ttd
-  pub silent : (r.begin < p.ttd + tto p (address_at specs r.tap)) ⊎ AllClear 0 (r.begin - tto p (address_at specs r.tap)) (r.begin - delays r.tap) heard
+  pub silent : AllClear 0 (r.begin - tto p (address_at specs r.tap)) (r.begin - delays r.tap) heard
 
 -- no silence before it is longer than those that a token in use leaves
 abbrev pub NoLossHere : Params → List Entry → Record → Type 0

@@ -1,11 +1,11 @@
 -- What a listener anywhere hears, if each initiator telegram is good by what it hears, raises no alarm.
-use Rattle.std.proofs.Common.{◌≡◌, ℕ, ◌+◌, ◌-◌, ◌*◌, ◌<◌, ◌≤◌, ◌⊎◌, ⊎_elim, Bool, true, false, if◌then◌else◌, not, ◌==◌, ◌&&◌, ◌||◌, List, [], ◌∷◌, map, refl, sym, ap, ◌∙◌, subst, arith, Option, Some, None}
+use Rattle.std.proofs.Common.{◌≡◌, ℕ, ◌+◌, ◌-◌, ◌*◌, ◌<◌, ◌≤◌, ◌⊎◌, inl, inr, ⊎_elim, Bool, true, false, if◌then◌else◌, not, ◌==◌, ◌&&◌, ◌||◌, List, [], ◌∷◌, map, refl, sym, ap, ◌∙◌, subst, arith, Option, Some, None}
 use Rattle.std.specs.Prelude.{nat_lt, nat_le}
-use Rattle.std.proofs.lemmas.Bool.{le-ltb, lt-ltb, le-leb, eq-eqb, eqb-true, ltb-true, ltb-false}
+use Rattle.std.proofs.lemmas.Bool.{le-ltb, lt-ltb, le-leb, eq-eqb, eqb-true, ltb-true, ltb-false, cases_lt}
 use Rattle.pb_timers.specs.Timers.{Params, tto}
 use Rattle.law_turn.specs.Arrivals.{Arrival, arrival_of}
 use Rattle.law_model.specs.Trace.{Record, Entry, Sent, Noise}
-use Rattle.law_model.specs.Medium.{TapSpec}
+use Rattle.law_model.specs.Medium.{TapSpec, reaches_taps}
 use Rattle.law_model.proofs.Cases.{by_test}
 use Rattle.law_runs.specs.Initiators.{telegram_of, initiates, is_initiator, offered_to, offered_by}
 use Rattle.law_runs.specs.Judging.{IsOrderedFrom}
@@ -20,7 +20,7 @@ use Rattle.pb_monitor.specs.Captures.{Burst, All, Has, Fills, IsTold, IsOf, Begi
 use Rattle.pb_monitor.specs.Judge.{listening, live, may_claim, or_alarm, or_claim, judged, judged_last, judged_offer, judged_passing, judged_taking, taking_offer, taking_last, chosen, lost_alarm, silence_before, last_behind, touch, behind, alarms, with_alarm}
 use Rattle.pb_monitor.specs.Meanings.{source_of, is_claim_like, is_none, initiator_of}
 use Rattle.pb_monitor.specs.Promises.{IsBySource}
-use Rattle.pb_monitor.proofs.Claims.{Silences, EndsSolid, silences_before, silences_behind, burst_ends_solid, start_is_solid, nothing_yet}
+use Rattle.pb_monitor.proofs.Claims.{Silences, EndsSolid, claim_fits, so_far, silences_before, silences_behind, burst_ends_solid, start_is_solid, nothing_yet}
 use Rattle.pb_monitor.proofs.Follows.{Follows, Knowing, follows_it}
 use Rattle.pb_monitor.proofs.Heard.{Facts, follows_on}
 use Rattle.pb_monitor.proofs.NoneRaised.{claim_like, another_by, facts_of, spelled_by, spelled_some, least_timeout}
@@ -35,36 +35,29 @@ use Rattle.law_token.proofs.whole.Stays.{not_true_false}
 
 -- ---- claims
 
+-- a stretch that is clear is so from a later moment on
+clear_later : (delay u s v : ℕ) (es : List Entry) → u ≤ s → AllClear delay u v es → AllClear delay s v es
+clear_later delay u s v [] le clear = tt
+clear_later delay u s v (e ∷ es) le clear =
+    (⊎_elim (λ (a : (reaches_taps delay e).end ≤ u). inl (omega (arith, a, le))) (λ (b : v ≤ (reaches_taps delay e).begin). inr b) clear.0, clear_later delay u s v es le clear.1)
+
 claim_here : (p : Params) (slack since : ℕ) (heard : List Entry) (j : State) (begin sent : ℕ) (a : Arrival) → 2 * p.ttd < p.tsl → 6 * p.tsl ≤ tto p (source_of a) → Silences p 0 since heard j begin → is_claim_like a ≡ true
-    → sent ≤ begin → begin ≤ sent + p.ttd → (begin < p.ttd + tto p (source_of a)) ⊎ AllClear 0 (begin - tto p (source_of a)) sent heard → may_claim p slack since j begin (initiator_of a) ≡ true
-claim_here p slack since heard j begin sent a short least s claims before near silent =
-    ap (λ b. b && (nat_lt begin (since + (p.ttd + timeout + slack)) || (nat_le begin (j.silent_to + (p.ttd + slack)) && nat_le (j.silent_from + timeout) (begin + slack)))) claims
-    ∙ by (nat_lt begin (since + (p.ttd + timeout + slack))) refl
+    → sent ≤ begin → begin ≤ sent + p.ttd → AllClear 0 (begin - tto p (source_of a)) sent heard → may_claim p slack since j begin (initiator_of a) ≡ true
+claim_here p slack since heard j begin sent a short least s claims before near silent = by (tto p (source_of a)) least silent (claim_fits p slack since j begin a claims)
   where
-    timeout : ℕ
-    timeout = tto p (source_of a)
-
-    long : (n : ℕ) → 6 * p.tsl ≤ n → since + (p.ttd + n) ≤ begin → (since ≤ begin - n) × (begin - n < sent) × (begin - n + 6 * p.tsl ≤ sent + p.ttd)
-    long n a room = (omega (arith, room), omega (arith, a, room, near, short), omega (arith, a, room, near))
-
-    known : since + (p.ttd + timeout) ≤ begin → (sent ≤ j.silent_to) × (begin ≤ sent + p.ttd → j.silent_from ≤ begin - timeout)
-    known room =
-        let l = long timeout least room in
-        s.long (begin - timeout) sent l.0 l.1 l.2 before (⊎_elim (λ (early : begin < p.ttd + timeout). absurd (omega (arith, early, room))) (λ (c : AllClear 0 (begin - timeout) sent heard). c) silent)
-
-    by : (b : Bool) → nat_lt begin (since + (p.ttd + timeout + slack)) ≡ b → (b || (nat_le begin (j.silent_to + (p.ttd + slack)) && nat_le (j.silent_from + timeout) (begin + slack))) ≡ true
-    by true e = refl
-    by false e =
-        let z = ltb-false begin (since + (p.ttd + timeout + slack)) e in
-        let room = fits timeout z in
-        ap (λ b. b && nat_le (j.silent_from + timeout) (begin + slack)) (le-leb begin (j.silent_to + (p.ttd + slack)) (let h = (known room).0 in omega (arith, h, near)))
-        ∙ le-leb (j.silent_from + timeout) (begin + slack) (let h = (known room).1 near in less timeout h room)
-      where
-        fits : (n : ℕ) → since + (p.ttd + n + slack) ≤ begin → since + (p.ttd + n) ≤ begin
-        fits n z = omega (arith, z)
-
-        less : (n : ℕ) → j.silent_from ≤ begin - n → since + (p.ttd + n) ≤ begin → j.silent_from + n ≤ begin + slack
-        less n h room = omega (arith, h, room)
+    by : (n : ℕ) → 6 * p.tsl ≤ n → AllClear 0 (begin - n) sent heard
+        → (begin ≤ j.silent_to + p.ttd → ((j.silent_from ≤ since) × (begin < since + (p.ttd + n))) ⊎ (j.silent_from + n ≤ begin) → may_claim p slack since j begin (initiator_of a) ≡ true)
+        → may_claim p slack since j begin (initiator_of a) ≡ true
+    by n least clear fits = ⊎_elim
+        (λ (early : begin < since + n).
+        let h = so_far p 0 since heard j sent begin s before near (λ _. clear_later 0 (begin - n) since sent heard (omega (arith, early)) clear) in
+        let t = h.0 in
+        fits (omega (arith, t, near)) (inl (h.1, omega (arith, early))))
+        (λ (room : since + n ≤ begin).
+        let h = s.long (begin - n) sent (omega (arith, room)) (omega (arith, least, room, near, short)) (omega (arith, least, room, near)) before clear in
+        let t = h.0 in
+        let f = h.1 near in
+        fits (omega (arith, t, near)) (inr (omega (arith, f, room)))) (cases_lt begin (since + n))
 
 -- ---- the last telegram
 
@@ -185,7 +178,7 @@ claim_told p slack specs delays since heard told j b k r fill source initiator c
     subst (λ m. may_claim p slack since i m (initiator_of a) ≡ true) (sym at)
     (claim_here p slack since heard i r.begin (r.begin - delays r.tap) a k.short (least_timeout p (source_of a)) (subst (λ m. Silences p 0 since heard i m) at silences)
     (ap is_claim_like fill.2 ∙ claim_like (address_at specs r.tap) (telegram_of r) c.claims) (omega arith) (omega (arith, near))
-    (subst (λ n. (r.begin < p.ttd + tto p n) ⊎ AllClear 0 (r.begin - tto p n) (r.begin - delays r.tap) heard) from c.silent))
+    (subst (λ n. AllClear 0 (r.begin - tto p n) (r.begin - delays r.tap) heard) from c.silent))
 
 none_lost : (p : Params) (slack : ℕ) (specs : List TapSpec) (delays : ℕ → ℕ) (since : ℕ) (heard told : List Entry) (j : State) (b : Burst) → JudgingHere p specs delays since heard told j b
     → may_claim p slack since (silence_before p slack j b.begin) b.begin (initiator_of (arrival_of b.chars)) ≡ false → nat_lt (j.quiet + live p slack) b.begin ≡ false

@@ -2,7 +2,7 @@
 use Rattle.std.proofs.Common.{◌≡◌, ℕ, ◌+◌, ◌-◌, ◌*◌, ◌<◌, ◌≤◌, ◌⊎◌, inl, inr, ⊎_elim, Bool, true, false, if◌then◌else◌, ◌==◌, ◌&&◌, List, refl, sym, ap, ◌∙◌, subst, arith, Option, Some, None}
 use Rattle.std.specs.Prelude.{slice_get, IfSome}
 use Rattle.std.specs.List.{list_any}
-use Rattle.std.proofs.lemmas.Bool.{eqb-true, eq-eqb}
+use Rattle.std.proofs.lemmas.Bool.{eqb-true, eq-eqb, cases_lt}
 use Rattle.pb_timers.specs.Timers.{Params, tto}
 use Rattle.law_turn.specs.Turns.{turn_of}
 use Rattle.law_model.specs.Trace.{Record, Entry, Sent, Noise, entry_begin, with_entry}
@@ -14,13 +14,13 @@ use Rattle.law_runs.specs.Headline.{specs_of}
 use Rattle.law_runs.specs.Initiators.{is_initiator, telegram_of, claims_for}
 use Rattle.law_runs.specs.Legality.{address_at, is_claim}
 use Rattle.law_runs.specs.Premises.{Waited}
-use Rattle.law_token.specs.Entries.{EntryHolds}
+use Rattle.law_token.specs.Entries.{EntryHolds, RecordHolds}
 use Rattle.law_token.specs.Invariant.{Keeps, Settled}
 use Rattle.law_token.specs.Lists.{Each, In}
 use Rattle.law_token.proofs.bus.Legal.{same_silence}
 use Rattle.law_token.proofs.bus.Lists.{each_in, each_both, each_with}
 use Rattle.law_token.proofs.replies.Addresses.{SameAddresses, claim_same}
-use Rattle.law_token.proofs.turn.Records.{last_initiates}
+use Rattle.law_token.proofs.turn.Records.{last_initiates, address_there}
 use Rattle.law_live.specs.Flow.{Flow, EndsBy, RepliesBy}
 use Rattle.law_live.proofs.Events.{event_flow}
 use Rattle.law_live.proofs.OtherData.{data_flow}
@@ -29,7 +29,7 @@ use Rattle.law_monitor.proofs.hearing.Ears.{Pairs, pairs_each}
 use Rattle.law_monitor.proofs.timely.Alike.{Alike, AlikeRecord, claim_alike, entry_silence}
 use Rattle.law_monitor.proofs.timely.Folds.{Both}
 use Rattle.law_monitor.proofs.timely.Runs.{IsKept, Passed}
-use Rattle.law_monitor.proofs.timely.Spoken.{outside}
+use Rattle.law_monitor.proofs.timely.Spoken.{outside, turn_waits}
 use Rattle.law_model.proofs.Window.{not_false}
 use Rattle.law_token.proofs.quiet.Bound.{none_of}
 
@@ -46,7 +46,7 @@ ComesOne delay None r = Unit {0}
 ComesOne delay (Some w) r = (w.end ≤ r.begin) × ((w.tap ≡ r.tap) ⊎ (w.end + delay ≤ r.begin))
 
 abbrev pub Lone : Params → List TapSpec → List Entry → Option Record → Record → Type 0
-Lone p specs trace last r = ComesOne p.ttd last r × (is_claim p specs trace r ≡ true → tto p (address_at specs r.tap) ≤ r.begin → Each (Far p.ttd r) trace)
+Lone p specs trace last r = ComesOne p.ttd last r × (is_claim p specs trace r ≡ true → Each (Far p.ttd r) trace)
 
 -- ---- it stays
 
@@ -79,15 +79,14 @@ comes_alike delay now (Some a) (Some b) r y begun both h comes =
 lone_alike : (p : Params) (specs : List TapSpec) (now : ℕ) (es ys : List Entry) → Pairs (Alike now) es ys → (l k : Option Record) (r y : Record) → r.begin ≤ now → Both (AlikeRecord now) l k → AlikeRecord now r y → Lone p specs es l r → Lone p specs ys k y
 lone_alike p specs now es ys pairs l k r y begun both h lone = (
   comes_alike p.ttd now l k r y begun both h lone.0,
-  λ c late. pairs_each (Alike now) (Far p.ttd r) (Far p.ttd y) es ys (far_alike p.ttd now r y begun h) pairs
-      (lone.1 (claim_alike p specs now es ys r y begun pairs h ∙ c) (subst (λ m. tto p (address_at specs r.tap) ≤ m) h.begin (subst (λ n. tto p (address_at specs n) ≤ y.begin) h.tap late))),
+  λ c. pairs_each (Alike now) (Far p.ttd r) (Far p.ttd y) es ys (far_alike p.ttd now r y begun h) pairs (lone.1 (claim_alike p specs now es ys r y begun pairs h ∙ c)),
 )
 
 lone_inserted : (p : Params) (specs : List TapSpec) (now : ℕ) (e : Entry) (es : List Entry) → now ≤ entry_begin e → (l : Option Record) (r : Record) → r.begin ≤ now → Lone p specs es l r → Lone p specs (with_entry e es) l r
 lone_inserted p specs now e es new l r begun lone = (
   lone.0,
-  λ c late. each_with (Far p.ttd r) e es (far e new)
-      (lone.1 (ap (λ b. claims_for (address_at specs r.tap) (telegram_of r) && b) (sym (entry_silence p now e es new r.tap (r.begin - tto p (address_at specs r.tap)) r.begin begun)) ∙ c) late),
+  λ c. each_with (Far p.ttd r) e es (far e new)
+      (lone.1 (ap (λ b. claims_for (address_at specs r.tap) (telegram_of r) && b) (sym (entry_silence p now e es new r.tap (r.begin - tto p (address_at specs r.tap)) r.begin begun)) ∙ c)),
 )
   where
     far : (e : Entry) → now ≤ entry_begin e → Far p.ttd r e
@@ -143,8 +142,8 @@ said_lone w waited k t kept here running set flow octets says init before =
     timeout : ℕ
     timeout = tto p (address_at (specs_of w) k)
 
-    claims : is_claim p (specs_of w) (with_entry (Sent x) w.trace) x ≡ true → timeout ≤ x.begin → Each (Far p.ttd x) (with_entry (Sent x) w.trace)
-    claims c late = each_with (Far p.ttd x) (Sent x) w.trace (inl refl) (each_both (RepliesBy (from + p.ttd + p.tsdr + p.lag)) (λ e. Passed p.ttd x e × (is_within from w.now (active_at p.ttd k e) ≡ false)) (Far p.ttd x) w.trace
+    claims : is_claim p (specs_of w) (with_entry (Sent x) w.trace) x ≡ true → Each (Far p.ttd x) (with_entry (Sent x) w.trace)
+    claims c = each_with (Far p.ttd x) (Sent x) w.trace (inl refl) (each_both (RepliesBy (from + p.ttd + p.tsdr + p.lag)) (λ e. Passed p.ttd x e × (is_within from w.now (active_at p.ttd k e) ≡ false)) (Far p.ttd x) w.trace
         (far_then p k from w.now (from + p.ttd + p.tsdr + p.lag) x refl refl (omega arith) (let a = flow.reply_in_time in let b = least_timeout p (address_at (specs_of w) k) in soon timeout b late a)) (flow.replies from ends) both)
       where
         from : ℕ
@@ -163,8 +162,26 @@ said_lone w waited k t kept here running set flow octets says init before =
         ends : Each (EndsBy from) w.trace
         ends = each_both (EntryHolds p w.now w.taps w.trace waited kept.inv.last) (λ e. Passed p.ttd x e × (is_within from w.now (active_at p.ttd k e) ≡ false)) (EndsBy from) w.trace (ended p k from w.now w.taps w.trace waited kept.inv.last x refl refl) kept.inv.entries both
 
+        -- no initiator telegram came before a claim in the first time-out: so its speaker has waited it out
+        none_yet : (n : ℕ) → w.now < n → w.now - n ≡ 0
+        none_yet n early = omega (arith, early)
+
+        first : from ≡ 0 → (o : Option Record) → IfSome o (λ r. In (Sent r) w.trace) → IfSome o (λ r. is_initiator r ≡ true) → o ≡ None
+        first at None here init = refl
+        first at (Some r) here init =
+            let holds : RecordHolds p w.now w.taps w.trace waited kept.inv.last r = each_in (EntryHolds p w.now w.taps w.trace waited kept.inv.last) (Sent r) w.trace kept.inv.entries here in
+            let some = holds.some in
+            let over : r.end ≤ from = each_in (EndsBy from) (Sent r) w.trace ends here init in absurd (omega (arith, some, over, at))
+
+        late : timeout ≤ w.now
+        late = ⊎_elim
+            (λ (early : w.now < timeout).
+            subst (λ a. tto p a ≤ w.now) (sym (address_there w.taps k t here))
+            (turn_waits w waited k t kept here running set (first (none_yet timeout early) kept.inv.last kept.inv.last_in (last_initiates w.now w.trace kept.inv.last kept.inv.is_last)) octets says init))
+            (λ (l : timeout ≤ w.now). l) (cases_lt w.now timeout)
+
 lone_same : (p : Params) (a b : List TapSpec) (trace : List Entry) (l : Option Record) (r : Record) → SameAddresses a b → Lone p a trace l r → Lone p b trace l r
-lone_same p a b trace l r same lone = (lone.0, λ c late. lone.1 (claim_same p a b trace r same ∙ c) (subst (λ n. tto p n ≤ r.begin) (sym (same r.tap)) late))
+lone_same p a b trace l r same lone = (lone.0, λ c. lone.1 (claim_same p a b trace r same ∙ c))
 
 pub lone_kept : IsKept Lone Flow
 lone_kept = record {

@@ -54,7 +54,7 @@ traces_raise_none p slack c specs delays trace since bs short near sources order
 pub timely_raise_none : TimelyTracesRaiseNone
 timely_raise_none p slack c specs trace since bs short sources order legal timely hears =
     traces_raise_none p slack c specs (λ _. p.ttd) trace since bs short (λ tap. omega arith) sources order legal timely
-    (successive_by (λ l r. is_legal_after p specs trace l r ≡ true) (Arrives p specs (λ _. p.ttd) trace) None trace (legal_arrives p specs trace) (legal_from p specs trace None 0 trace legal))
+    (successive_by (λ l r. is_legal_after p specs trace l r ≡ true) (Arrives p specs (λ _. p.ttd) trace) None trace (legal_arrives p specs trace order) (legal_from p specs trace None 0 trace legal))
     (uniform_anywhere p.ttd since trace bs hears)
 
 -- ---- actions

@@ -2,7 +2,7 @@
 use Rattle.std.proofs.Common.{◌≡◌, ℕ, ◌+◌, ◌-◌, ◌*◌, ◌<◌, ◌≤◌, ◌⊎◌, inl, inr, ⊎_elim, Bool, true, false, if◌then◌else◌, not, ◌==◌, ◌&&◌, ◌||◌, List, [], ◌∷◌, map, refl, sym, ap, ◌∙◌, subst, arith, Option, Some, None}
 use Rattle.std.specs.Prelude.{slice_get, nat_lt, nat_le}
 use Rattle.std.specs.List.{list_any}
-use Rattle.std.proofs.lemmas.Bool.{eqb-true, eq-eqb, leb-true, ltb-true, lt-ltb, and_parts, or_parts, cases_lt}
+use Rattle.std.proofs.lemmas.Bool.{eqb-true, eq-eqb, leb-true, ltb-true, lt-ltb, and_parts, or_parts}
 use Rattle.pb_timers.specs.Timers.{Params, tto}
 use Rattle.law_model.specs.Trace.{Record, Entry, Sent, Noise, entry_begin, entry_end}
 use Rattle.law_model.specs.Medium.{TapSpec, reaches, reaches_taps}
@@ -11,7 +11,6 @@ use Rattle.law_runs.specs.Initiators.{telegram_of, is_initiator, offered_to, cla
 use Rattle.law_runs.specs.Judging.{IsOrderedFrom}
 use Rattle.law_runs.specs.Legality.{is_whole, address_at, is_claim, follows_by, is_legal_after}
 use Rattle.law_token.specs.Lists.{Each}
-use Rattle.law_token.proofs.bus.Lists.{each_all}
 use Rattle.pb_monitor.specs.Captures.{All, Has, BeginsAt, IsClear, AllClear}
 use Rattle.pb_monitor.specs.Promises.{IsBySource}
 use Rattle.pb_monitor.proofs.NoneRaised.{claim_for}
@@ -30,18 +29,18 @@ abbrev pub ComesAfter : (ℕ → ℕ) → Option Record → Record → Type 0
 ComesAfter delays None r = Unit {0}
 ComesAfter delays (Some w) r = w.end + delays w.tap ≤ r.begin + delays r.tap
 
--- a telegram of another that has not reached a speaker before one of its own reaches the listener no sooner than that was sent
+-- An entry has some length; a telegram of another that has not reached a speaker before one of its own reaches the listener no sooner than that was sent
 abbrev pub NotSooner : ℕ → (ℕ → ℕ) → Record → Entry → Type 0
-NotSooner delay delays r (Noise span) = Unit {0}
-NotSooner delay delays r (Sent e) = (e.tap ≡ r.tap) ⊎ (r.begin ≤ e.begin + delay → r.begin ≤ e.begin + delays e.tap)
+NotSooner delay delays r (Noise span) = span.begin < span.end
+NotSooner delay delays r (Sent e) = (e.begin < e.end) × ((e.tap ≡ r.tap) ⊎ (r.begin ≤ e.begin + delay → r.begin ≤ e.begin + delays e.tap))
 
 -- an initiator telegram reaches it after the one before; what is on its way to a claimer does not come before the claim
 abbrev pub Arrives : Params → List TapSpec → (ℕ → ℕ) → List Entry → Option Record → Record → Type 0
-Arrives p specs delays trace last r = ComesAfter delays last r × (is_claim p specs trace r ≡ true → tto p (address_at specs r.tap) ≤ r.begin → Each (NotSooner p.ttd delays r) trace)
+Arrives p specs delays trace last r = ComesAfter delays last r × (is_claim p specs trace r ≡ true → Each (NotSooner p.ttd delays r) trace)
 
 -- so it is wherever the listener is, if telegrams are over one by one and nothing is in the air before a claim
 pub lone_arrives : (p : Params) (specs : List TapSpec) (delays : ℕ → ℕ) (trace : List Entry) → ((tap : ℕ) → delays tap ≤ p.ttd) → IsOrderedFrom 0 trace → (l : Option Record) (r : Record) → Lone p specs trace l r → Arrives p specs delays trace l r
-lone_arrives p specs delays trace near order l r lone = (after l lone.0, λ c late. not_sooner 0 trace order (lone.1 c late))
+lone_arrives p specs delays trace near order l r lone = (after l lone.0, λ c. not_sooner 0 trace order (lone.1 c))
   where
     after : (l : Option Record) → ComesOne p.ttd l r → ComesAfter delays l r
     after None c = tt
@@ -50,26 +49,32 @@ lone_arrives p specs delays trace near order l r lone = (after l lone.0, λ c la
         ⊎_elim (λ (own : w.tap ≡ r.tap). let d : delays w.tap ≡ delays r.tap = ap delays own in omega (arith, d, over)) (λ (there : w.end + p.ttd ≤ r.begin). let d = near w.tap in omega (arith, d, there)) c.1
 
     one : (e : Entry) → entry_begin e < entry_end e → Far p.ttd r e → NotSooner p.ttd delays r e
-    one (Noise span) some far = tt
-    one (Sent e) some far =
-        ⊎_elim (λ (own : e.tap ≡ r.tap). inl own)
-        (λ (other : (e.end + p.ttd ≤ r.begin) ⊎ (r.begin ≤ e.begin)). inr (λ there. ⊎_elim (λ (t : e.end + p.ttd ≤ r.begin). absurd (omega (arith, t, there, some))) (λ (t : r.begin ≤ e.begin). omega (arith, t)) other)) far
+    one (Noise span) some far = some
+    one (Sent e) some far = (
+      some,
+      ⊎_elim (λ (own : e.tap ≡ r.tap). inl own)
+        (λ (other : (e.end + p.ttd ≤ r.begin) ⊎ (r.begin ≤ e.begin)). inr (λ there. ⊎_elim (λ (t : e.end + p.ttd ≤ r.begin). absurd (omega (arith, t, there, some))) (λ (t : r.begin ≤ e.begin). omega (arith, t)) other)) far,
+    )
 
     not_sooner : (m : ℕ) (es : List Entry) → IsOrderedFrom m es → Each (Far p.ttd r) es → Each (NotSooner p.ttd delays r) es
     not_sooner m [] order far = tt
     not_sooner m (e ∷ es) order far = (one e order.1 far.0, not_sooner (entry_begin e) es order.2 far.1)
 
 -- and at a listener with the same delay from all, if they are over one by one
-pub legal_arrives : (p : Params) (specs : List TapSpec) (trace : List Entry) (l : Option Record) (r : Record) → is_legal_after p specs trace l r ≡ true → Arrives p specs (λ _. p.ttd) trace l r
-legal_arrives p specs trace l r legal = (after l legal, λ c late. each_all (NotSooner p.ttd (λ _. p.ttd) r) trace one)
+pub legal_arrives : (p : Params) (specs : List TapSpec) (trace : List Entry) → IsOrderedFrom 0 trace → (l : Option Record) (r : Record) → is_legal_after p specs trace l r ≡ true → Arrives p specs (λ _. p.ttd) trace l r
+legal_arrives p specs trace order l r legal = (after l legal, λ c. all 0 trace order)
   where
     after : (l : Option Record) → is_legal_after p specs trace l r ≡ true → ComesAfter (λ _. p.ttd) l r
     after None h = tt
     after (Some w) h = let over = leb-true w.end r.begin (and_parts (nat_le w.end r.begin) (follows_by p specs trace w (offered_to w) r || is_claim p specs trace r) h).0 in omega (arith, over)
 
-    one : (e : Entry) → NotSooner p.ttd (λ _. p.ttd) r e
-    one (Noise span) = tt
-    one (Sent e) = inr (λ there. there)
+    one : (e : Entry) → entry_begin e < entry_end e → NotSooner p.ttd (λ _. p.ttd) r e
+    one (Noise span) some = some
+    one (Sent e) some = (some, inr (λ there. there))
+
+    all : (m : ℕ) (es : List Entry) → IsOrderedFrom m es → Each (NotSooner p.ttd (λ _. p.ttd) r) es
+    all m [] order = tt
+    all m (e ∷ es) order = (one e order.1, all (entry_begin e) es order.2)
 
 -- ---- in order
 
@@ -101,12 +106,15 @@ sources_told specs delays (Sent r ∷ es) all = (all.0, sources_told specs delay
 -- ---- claims
 
 -- an entry that is not in the speaker's silence before a claim is not in the listener's
-clear_one : (delay : ℕ) (delays : ℕ → ℕ) (r : Record) (n : ℕ) (e : Entry) → ((tap : ℕ) → delays tap ≤ delay) → n ≤ r.begin → NotSooner delay delays r e → is_within (r.begin - n) r.begin (active_at delay r.tap e) ≡ false
+clear_one : (delay : ℕ) (delays : ℕ → ℕ) (r : Record) (n : ℕ) (e : Entry) → ((tap : ℕ) → delays tap ≤ delay) → NotSooner delay delays r e → is_within (r.begin - n) r.begin (active_at delay r.tap e) ≡ false
     → IsClear (r.begin + delays r.tap - n) (r.begin + delays r.tap - delays r.tap) (reaches_taps 0 (as_heard delays e))
-clear_one delay delays r n (Noise span) near room far h =
-    ⊎_elim (λ (a : r.begin ≤ span.begin). inr (omega (arith, a))) (λ (b : span.end ≤ r.begin - n). inl (omega (arith, b, room))) (outside (r.begin - n) r.begin span h)
-clear_one delay delays r n (Sent e) near room far h = by (e.tap == r.tap) refl h
+clear_one delay delays r n (Noise span) near far h =
+    ⊎_elim (λ (a : r.begin ≤ span.begin). inr (omega (arith, a))) (λ (b : span.end ≤ r.begin - n). inl (omega (arith, b))) (outside (r.begin - n) r.begin span h)
+clear_one delay delays r n (Sent e) near far h = by (e.tap == r.tap) refl h
   where
+    some : e.begin < e.end
+    some = far.0
+
     at : delays e.tap ≤ delay
     at = near e.tap
 
@@ -114,27 +122,26 @@ clear_one delay delays r n (Sent e) near room far h = by (e.tap == r.tap) refl h
         → (e.end + delays e.tap + 0 ≤ r.begin + delays r.tap - n) ⊎ (r.begin + delays r.tap - delays r.tap ≤ e.begin + delays e.tap + 0)
     by true own g =
         let d : delays e.tap ≡ delays r.tap = ap delays (eqb-true e.tap r.tap own) in
-        ⊎_elim (λ (a : r.begin ≤ e.begin). inr (omega (arith, a))) (λ (b : e.end ≤ r.begin - n). inl (omega (arith, b, room, d))) (outside (r.begin - n) r.begin (record { begin = e.begin; end = e.end }) g)
+        ⊎_elim (λ (a : r.begin ≤ e.begin). inr (omega (arith, a))) (λ (b : e.end ≤ r.begin - n). inl (omega (arith, b, d, some))) (outside (r.begin - n) r.begin (record { begin = e.begin; end = e.end }) g)
     by false other g =
         ⊎_elim
         (λ (a : r.begin ≤ e.begin + delay). ⊎_elim (λ (own : e.tap ≡ r.tap). absurd (let w : true ≡ false = sym (eq-eqb e.tap r.tap own) ∙ other in cc))
-        (λ (there : r.begin ≤ e.begin + delay → r.begin ≤ e.begin + delays e.tap). inr (let t = there a in omega (arith, t))) far)
-        (λ (b : e.end + delay ≤ r.begin - n). inl (omega (arith, b, room, at))) (outside (r.begin - n) r.begin (reaches delay e) g)
+        (λ (there : r.begin ≤ e.begin + delay → r.begin ≤ e.begin + delays e.tap). inr (let t = there a in omega (arith, t))) far.1)
+        (λ (b : e.end + delay ≤ r.begin - n). inl (omega (arith, b, at))) (outside (r.begin - n) r.begin (reaches delay e) g)
 
-clear_told : (delay : ℕ) (delays : ℕ → ℕ) (r : Record) (n : ℕ) (es : List Entry) → ((tap : ℕ) → delays tap ≤ delay) → n ≤ r.begin → Each (NotSooner delay delays r) es → list_any (λ e. is_within (r.begin - n) r.begin (active_at delay r.tap e)) es ≡ false
+clear_told : (delay : ℕ) (delays : ℕ → ℕ) (r : Record) (n : ℕ) (es : List Entry) → ((tap : ℕ) → delays tap ≤ delay) → Each (NotSooner delay delays r) es → list_any (λ e. is_within (r.begin - n) r.begin (active_at delay r.tap e)) es ≡ false
     → AllClear 0 (r.begin + delays r.tap - n) (r.begin + delays r.tap - delays r.tap) (map (as_heard delays) es)
-clear_told delay delays r n [] near room far h = tt
-clear_told delay delays r n (e ∷ es) near room far h =
+clear_told delay delays r n [] near far h = tt
+clear_told delay delays r n (e ∷ es) near far h =
     let b = or_parts (is_within (r.begin - n) r.begin (active_at delay r.tap e)) (list_any (λ e. is_within (r.begin - n) r.begin (active_at delay r.tap e)) es) h in
-    (clear_one delay delays r n e near room far.0 b.0, clear_told delay delays r n es near room far.1 b.1)
+    (clear_one delay delays r n e near far.0 b.0, clear_told delay delays r n es near far.1 b.1)
 
 claim_told : (p : Params) (specs : List TapSpec) (delays : ℕ → ℕ) (trace : List Entry) (l : Option Record) (r : Record) → ((tap : ℕ) → delays tap ≤ p.ttd) → Arrives p specs delays trace l r → is_claim p specs trace r ≡ true
     → ClaimHere p specs delays (map (as_heard delays) trace) (later delays r)
 claim_told p specs delays trace l r near arrives c = record {
   claims = parts.0;
   near = near r.tap;
-  silent = ⊎_elim (λ (early : r.begin < timeout). inl (soon timeout early)) (λ (room : timeout ≤ r.begin). inr (clear_told p.ttd delays r timeout trace near room (arrives.1 c room)
-      (not_false (list_any (λ e. is_within (r.begin - timeout) r.begin (active_at p.ttd r.tap e)) trace) parts.1))) (cases_lt r.begin timeout);
+  silent = clear_told p.ttd delays r timeout trace near (arrives.1 c) (not_false (list_any (λ e. is_within (r.begin - timeout) r.begin (active_at p.ttd r.tap e)) trace) parts.1);
 }
   where
     timeout : ℕ
@@ -142,9 +149,6 @@ claim_told p specs delays trace l r near arrives c = record {
 
     parts : (claims_for (address_at specs r.tap) (telegram_of r) ≡ true) × (is_silent p.ttd r.tap trace (r.begin - timeout) r.begin ≡ true)
     parts = claim_for (telegram_of r) (address_at specs r.tap) (is_silent p.ttd r.tap trace (r.begin - timeout) r.begin) c
-
-    soon : (n : ℕ) → r.begin < n → r.begin + delays r.tap < p.ttd + n
-    soon n early = let d = near r.tap in omega (arith, early, d)
 
 -- ---- no loss
 

@@ -159,20 +159,30 @@ spared : (now limit : ℕ) (o : Option Span) → limit ≤ now → Spares now li
 spared now limit None le = tt
 spared now limit (Some s) le = ⊎_elim (λ (a : s.begin < now). inl a) (λ (b : now ≤ s.begin). inr (omega (arith, b, le))) (cases_lt s.begin now)
 
+own_offer : (c : Place) (trace : List Entry) (last : Option Record) (ph : Phase) (busy : Bool) (quiet : ℕ) (own : Span) (reply : Option Reply) → IsChecking ph → own.end + c.p.tsl ≤ c.now → ViewOf c trace last ph busy quiet own reply
+    → Offers last c.tap own
+own_offer c trace last (Checking tries) busy quiet own reply is over v =
+    ⊎_elim (λ (h : Offers last c.tap own). h)
+    (λ (d : Doomed c trace own). absurd (d (each_all (λ e. Spares c.now (own.end + c.p.tsl) (heard_span c.p.ttd c.tap c.since e)) trace (λ e. spared c.now (own.end + c.p.tsl) (heard_span c.p.ttd c.tap c.since e) over)))) v.3
+own_offer c trace last Offline busy quiet own reply is over v = absurd is
+own_offer c trace last PassiveIdle busy quiet own reply is over v = absurd is
+own_offer c trace last (Listening doubled) busy quiet own reply is over v = absurd is
+own_offer c trace last (Idle refused) busy quiet own reply is over v = absurd is
+own_offer c trace last (Claim sent ready) busy quiet own reply is over v = absurd is
+own_offer c trace last (Use asked ready) busy quiet own reply is over v = absurd is
+own_offer c trace last (AwaitData asked retry slot) busy quiet own reply is over v = absurd is
+own_offer c trace last (AwaitStatus of slot) busy quiet own reply is over v = absurd is
+own_offer c trace last (Pass tries ready) busy quiet own reply is over v = absurd is
+
 own_token : (c : Place) (trace : List Entry) (last : Option Record) (ph : Phase) (busy : Bool) (quiet : ℕ) (own : Span) (reply : Option Reply) → IsChecking ph → own.end + c.p.tsl ≤ c.now → ViewOf c trace last ph busy quiet own reply
     → (l : Record) → last ≡ Some l → l.tap ≡ c.tap
-own_token c trace last (Checking tries) busy quiet own reply is over v l e =
-    ⊎_elim (λ (h : Offers last c.tap own). sym (ap (λ (r : Record). r.tap) (same_Some h.r l (sym h.is ∙ e))) ∙ h.by)
-    (λ (d : Doomed c trace own). absurd (d (each_all (λ e. Spares c.now (own.end + c.p.tsl) (heard_span c.p.ttd c.tap c.since e)) trace (λ e. spared c.now (own.end + c.p.tsl) (heard_span c.p.ttd c.tap c.since e) over)))) v.3
-own_token c trace last Offline busy quiet own reply is over v l e = absurd is
-own_token c trace last PassiveIdle busy quiet own reply is over v l e = absurd is
-own_token c trace last (Listening doubled) busy quiet own reply is over v l e = absurd is
-own_token c trace last (Idle refused) busy quiet own reply is over v l e = absurd is
-own_token c trace last (Claim sent ready) busy quiet own reply is over v l e = absurd is
-own_token c trace last (Use asked ready) busy quiet own reply is over v l e = absurd is
-own_token c trace last (AwaitData asked retry slot) busy quiet own reply is over v l e = absurd is
-own_token c trace last (AwaitStatus of slot) busy quiet own reply is over v l e = absurd is
-own_token c trace last (Pass tries ready) busy quiet own reply is over v l e = absurd is
+own_token c trace last ph busy quiet own reply is over v l e =
+    let h = own_offer c trace last ph busy quiet own reply is over v in sym (ap (λ (r : Record). r.tap) (same_Some h.r l (sym h.is ∙ e))) ∙ h.by
+
+-- one that holds the token has said or taken it
+held_last : (c : Place) (last : Option Record) → last ≡ None → Holding c last → ⊥
+held_last c last none (KeepsIt own h) = none-some h.r (sym none ∙ h.is)
+held_last c last none (Has at h late) = none-some h.r (sym none ∙ h.is)
 
 -- ---- a turn
 
@@ -252,3 +262,45 @@ turn_timely w waited k t kept here running set =
             let m = subst (λ n. Means n said.2.offered x) address (means v.address said.2.offered x said.2.meant (spelled said.0 said.1)) in
             let legal = legal_said p (specs_of w) w.now k a t.since true w.trace None said.0 x kept.fits refl refl (address_there w.taps k t here) m.claims tt why in
             inl (ap (λ b. claims_for (address_at (specs_of w) k) (telegram_of x) && b) (same_silence p w.now x w.trace (omega arith) k (w.now - tto p (address_at (specs_of w) k)) w.now (omega arith)) ∙ legal)
+
+-- where no initiator telegram came before, its speaker has waited out its time-out
+pub turn_waits : (w : World) (waited : List Waited) (k : ℕ) (t : Tap) → (kept : Keeps w waited) → slice_get w.taps k ≡ Some t → t.running ≡ true → Settled w → kept.inv.last ≡ None
+    → (octets : List ℕ) → (turn_of w.params t.station t.marks w.now).1 ≡ Some octets → is_initiator (sending k octets w.now w.taps) ≡ true → tto w.params t.spec.address ≤ w.now
+turn_waits w waited k t kept here running set none octets says =
+    subst (λ z. IfSome z Comes) says
+    (by (acts c w.trace kept.inv.last v kept.fits (left-after_marks p t.station t.marks ((set.stays k t here).opened))
+    (asks_of v.cycles.initiator.pending (reply-after_marks p t.station t.marks ((set.stays k t here).sayable)).1.pending) o.view_ok))
+  where
+    p : Params
+    p = w.params
+
+    c : Place
+    c = place p w.now k t
+
+    v : Station
+    v = view p t
+
+    o : TapHolds p w.now w.trace kept.inv.last k t
+    o = kept.inv.taps k t here running
+
+    Comes : List ℕ → Type 0
+    Comes octets = is_initiator (sending k octets w.now w.taps) ≡ true → tto p t.spec.address ≤ w.now
+
+    spelled : (octets : List ℕ) → (turn_of p t.station t.marks w.now).1 ≡ Some octets → fault_of (map Good octets) ≡ None
+    spelled octets e = subst (λ z. IfSome z (λ octets. SpellsOne (Sent (sending k octets w.now w.taps)))) e (said_spells w set k t here running)
+
+    on : (octets : List ℕ) → Grounds c v.address v.quiet v.own v.phase octets → tto p t.spec.address ≤ w.now
+    on octets (ByToken may) = absurd (held_last c kept.inv.last none (holding_view p w.now w.trace kept.inv.last k t t.marks o may))
+    on octets (BySlot checks at_end over) = absurd (let h = own_offer c w.trace kept.inv.last v.phase v.busy v.quiet v.own v.reply checks over o.view_ok in none-some h.r (sym none ∙ h.is))
+    on octets (BySilence may over claim) = subst (λ n. tto p n ≤ w.now) (marks p t.station t.marks ∙ o.address) (at_once (tto p v.address) over)
+      where
+        at_once : (n : ℕ) → v.quiet + n ≤ w.now → n ≤ w.now
+        at_once n over = omega (arith, over)
+
+    by : Acts c v (turn_of p t.station t.marks w.now) → IfSome (turn_of p t.station t.marks w.now).1 Comes
+    by (Rests e) = subst (λ (z : Station × Option (List ℕ)). IfSome z.1 Comes) (sym e) tt
+    by (Replies r is said still past waiting replied) =
+        subst (λ z. IfSome z Comes) (sym said)
+        (λ init. absurd (let none = reply_means (sending k r.octets w.now w.taps) (reply_of v.reply r (reply-after_marks p t.station t.marks ((set.stays k t here).sayable)).0 is).no_initiator (spelled r.octets said) in
+        let z : true ≡ false = sym init ∙ none in cc))
+    by (Initiates said still past grounds) = subst (λ z. IfSome z Comes) (sym said.1) (λ init. on said.0 grounds)

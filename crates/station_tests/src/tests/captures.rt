@@ -116,8 +116,16 @@ fn raises_each_alarm_once(rt: HostRuntime) {
             printed: b"800 833 token da=1 sa=1 | token to itself | holder 1\n870 936 short da=3 sa=2 fc=49 | FDL status request | holder 2\nalarm at 870 by 2: SpokeWithoutToken: station 1 had the token\n",
         },
         Case {
-            capture: b"1 2 --\n800 833 dc0101\n870 903 dc0101\n940 1006 100201494c16\n1017 1083 100102202316\n1120 1153 dc0201\n1253 1286 dc0303\n",
-            printed: b"1 2 fault 2 Faulty 0 | unknown\n800 833 token da=1 sa=1 | token to itself | holder 1\n870 903 token da=1 sa=1 | token to itself | holder 1\n940 1006 short da=2 sa=1 fc=49 | FDL status request | holder 1\n1017 1083 short da=1 sa=2 fc=20 | reply: OK, master ready | holder 1\n1120 1153 token da=2 sa=1 | token to 2 | offered to 2\n1253 1286 token da=3 sa=3 | token to itself | holder 3\nalarm at 1253 by 3: ClaimedTooEarly: it claimed after a silence of 100, and its time-out is 1200; station 1 had passed the token to station 2\n",
+            capture: b"800 833 dc0101\n870 903 dc0101\n940 1006 100201494c16\n1017 1083 100102202316\n1120 1153 dc0201\n1253 1286 dc0303\n",
+            printed: b"800 833 token da=1 sa=1 | token to itself | holder 1\n870 903 token da=1 sa=1 | token to itself | holder 1\n940 1006 short da=2 sa=1 fc=49 | FDL status request | holder 1\n1017 1083 short da=1 sa=2 fc=20 | reply: OK, master ready | holder 1\n1120 1153 token da=2 sa=1 | token to 2 | offered to 2\n1253 1286 token da=3 sa=3 | token to itself | holder 3\nalarm at 1253 by 3: ClaimedTooEarly: it claimed after a silence of 100, and its time-out is 1200; station 1 had passed the token to station 2\n",
+        },
+        Case {
+            capture: b"1 2 --\n800 833 dc0101\n",
+            printed: b"1 2 fault 2 Faulty 0 | unknown\n800 833 token da=1 sa=1 | token to itself | holder 1\nalarm at 800 by 1: ClaimedTooEarlyAfterLoss: it claimed after a silence of 798, and its time-out is 800\n",
+        },
+        Case {
+            capture: b"0 33 dc0201\n34 67 dc0505\n",
+            printed: b"0 33 token da=2 sa=1 | token to 2 | offered to 2\n34 67 token da=5 sa=5 | token to itself | holder 5\nalarm at 34 by 5: ClaimedTooEarly: it claimed after a silence of 1, and its time-out is 1600; station 1 had passed the token to station 2\n",
         },
     ];
     for case in cases {
