@@ -17,9 +17,9 @@ returns c =
     let count : c.min.result ≡ min (length text) 65535 = c.min.ensures ∙ ap (λ (n : ℕ). min n 65535) (c.len.ensures ∙ sym c.deref.ensures.len) in
     let short : take c.min.result text ≡ take 65535 (comment_text s r) = ap (λ (n : ℕ). take n text) count ∙ cut 65535 text ∙ ap (take 65535) whole in
     let octets = c.sent_octets-octets.result.now in
-    last c.push_block.result c.args.file.now.items c.push_block.new.file.items (block c.nanos.result (take c.min.result text) octets c.len-count.result) (block (nanos c.args.baud r.begin) (take 65535 (comment_text s r)) (sent_octets r) (length (sent_octets r)))
-    (ap (λ (n : ℕ). block n (take c.min.result text) octets c.len-count.result) c.nanos.ensures
-    ∙ ap (λ (z : List ℕ). block (nanos c.args.baud r.begin) z octets c.len-count.result) short
-    ∙ ap (λ (z : List ℕ). block (nanos c.args.baud r.begin) (take 65535 (comment_text s r)) z c.len-count.result) c.sent_octets-octets.ensures.octets
-    ∙ ap (λ (n : ℕ). block (nanos c.args.baud r.begin) (take 65535 (comment_text s r)) (sent_octets r) n) (c.len-count.ensures ∙ ap length c.sent_octets-octets.ensures.octets))
+    last c.push_block.result c.args.file.now.items c.push_block.new.file.items (block c.nanos.result (take c.min.result text) octets (length octets)) (block (nanos c.args.baud r.begin) (take 65535 (comment_text s r)) (sent_octets r) (length (sent_octets r)))
+    (ap (λ (n : ℕ). block n (take c.min.result text) octets (length octets)) c.nanos.ensures
+    ∙ ap (λ (z : List ℕ). block (nanos c.args.baud r.begin) z octets (length octets)) short
+    ∙ ap (λ (z : List ℕ). block (nanos c.args.baud r.begin) (take 65535 (comment_text s r)) z (length octets)) c.sent_octets-octets.ensures.octets
+    ∙ ap (λ (n : ℕ). block (nanos c.args.baud r.begin) (take 65535 (comment_text s r)) (sent_octets r) n) (ap length c.sent_octets-octets.ensures.octets))
     c.push_block.ensures
