@@ -53,7 +53,7 @@ lone_arrives p specs delays trace near order l r lone = (after l lone.0, λ c. n
     one (Sent e) some far = (
       some,
       ⊎_elim (λ (own : e.tap ≡ r.tap). inl own)
-        (λ (other : (e.end + p.ttd ≤ r.begin) ⊎ (r.begin ≤ e.begin)). inr (λ there. ⊎_elim (λ (t : e.end + p.ttd ≤ r.begin). absurd (omega (arith, t, there, some))) (λ (t : r.begin ≤ e.begin). omega (arith, t)) other)) far,
+          (λ (other : (e.end + p.ttd ≤ r.begin) ⊎ (r.begin ≤ e.begin)). inr (λ there. ⊎_elim (λ (t : e.end + p.ttd ≤ r.begin). absurd (omega (arith, t, there, some))) (λ (t : r.begin ≤ e.begin). omega (arith, t)) other)) far,
     )
 
     not_sooner : (m : ℕ) (es : List Entry) → IsOrderedFrom m es → Each (Far p.ttd r) es → Each (NotSooner p.ttd delays r) es

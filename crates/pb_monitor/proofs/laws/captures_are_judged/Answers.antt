@@ -40,6 +40,9 @@ returns-clause-claims c = refl
 pub returns-clause-claims_early : goal.returns-clause-claims_early
 returns-clause-claims_early c = refl
 
+pub returns-clause-claims_behind : goal.returns-clause-claims_behind
+returns-clause-claims_behind c = refl
+
 pub returns-clause-claims_lost : goal.returns-clause-claims_lost
 returns-clause-claims_lost c = refl
 
