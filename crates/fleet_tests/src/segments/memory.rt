@@ -4,7 +4,7 @@
 ghost use Rattle.std.specs.Prelude.{◌≡◌, ◌+◌, length};
 ghost use Rattle.pb_segment.specs.Origins.{IsNew};
 
-use super::{equal, master, two_masters, usual};
+use super::{equal, master, usual};
 use pb_segment::{
     CommitFault, ConductorSeat, GlanceFault, Outlook, Report, SharedSegment, TapSeat,
 };
@@ -114,7 +114,7 @@ fn shown<L: Ledger, R: AllocGlobal + Abort + Print + Wait>(rt: &R, used: &mut Us
 
 /// What both taps show is as after `count` events, which are also applied to a world.
 fn is_as_after<L: Ledger, R: AllocGlobal + Abort + Wait>(rt: &R, used: &Used<L>, count: usize) {
-    let (world, _) = played(rt, count);
+    let (world, _) = played(rt, count).expect(rt, "a world");
     for seat in [&used.first, &used.last] {
         let shown = used
             .segment
@@ -124,15 +124,16 @@ fn is_as_after<L: Ledger, R: AllocGlobal + Abort + Wait>(rt: &R, used: &Used<L>,
     }
 }
 
-/// A world after the first `count` events, and their replies.
-fn played(rt: &(impl AllocGlobal + Abort), count: usize) -> (World, Vec<Reply>) {
-    let mut world = two_masters(rt);
+/// A world after the first `count` events, and their replies; `None` if memory was refused.
+fn played(rt: &(impl AllocGlobal + Abort), count: usize) -> Option<(World, Vec<Reply>)> {
+    let specs = [master(1), master(2)];
+    let mut world = World::new(rt.alloc(), usual(rt), &specs).ok()?;
     let mut replies = Vec::new(rt.alloc());
     for place in 0..count {
-        let reply = world.apply(rt.alloc(), event(place)).expect(rt, "an event");
-        replies.push(reply).expect(rt, "memory");
+        let reply = world.apply(rt.alloc(), event(place)).ok()?;
+        replies.push(reply).ok()?;
     }
-    (world, replies)
+    Some((world, replies))
 }
 
 /// Whether a glance shows the clock, the station and the unread marks of a tap in a world.
@@ -199,7 +200,9 @@ fn is_closed<L: Ledger>(
     };
     equal(rt, &report.turns(), &[1, 0].as_slice());
     equal(rt, &report.outlooks().len(), &1);
-    let (world, replies) = played(rt, EVENTS);
+    let Some((world, replies)) = played(rt, EVENTS) else {
+        return refused(rt);
+    };
     has_happened(rt, &report, &replies);
     has_sent(rt, report.trace(), world.trace());
 }

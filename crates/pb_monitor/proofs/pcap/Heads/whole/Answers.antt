@@ -10,5 +10,5 @@ returns-clause-parts c =
     let head = c.in_ok-head.ensures.cases in
     let body = c.in_ok-octets.ensures.cases in
     ap (λ (more : List ℕ). take 16 all ++ more)
-    (ap (λ (front : List ℕ). front ++ c.in_ok-octets.behind.now) body.1 ∙ ap (λ (more : List ℕ). take c.long_in.result rest ++ more) body.2 ∙ take-append-drop c.long_in.result rest ∙ head.2)
+    (ap (λ (front : List ℕ). front ++ c.in_ok-octets.behind.now) body.1 ∙ ap (λ (more : List ℕ). take c.long_in-kept.result rest ++ more) body.2 ∙ take-append-drop c.long_in-kept.result rest ∙ head.2)
     ∙ take-append-drop 16 all
