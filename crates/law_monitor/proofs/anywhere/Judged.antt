@@ -1,7 +1,7 @@
 -- What a listener anywhere hears, if each initiator telegram is good by what it hears, raises no alarm.
 use Rattle.std.proofs.Common.{◌≡◌, ℕ, ◌+◌, ◌-◌, ◌*◌, ◌<◌, ◌≤◌, ◌⊎◌, inl, inr, ⊎_elim, Bool, true, false, if◌then◌else◌, not, ◌==◌, ◌&&◌, ◌||◌, List, [], ◌∷◌, map, refl, sym, ap, ◌∙◌, subst, arith, Option, Some, None}
-use Rattle.std.specs.Prelude.{nat_lt, nat_le}
-use Rattle.std.proofs.lemmas.Bool.{le-ltb, lt-ltb, le-leb, eq-eqb, eqb-true, ltb-true, ltb-false, cases_lt}
+use Rattle.std.specs.Prelude.{nat_lt}
+use Rattle.std.proofs.lemmas.Bool.{le-ltb, lt-ltb, eq-eqb, eqb-true, ltb-true, cases_lt}
 use Rattle.pb_timers.specs.Timers.{Params, tto}
 use Rattle.law_turn.specs.Arrivals.{Arrival, arrival_of}
 use Rattle.law_model.specs.Trace.{Record, Entry, Sent, Noise}
