@@ -46,23 +46,26 @@ static bool one_in(uint64_t count)
     return below(count) == 0;
 }
 
-static bool is_refused(void)
+/* No more than this is given at once: a number of octets at random is more than there are. */
+static const size_t most_octets = 1 << 30;
+
+static bool is_refused(size_t size)
 {
-    bool is = refuses && one_in(4);
+    bool is = size > most_octets || (refuses && one_in(4));
     refusals += is;
     return is;
 }
 
 void *__wrap_malloc(size_t size)
 {
-    void *at = is_refused() ? NULL : __real_malloc(size);
+    void *at = is_refused(size) ? NULL : __real_malloc(size);
     held += at != NULL;
     return at;
 }
 
 void *__wrap_realloc(void *at, size_t size)
 {
-    void *to = is_refused() ? NULL : __real_realloc(at, size);
+    void *to = is_refused(size) ? NULL : __real_realloc(at, size);
     held += at == NULL && to != NULL;
     return to;
 }
