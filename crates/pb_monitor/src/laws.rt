@@ -34,7 +34,8 @@ pub fn captures_are_judged()
     ensures taken_after { alarms_in (ring (at 1253 (question 3 2) ∷ [])) ≡ (1253, TookAfterSlot) ∷ [] }
     ensures claims { alarms_in (ring (at 1953 (token 1 1) ∷ [])) ≡ [] }
     ensures claims_early { alarms_in (ring (at 1253 (token 3 3) ∷ [])) ≡ (1253, ClaimedTooEarly) ∷ [] }
-    ensures claims_behind { alarms_in (at 0 (token 2 1) ∷ at 34 (token 5 5) ∷ []) ≡ (34, ClaimedTooEarly) ∷ [] }
+    ensures claims_behind { alarms_in (at 0 (token 2 1) ∷ at 34 (token 5 5) ∷ [])
+        ≡ (34, ClaimedTooEarly) ∷ [] }
     ensures claims_lost { alarms_in (ring (at 2152 (token 2 2) ∷ []))
         ≡ (2152, ClaimedTooEarlyAfterLoss) ∷ [] }
     ensures claims_after_ttos { alarms_in (ring (at 2153 (token 2 2) ∷ [])) ≡ [] }
