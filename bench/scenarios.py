@@ -4,8 +4,10 @@ run and timed."""
 import collections
 import json
 import os
+import pathlib
 import re
 import resource
+import shutil
 import subprocess
 import sys
 import time
@@ -13,6 +15,21 @@ import time
 TOP = os.path.dirname(os.path.dirname(os.path.abspath(__file__)))
 OURS = f"{TOP}/crates/ringplay/out/ringplay"
 BUS = {"tsl": 100, "tid1": 37, "tid2": 60, "tsdr": 11, "lag": 0, "ttr": 10_000, "gap": 10, "hsa": 5, "retries": 1, "ttd": 0}
+
+# The plain program as a crate that reads TOML by another.
+MANIFEST = """[package]
+name = "world_plain"
+version = "0.1.0"
+edition = "2024"
+[[bin]]
+name = "world_plain"
+path = "%s/bench/world_plain.rs"
+[features]
+toml = []
+[dependencies]
+toml = { version = "0.5", default-features = false }
+hex = "0.4"
+"""
 
 # Seconds by the wall's clock, and of processors for all threads.
 Spent = collections.namedtuple("Spent", "wall processor")
@@ -23,6 +40,21 @@ def build(folder, name):
     path = f"{folder}/{name}"
     subprocess.run(["rustc", "--edition", "2024", "-O", "-o", path, f"{TOP}/bench/{name}.rs"], check=True)
     return path
+
+
+def build_toml(folder):
+    """Builds world_plain with the crates toml and hex of Debian, which reads any TOML, and answers its path; None where they or cargo are
+    missing (Debian's packages librust-toml-dev, librust-hex-dev)."""
+    registry = pathlib.Path("/usr/share/cargo/registry")
+    if not shutil.which("cargo") or not all([*registry.glob(f"{name}-[0-9]*")] for name in ("toml", "hex")):
+        return None
+    crate = pathlib.Path(folder) / "world_toml"
+    (crate / ".cargo").mkdir(parents=True)
+    source = '[source.crates-io]\nreplace-with = "debian"\n[source.debian]\ndirectory = "%s"\n' % registry
+    (crate / ".cargo/config.toml").write_text(source)
+    (crate / "Cargo.toml").write_text(MANIFEST % TOP)
+    subprocess.run(["cargo", "build", "--release", "--offline", "--quiet", "--features", "toml"], cwd=crate, check=True)
+    return f"{crate}/target/release/world_plain"
 
 
 def build_ours():

@@ -9,14 +9,23 @@
 //!     world_plain audit < FILE            what an audit of its run finds
 //!     world_plain stream < FILE           the trace as it settles; entries that are over are let go, their octets are not
 //!
+//! With the feature `toml` it reads a scenario file by the crate toml (`toml_files.rs`).
+//!
 //! A telegram's octets are written once, behind all that were sent before (`Air`). What a tap hears is read once for
 //! all taps. Sets of addresses and of taps are masks.
+
+#![cfg_attr(feature = "toml", allow(dead_code))]
+
+#[cfg(feature = "toml")]
+mod toml_files;
 
 use std::collections::VecDeque;
 use std::env;
 use std::fmt::{self, Display, Write as _};
 use std::io::{self, Read, Write};
 use std::process::ExitCode;
+#[cfg(feature = "toml")]
+use toml_files::scenario_of;
 
 const CLOCK_LIMIT: u64 = 1_000_000_000_000;
 const TRACE_LIMIT: usize = 100_000;
@@ -2129,6 +2138,8 @@ fn read_scenario() -> Result<Scenario, Fault> {
     scenario_of(&text).ok_or(Fault::List("no scenario".into()))
 }
 
+/// Reads a scenario file whose lines are as `scenarios.py` writes them.
+#[cfg(not(feature = "toml"))]
 fn scenario_of(text: &str) -> Option<Scenario> {
     let mut scenario = Scenario { until: 0, bus: USUAL, taps: Vec::new(), steps: VecDeque::new() };
     for line in text.lines() {

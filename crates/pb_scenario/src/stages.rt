@@ -65,7 +65,7 @@ impl Stage for Inquiry {
     }
 
     fn apply_in_time(&mut self, alloc: Global, event: &Event) -> Result<(), WorldFault> {
-        self.follow(alloc, event)
+        self.follow_in_time(alloc, event)
     }
 
     fn bus(&self) -> &Bus {

@@ -95,10 +95,13 @@ next_known-by m delay now (e ∷ es) le begun =
     reached d (Noise span) at = omega (arith, at)
     reached d (Sent r) at = omega (arith, at)
 
-by-drop : (m n : ℕ) (es : List Entry) → AllBy m es → AllBy m (drop n es)
+pub by-drop : (m n : ℕ) (es : List Entry) → AllBy m es → AllBy m (drop n es)
 by-drop m zero es by = by
 by-drop m (suc n) [] by = tt
 by-drop m (suc n) (e ∷ es) by = by-drop m n es by.1
+
+pub recent-begun : (now over : ℕ) (es : List Entry) → AllBegun now es → AllBegun now (drop over es)
+recent-begun now over es begun = begun-behind now (take over es) (drop over es) (subst (AllBegun now) (sym (take-append-drop over es)) begun)
 
 pub recent-by : (m delay now over : ℕ) (es : List Entry) → AllBy m es → IfSome (next_end_of delay now (drop over es)) (λ t. t ≤ m + delay)
 recent-by m delay now over es by = next_end-by m delay now (drop over es) (by-drop m over es by)
@@ -112,4 +115,4 @@ pub known-by : (m delay now over : ℕ) (es : List Entry) (o : Option ℕ) → o
     → IfSome o (λ t. t ≤ m + delay)
 known-by m delay now over es o is le begun =
     one-sooner (m + delay) o (subst (λ x. IfSome x (λ t. t ≤ m + delay + 1)) (sym is)
-    (next_known-by m delay now (drop over es) le (begun-behind now (take over es) (drop over es) (subst (AllBegun now) (sym (take-append-drop over es)) begun))))
+    (next_known-by m delay now (drop over es) le (recent-begun now over es begun)))

@@ -7,6 +7,7 @@ pub mod Buses
 pub mod LettingGo
 pub mod Glances
 pub mod Ends
+pub mod Changes
 pub mod Refusals
 pub mod Premises
 pub mod Judging

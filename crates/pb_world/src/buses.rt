@@ -224,7 +224,8 @@ impl Bus {
     }
 
     /// When the station at a tap has to take its turn; `None` if there is no such tap, it does not run, or it waits for
-    /// nothing.
+    /// nothing. Always inlined: behind [`is_due`](Bus::is_due) the compiler then computes nothing twice.
+    #[inline(always)]
     pub fn due(&self, tap: usize) -> Option<Moment>
         requires { IsKept self.now }
         ensures { result ≡ due_at (world_of self.entry.now) tap }

@@ -1,7 +1,8 @@
 //! Why a premise broke: at which tap, by which event, and by which moments.
 
-ghost use Rattle.std.specs.Prelude.{◌≡◌, IfErr, OnOk, Ok};
+ghost use Rattle.std.specs.Prelude.{◌≡◌, false, IfErr, OnOk, Ok};
 ghost use Rattle.law_model.specs.Step.{step};
+ghost use Rattle.law_runs.specs.Premises.{comes_late};
 ghost use Rattle.law_model.specs.World as model;
 ghost use Rattle.pb_world.specs.Buses.{IsKept};
 ghost use Rattle.pb_taps.specs.Events.{event_of};
@@ -99,12 +100,43 @@ impl Inquiry {
     {
         let before = self.watched.watch.waited;
         self.watched.follow(alloc, event)?;
+        self.note_cause(event, before);
+        Ok(())
+    }
+
+    /// Does an event, as [`follow`](Inquiry::follow) does in more instructions. The caller ensures that no turn is later than
+    /// the lag in it.
+    ///
+    /// Faults: those of [`Watched::follow_in_time`].
+    pub fn follow_in_time(&mut self, alloc: Global, event: &Event) -> Result<(), WorldFault>
+        requires in_time { comes_late (world_in self.old.watched) (event_of event.now) ≡ false }
+        requires watched { IsWatched self.old.watched }
+        ensures came { OnOk result (GoesOnBy self.old.watched (event_of event.now) self.new.watched) }
+        ensures steps { OnOk result ((reply : model.Reply)
+            × (step (world_in self.old.watched) (event_of event.now)
+            ≡ Ok (world_in self.new.watched, reply))) }
+        ensures err { IfErr result (λ fault. (world_in self.new.watched ≡ world_in self.old.watched)
+            × Refuses (world_in self.old.watched) (event_of event.now)
+            (step (world_in self.old.watched) (event_of event.now)) fault) }
+    {
+        let before = self.watched.watch.waited;
+        self.watched.follow_in_time(alloc, event)?;
+        self.note_cause(event, before);
+        Ok(())
+    }
+
+    /// Keeps why the first premise broke, after the event that broke it, by the tap that had been the last to wait out its
+    /// time-out before that event.
+    #[inline(always)]
+    fn note_cause(&mut self, event: &Event, before: Option<Waited>)
+        requires { IsWatched self.old.watched }
+        ensures { self.new.watched ≡ self.old.watched }
+    {
         if self.cause.is_none()
             && let Some(breach) = self.watched.watch.first_broken()
         {
             self.cause = cause_of(&self.watched, breach.premise, event, before);
         }
-        Ok(())
     }
 
     /// The bus, as the events so far have left it.
