@@ -12,3 +12,4 @@ pub mod CutStreams
 pub mod Forgotten
 pub mod Appending
 pub mod HexDigits
+pub mod Times

@@ -1,6 +1,7 @@
 //! Captures of octets without boundaries, and files of packets.
 
-ghost use Rattle.std.specs.Prelude.{◌≡◌, ◌<◌, ◌≤◌, ◌++◌, [], length, IfOk, OnOk};
+ghost use Rattle.std.specs.Prelude.{◌≡◌, ◌<◌, ◌≤◌, ◌++◌, [], length, max, IfOk, OnOk};
+ghost use Rattle.pb_monitor.specs.Times.{nearest_bits};
 ghost use Rattle.pb_monitor.specs.BurstTexts.{cut_text};
 ghost use Rattle.pb_telegram.specs.Grammar.{spelling};
 
@@ -9,7 +10,7 @@ use crate::cutting::{Cut, cut_front};
 use crate::heard_bursts::Known;
 use crate::lines::When;
 use crate::monitors::Monitor;
-use crate::pcap::{Heads, Item, Part, PcapFault, Stamp};
+use crate::pcap::{Heads, Item, Part, PcapFault, Stamp, Time};
 use crate::reports::{push_refused, put_content};
 use crate::texts::{push_number, put, put_number};
 use arrayvec::ArrayVec;
@@ -196,7 +197,7 @@ impl Monitor {
             if is_kept {
                 self.kept.note_octets(whole.octets);
             }
-            self.hear_packet(whole.stamp, whole.octets, rooms, text)?;
+            self.hear_packet(heads, whole.time, whole.octets, rooms, text)?;
             left = whole.behind;
         }
         Ok(octets.len() - left.len())
@@ -261,22 +262,28 @@ impl Monitor {
         }
     }
 
-    /// A packet of these octets.
+    /// A packet of a pcap file, of these octets.
     #[inline(always)]
     fn hear_packet(
         &mut self,
-        stamp: Stamp,
+        heads: Heads,
+        time: Time,
         octets: &[u8],
         rooms: &mut Rooms,
         text: &mut Vec<u8>,
     ) -> Result<(), AllocError> {
         self.place = self.place.saturating_add(1);
-        let when = self.when(Some(stamp));
-        self.hear_octets(when, octets, rooms, text)
+        let Some(baud) = self.options.baud else {
+            return self.hear_rare_octets(When::Unknown, octets, rooms, text);
+        };
+        let begin = match heads.bits(time, baud) {
+            Some(bits) if let Some(origin) = self.near_origin => bits.saturating_sub(origin),
+            _ => self.moment_of(heads.stamp(time), baud),
+        };
+        self.hear_octets_from(begin, octets, rooms, text)
     }
 
     /// When a packet was on the bus, as far as the file says.
-    #[inline(always)]
     fn when(&mut self, stamp: Option<Stamp>) -> When {
         match (stamp, self.options.baud) {
             (Some(stamp), Some(baud)) => When::From(self.moment_of(stamp, baud)),
@@ -285,19 +292,8 @@ impl Monitor {
     }
 
     /// The moment of a time, in bit times since the first packet: the nearest one, since a file's times are rounded down.
-    #[inline(always)]
-    fn moment_of(&mut self, stamp: Stamp, baud: u32) -> u64 {
-        if let Some(origin) = self.near_origin
-            && let Some(bits) = near_bits_of(stamp, baud)
-        {
-            return bits.saturating_sub(origin);
-        }
-        self.far_moment_of(stamp, baud)
-    }
-
-    /// The same, of any time.
     #[inline(never)]
-    fn far_moment_of(&mut self, stamp: Stamp, baud: u32) -> u64 {
+    fn moment_of(&mut self, stamp: Stamp, baud: u32) -> u64 {
         let bits = bits_of(stamp, baud);
         let origin = self.origin.unwrap_or(bits);
         self.origin = Some(origin);
@@ -325,21 +321,12 @@ impl Monitor {
 }
 
 /// How many bit times a time is behind the file's epoch: the nearest number.
-fn bits_of(stamp: Stamp, baud: u32) -> u128 {
-    if let Some(bits) = near_bits_of(stamp, baud) {
-        return u128::from(bits);
-    }
-    let ticks = u128::from(stamp.ticks) * u128::from(baud);
+fn bits_of(stamp: Stamp, baud: u32) -> u128
+    ensures { result ≡ nearest_bits stamp.ticks (max 1 stamp.per_second) baud }
+{
     let per_second = u128::from(stamp.per_second.max(1));
+    let ticks = u128::from(stamp.ticks) * u128::from(baud);
     (ticks + per_second / 2) / per_second
-}
-
-/// The same, if no step of it overflows 64 bits.
-#[inline(always)]
-fn near_bits_of(stamp: Stamp, baud: u32) -> Option<u64> {
-    let per_second = stamp.per_second.max(1);
-    let ticks = u64::try_from(u128::from(stamp.ticks) * u128::from(baud)).ok()?;
-    Some(ticks.checked_add(per_second / 2)? / per_second)
 }
 
 /// Appends the line of a telegram at an offset.

@@ -107,7 +107,7 @@ impl Judge {
                 self.slack,
                 self.classes,
                 self.since,
-                self.state,
+                &self.state,
                 burst.begin,
                 telegram,
             ),
@@ -126,7 +126,7 @@ impl Judge {
             self.slack,
             self.classes,
             self.since,
-            silence_before(&self.params, self.slack, self.state, begin),
+            &silence_before(&self.params, self.slack, &self.state, begin),
             begin,
             telegram,
         )

@@ -15,11 +15,11 @@ pub(crate) fn judged(
     slack: u32,
     classes: Classes,
     since: u64,
-    state: State,
+    state: &State,
     begin: u64,
     telegram: InitiatorTelegram,
 ) -> Option<Alarm>
-    ensures { result ≡ judge.judged params.now slack classes since state begin telegram }
+    ensures { result ≡ judge.judged params.now slack classes since state.now begin telegram }
 {
     if may_claim(params, slack, since, state, begin, telegram) {
         return None;
@@ -27,10 +27,10 @@ pub(crate) fn judged(
     if classes.loss && is_past_live(params, slack, state.quiet, begin) {
         return Some(lost_alarm(telegram));
     }
-    match judged_last(params, slack, state.last, begin, telegram) {
+    match judged_last(params, slack, &state.last, begin, telegram) {
         Some(alarm) if classes.legality => Some(alarm),
         Some(_) => None,
-        None if classes.timing => taking_last(params, slack, state.last, begin, telegram),
+        None if classes.timing => taking_last(params, slack, &state.last, begin, telegram),
         None => None,
     }
 }
@@ -40,11 +40,11 @@ fn may_claim(
     params: &BusParams,
     slack: u32,
     since: u64,
-    state: State,
+    state: &State,
     begin: u64,
     telegram: InitiatorTelegram,
 ) -> bool
-    ensures { result ≡ judge.may_claim params.now slack since state begin telegram }
+    ensures { result ≡ judge.may_claim params.now slack since state.now begin telegram }
 {
     let late = u128::from(params.ttd()) + u128::from(slack);
     telegram.is_claim
@@ -57,11 +57,11 @@ fn may_be_its(
     params: &BusParams,
     slack: u32,
     since: u64,
-    state: State,
+    state: &State,
     begin: u64,
     telegram: InitiatorTelegram,
 ) -> bool
-    ensures { result ≡ judge.may_be_its params.now slack since state begin telegram }
+    ensures { result ≡ judge.may_be_its params.now slack since state.now begin telegram }
 {
     let (begin, slack) = (u128::from(begin), u128::from(slack));
     let ttd = u128::from(params.ttd());
@@ -96,13 +96,15 @@ fn or_claim(telegram: InitiatorTelegram, alarm: Alarm) -> Option<Alarm>
 fn judged_last(
     params: &BusParams,
     slack: u32,
-    last: Option<LastHeard>,
+    last: &Option<LastHeard>,
     begin: u64,
     telegram: InitiatorTelegram,
 ) -> Option<Alarm>
-    ensures { result ≡ judge.judged_last params.now slack last begin telegram }
+    ensures { result ≡ judge.judged_last params.now slack last.now begin telegram }
 {
-    let last = last?;
+    let Some(last) = last else {
+        return None;
+    };
     match last.offered {
         Some(to) => judged_offer(params, slack, last, to, begin, telegram),
         None if telegram.source == last.source => None,
@@ -115,12 +117,12 @@ fn judged_last(
 fn judged_offer(
     params: &BusParams,
     slack: u32,
-    last: LastHeard,
+    last: &LastHeard,
     to: u8,
     begin: u64,
     telegram: InitiatorTelegram,
 ) -> Option<Alarm>
-    ensures { result ≡ judge.judged_offer params.now slack last (Some to) begin telegram }
+    ensures { result ≡ judge.judged_offer params.now slack last.now (Some to) begin telegram }
 {
     if telegram.source == last.source {
         return judged_passing(params, slack, last, begin);
@@ -136,8 +138,8 @@ fn judged_offer(
 }
 
 /// What is illegal about a telegram of the station that has passed the token.
-fn judged_passing(params: &BusParams, slack: u32, last: LastHeard, begin: u64) -> Option<Alarm>
-    ensures { result ≡ judge.judged_passing params.now slack last begin }
+fn judged_passing(params: &BusParams, slack: u32, last: &LastHeard, begin: u64) -> Option<Alarm>
+    ensures { result ≡ judge.judged_passing params.now slack last.now begin }
 {
     if is_sooner(begin, u64::from(slack), last.end, u64::from(params.tsl())) {
         return Some(Alarm::PassedAgainTooEarly);
@@ -153,13 +155,15 @@ fn judged_passing(params: &BusParams, slack: u32, last: LastHeard, begin: u64) -
 fn taking_last(
     params: &BusParams,
     slack: u32,
-    last: Option<LastHeard>,
+    last: &Option<LastHeard>,
     begin: u64,
     telegram: InitiatorTelegram,
 ) -> Option<Alarm>
-    ensures { result ≡ judge.taking_last params.now slack last begin telegram }
+    ensures { result ≡ judge.taking_last params.now slack last.now begin telegram }
 {
-    let last = last?;
+    let Some(last) = last else {
+        return None;
+    };
     match last.offered {
         Some(to) if telegram.source != last.source && telegram.source == to => {
             judged_taking(params, slack, last, begin)
@@ -170,8 +174,8 @@ fn taking_last(
 
 /// What is wrong about the moment at which an offered token is taken.
 #[inline(always)]
-fn judged_taking(params: &BusParams, slack: u32, last: LastHeard, begin: u64) -> Option<Alarm>
-    ensures { result ≡ judge.judged_taking params.now slack last begin }
+fn judged_taking(params: &BusParams, slack: u32, last: &LastHeard, begin: u64) -> Option<Alarm>
+    ensures { result ≡ judge.judged_taking params.now slack last.now begin }
 {
     let tid1 = u64::from(params.tid1());
     let latest = tid1 + u64::from(params.lag()) + 2 * u64::from(params.ttd()) + u64::from(slack);

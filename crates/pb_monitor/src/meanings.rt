@@ -30,10 +30,13 @@ pub enum Meaning {
 }
 
 /// What a telegram, or the fault of a burst without one, means for the token.
+#[inline(always)]
 pub fn meaning_in(telegram: &Result<Telegram, TelegramFault>) -> Meaning
     ensures { result ≡ meaning_of (arrival_in telegram.now) }
 {
     match telegram {
+        // Most telegrams are tokens.
+        Ok(Telegram::Token(token)) => Meaning::Initiator(passed(token.da, token.sa)),
         Ok(telegram) => told_by(telegram),
         Err(_) => Meaning::NoTelegram,
     }

@@ -55,8 +55,6 @@ pub struct Monitor {
     pub(crate) origin: Option<u128>,
     /// The same, if it has 64 bits.
     pub(crate) near_origin: Option<u64>,
-    /// The end of the last burst with moments, if nothing was missed since.
-    pub(crate) quiet: Option<u64>,
     /// When the next summary is due.
     pub(crate) due: Option<u64>,
     /// The summaries, where they are kept apart.
@@ -90,7 +88,6 @@ impl Monitor {
             skipped: 0,
             origin: None,
             near_origin: None,
-            quiet: None,
             due: None,
             apart: None,
         })
@@ -356,6 +353,23 @@ impl Monitor {
         self.hear_when(when, burst, octets, octets.len() as u64, text)
     }
 
+    /// A burst of these octets has come, from a moment on. `rooms` is overwritten.
+    #[inline(always)]
+    pub(crate) fn hear_octets_from(
+        &mut self,
+        begin: u64,
+        octets: &[u8],
+        rooms: &mut Rooms,
+        text: &mut Vec<u8>,
+    ) -> Result<(), AllocError> {
+        let count = octets.len() as u64;
+        let burst = rooms.room(octets);
+        burst.begin = begin;
+        burst.end = begin.saturating_add(bits(count));
+        read_octets(octets, &mut self.receiver, &mut burst.telegram);
+        self.hear_timed(burst, octets, count, text)
+    }
+
     /// A burst of the characters that the receiver was fed has come, and of so many that it was not fed.
     #[inline(never)]
     pub(crate) fn hear_fed(
@@ -409,7 +423,6 @@ impl Monitor {
     {
         self.judge = None;
         self.order = Order::new();
-        self.quiet = None;
         self.statistics.forget();
     }
 
@@ -433,12 +446,11 @@ impl Monitor {
     ) -> Result<(), AllocError>
         requires { IfOk burst.now.telegram (λ t. octets.now ≡ spelling t) }
     {
-        if let Some(quiet) = self.quiet
+        if let Some(quiet) = self.statistics.quiet()
             && burst.begin.saturating_add(u64::from(self.options.slack)) < quiet
         {
             self.refuse_order(burst.begin, quiet, text)?;
         }
-        self.quiet = Some(burst.end);
         self.statistics.hear_spelled(burst, octets);
         if self.kept.is_wanted() {
             return self.keep_timed(burst, count, text);
@@ -649,7 +661,6 @@ impl Monitor {
     ) -> Result<(), AllocError>
         requires { IfOk burst.now.telegram (λ t. octets.now ≡ spelling t) }
     {
-        self.quiet = None;
         self.judge = None;
         let meaning = meaning_in(&burst.telegram);
         self.statistics.hear_untimed(burst, octets);

@@ -1,6 +1,7 @@
 //! Reads files of packets, pcap and pcapng, as they come: piece by piece, whole heads and packets where they are all there.
 
-ghost use Rattle.std.specs.Prelude.{◌≡◌, ◌<◌, ◌≤◌, ◌+◌, ◌++◌, length, take, IfSome};
+ghost use Rattle.std.specs.Prelude.{◌≡◌, ◌<◌, ◌≤◌, ◌+◌, ◌*◌, ◌++◌, length, take, IfSome};
+ghost use Rattle.pb_monitor.specs.Times.{nearest_bits, parts_of_second};
 
 use arrayvec::ArrayVec;
 use pb_telegram::{Receiver, RxChar};
@@ -44,7 +45,7 @@ pub(crate) enum Item {
 #[derive(Clone, Copy, Debug)]
 pub(crate) struct Whole<'a> {
     /// Its time.
-    pub(crate) stamp: Stamp,
+    pub(crate) time: Time,
     /// Its octets.
     pub(crate) octets: &'a [u8],
     /// The octets behind it.
@@ -69,6 +70,25 @@ pub(crate) struct Size {
     pub(crate) kept: u64,
     /// On the line.
     pub(crate) sent: u64,
+}
+
+/// The time of a packet of a pcap file.
+#[derive(Clone, Copy, Debug, PartialEq, Eq)]
+pub(crate) struct Time {
+    /// How many seconds since the file's epoch.
+    pub(crate) seconds: u32,
+    /// How many parts of a second after that.
+    pub(crate) parts: u32,
+}
+
+/// What the head of a packet of a pcap file says.
+#[derive(Clone, Copy, Debug)]
+struct PacketHead {
+    time: Time,
+    /// How many octets of the packet the file has.
+    kept: u32,
+    /// How many it had on the line.
+    sent: u32,
 }
 
 /// The time of a packet.
@@ -481,10 +501,12 @@ impl Packets {
 
     /// A packet of a pcap file comes.
     fn end_packet_head(&mut self, head: &[u8], receiver: &mut Receiver) -> Option<Item> {
-        self.stamp = Some(self.file_heads().stamp(head));
+        let heads = self.file_heads();
+        let known = heads.head(head);
+        self.stamp = Some(heads.stamp(known.time));
         let size = Size {
-            kept: u64::from(self.long(head, 8)),
-            sent: u64::from(self.long(head, 12)),
+            kept: u64::from(known.kept),
+            sent: u64::from(known.sent),
         };
         self.begin_packet(size, true, receiver)
     }
@@ -536,37 +558,80 @@ impl Heads {
         ensures parts { IfSome result (λ whole. take 16 octets.now ++ (whole.octets.now ++ whole.behind.now)
             ≡ octets.now) }
     {
-        let (head, rest) = octets.split_at_checked(PACKET_HEAD)?;
-        let (kept, sent) = (
-            long_in(head, 8, self.is_big),
-            long_in(head, 12, self.is_big),
-        );
-        if sent > kept {
+        let (front, rest) = octets.split_at_checked(PACKET_HEAD)?;
+        let head = self.head(front);
+        if head.sent > head.kept {
             return None;
         }
-        let (octets, behind) = rest.split_at_checked(kept as usize)?;
+        let (octets, behind) = rest.split_at_checked(head.kept as usize)?;
         Some(Whole {
-            stamp: self.stamp(head),
+            time: head.time,
             octets,
             behind,
         })
     }
 
-    /// The time in a head.
+    /// What a head says.
     #[inline(always)]
-    fn stamp(&self, head: &[u8]) -> Stamp {
-        let seconds = u64::from(long_in(head, 0, self.is_big));
-        let parts = u64::from(long_in(head, 4, self.is_big));
-        if self.is_nano {
-            return Stamp {
-                ticks: seconds * NANOS + parts,
-                per_second: NANOS,
-            };
+    fn head(&self, head: &[u8]) -> PacketHead {
+        if self.is_big {
+            head_of(head, true)
+        } else {
+            head_of(head, false)
         }
+    }
+
+    /// A time, in parts of a second.
+    pub(crate) fn stamp(&self, time: Time) -> Stamp
+        ensures { result ≡ record {
+          ticks = time.seconds * parts_of_second self.now.is_nano + time.parts;
+          per_second = parts_of_second self.now.is_nano;
+        } }
+    {
+        let per_second = self.per_second();
         Stamp {
-            ticks: seconds * MICROS + parts,
-            per_second: MICROS,
+            ticks: u64::from(time.seconds) * per_second + u64::from(time.parts),
+            per_second,
         }
+    }
+
+    /// How many parts of a second a timestamp counts.
+    fn per_second(&self) -> u64
+        ensures { result ≡ parts_of_second self.now.is_nano }
+    {
+        if self.is_nano { NANOS } else { MICROS }
+    }
+
+    /// How many bit times a time is behind the file's epoch: the nearest number, if it has 64 bits.
+    #[inline(always)]
+    #[tactic(auto, using(crate::proofs::Times::split))]
+    pub(crate) fn bits(&self, time: Time, baud: u32) -> Option<u64>
+        ensures { IfSome result (λ bits. bits ≡ nearest_bits
+            (time.seconds * parts_of_second self.now.is_nano + time.parts)
+            (parts_of_second self.now.is_nano) baud) }
+    {
+        let whole = u64::from(time.seconds) * u64::from(baud);
+        let parts = u64::from(time.parts) * u64::from(baud);
+        // A division by a constant is cheaper than one by a number that is read.
+        let rest = if self.is_nano {
+            (parts + NANOS / 2) / NANOS
+        } else {
+            (parts + MICROS / 2) / MICROS
+        };
+        whole.checked_add(rest)
+    }
+}
+
+/// What the head of a packet of a pcap file says.
+#[inline(always)]
+fn head_of(head: &[u8], is_big: bool) -> PacketHead {
+    PacketHead {
+        time: Time {
+            seconds: long_in(head, 0, is_big),
+            parts: long_in(head, 4, is_big),
+        },
+        kept: long_in(head, 8, is_big),
+        sent: long_in(head, 12, is_big),
     }
 }
 

@@ -61,8 +61,8 @@ pub(crate) fn hear(
 )
     ensures { state.new ≡ judge.behind_by params.now slack state.old begin end meaning }
 {
-    if is_kept(params, slack, *state, begin) {
-        state.silent_from = silent_since(params, slack, *state, begin);
+    if is_kept(params, slack, state, begin) {
+        state.silent_from = silent_since(params, slack, state, begin);
         state.silent_to = begin;
     }
     match meaning {
@@ -83,8 +83,8 @@ pub(crate) fn hear(
 }
 
 /// The state once a burst begins: it may end a silence that may be a time-out.
-pub(crate) fn silence_before(params: &BusParams, slack: u32, state: State, begin: u64) -> State
-    ensures { result ≡ judge.silence_before params.now slack state begin }
+pub(crate) fn silence_before(params: &BusParams, slack: u32, state: &State, begin: u64) -> State
+    ensures { result ≡ judge.silence_before params.now slack state.now begin }
 {
     if is_kept(params, slack, state, begin) {
         return State {
@@ -95,12 +95,12 @@ pub(crate) fn silence_before(params: &BusParams, slack: u32, state: State, begin
             lost: state.lost,
         };
     }
-    state
+    *state
 }
 
 /// Whether the silence that ends as something begins is kept: it may be a time-out, or listening began in it.
-fn is_kept(params: &BusParams, slack: u32, state: State, begin: u64) -> bool
-    ensures { result ≡ judge.is_kept params.now slack state begin }
+fn is_kept(params: &BusParams, slack: u32, state: &State, begin: u64) -> bool
+    ensures { result ≡ judge.is_kept params.now slack state.now begin }
 {
     state.quiet == state.silent_to || may_be_timeout(params, slack, state.quiet, begin)
 }
@@ -109,13 +109,13 @@ fn is_kept(params: &BusParams, slack: u32, state: State, begin: u64) -> bool
 fn may_be_timeout(params: &BusParams, slack: u32, from: u64, to: u64) -> bool
     ensures { result ≡ judge.may_be_timeout params.now slack from to }
 {
-    let late = u128::from(params.ttd()) + u128::from(slack);
-    u128::from(from) + 6 * u128::from(params.tsl()) <= u128::from(to) + late
+    let late = u64::from(params.ttd()) + u64::from(slack);
+    !is_sooner(to, late, from, 6 * u64::from(params.tsl()))
 }
 
 /// Where a silence that may be a time-out begins, once something begins at a moment.
-fn silent_since(params: &BusParams, slack: u32, state: State, begin: u64) -> u64
-    ensures { result ≡ judge.silent_since params.now slack state begin }
+fn silent_since(params: &BusParams, slack: u32, state: &State, begin: u64) -> u64
+    ensures { result ≡ judge.silent_since params.now slack state.now begin }
 {
     let late = u128::from(params.ttd()) + u128::from(slack);
     if u128::from(begin) <= u128::from(state.silent_to) + late {

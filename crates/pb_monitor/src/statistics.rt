@@ -166,6 +166,14 @@ impl Statistics {
         self.ring.contains(address)
     }
 
+    /// The end of the last burst, if its moments are known and nothing was missed since.
+    #[inline(always)]
+    pub(crate) fn quiet(&self) -> Option<u64>
+        ensures { result ≡ self.now.quiet }
+    {
+        self.quiet
+    }
+
     /// Counts an alarm.
     pub(crate) fn raise(&mut self)
         ensures { self.new ≡ alarmed self.old }
@@ -208,6 +216,7 @@ impl Statistics {
     }
 
     /// Hears the next burst, of whose telegram these are the octets, if it has one.
+    #[inline(always)]
     pub(crate) fn hear_spelled(&mut self, burst: &Burst, octets: &[u8])
         requires { IfOk burst.now.telegram (λ t. octets.now ≡ spelling t) }
         ensures { self.new ≡ heard burst.now self.old }
@@ -237,13 +246,17 @@ impl Statistics {
     }
 
     /// Counts what a burst says.
+    #[inline(always)]
     fn hear_telegram(&mut self, burst: &Burst, octets: &[u8], before: Option<u64>)
         requires { IfOk burst.now.telegram (λ t. octets.now ≡ spelling t) }
         ensures { self.new ≡ heard_telegram before burst.now.begin burst.now.end burst.now.telegram self.old }
     {
+        // Most telegrams are tokens.
+        if let Ok(Telegram::Token(token)) = &burst.telegram {
+            return self.hear_token(burst.begin, burst.end, token, before);
+        }
         match &burst.telegram {
             Err(_) => self.hear_damage(burst.begin, before),
-            Ok(Telegram::Token(token)) => self.hear_token(burst.begin, burst.end, token, before),
             Ok(telegram) => match meaning_in(&burst.telegram) {
                 Meaning::Initiator(said) => self.hear_request(burst, telegram, octets, said),
                 Meaning::Reply | Meaning::NoTelegram => self.hear_reply(burst, telegram),
@@ -252,6 +265,7 @@ impl Statistics {
     }
 
     /// Hears a token from one moment to another.
+    #[inline(never)]
     fn hear_token(&mut self, begin: u64, end: u64, token: &TokenTelegram, before: Option<u64>)
         ensures { self.new ≡ heard_telegram before begin end (Ok (Token token.now)) self.old }
     {

@@ -9,6 +9,7 @@ use crate::statistics::{Answer, Limits, Offer, bits_since, is_early};
 use pb_telegram::Head;
 
 /// Notes who took a token that was offered, or that it was sent again after its slot.
+#[inline(always)]
 pub(crate) fn take_offer(
     stations: &mut [Station],
     limits: &Option<Limits>,
