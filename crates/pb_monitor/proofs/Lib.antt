@@ -13,3 +13,4 @@ pub mod Forgotten
 pub mod Appending
 pub mod HexDigits
 pub mod Times
+pub mod Hearing

@@ -14,3 +14,4 @@ pub mod Times
 pub mod TelegramWords
 pub mod BurstTexts
 pub mod SummaryTexts
+pub mod Hearing

@@ -1,6 +1,7 @@
 //! Captures of octets without boundaries, and files of packets.
 
 ghost use Rattle.std.specs.Prelude.{◌≡◌, ◌<◌, ◌≤◌, ◌++◌, [], length, max, IfOk, OnOk};
+ghost use Rattle.pb_monitor.specs.Hearing.{cut_line_if, has_lines};
 ghost use Rattle.pb_monitor.specs.Times.{nearest_bits};
 ghost use Rattle.pb_monitor.specs.BurstTexts.{cut_text};
 ghost use Rattle.pb_telegram.specs.Grammar.{spelling};
@@ -104,12 +105,32 @@ impl Monitor {
     }
 
     /// Tells how many octets were skipped in a row.
+    #[inline(always)]
     fn tell_skipped(&mut self, text: &mut Vec<u8>) -> Result<(), AllocError>
-        ensures { self.new.cutter ≡ self.old.cutter }
+        ensures none { self.old.skipped ≡ 0 → text.new.items ≡ text.old.items }
+        ensures rest { self.new ≡ record self.old {
+          skipped = self.new.skipped;
+          judge = self.new.judge;
+          order = self.new.order;
+          statistics = self.new.statistics;
+        } }
     {
         if self.skipped == 0 {
             return Ok(());
         }
+        self.push_skipped(text)
+    }
+
+    /// The same, where some were.
+    #[inline(never)]
+    fn push_skipped(&mut self, text: &mut Vec<u8>) -> Result<(), AllocError>
+        ensures { self.new ≡ record self.old {
+          skipped = self.new.skipped;
+          judge = self.new.judge;
+          order = self.new.order;
+          statistics = self.new.statistics;
+        } }
+    {
         push_refused(text, b"offset", self.place.saturating_sub(self.skipped))?;
         push_number(text, self.skipped)?;
         text.extend_from_slice(b" octets skipped; no telegram begins at them\n")?;
@@ -126,21 +147,31 @@ impl Monitor {
         text: &mut Vec<u8>,
     ) -> Result<(), AllocError>
         requires { IfOk burst.now.telegram (λ t. octets.now ≡ spelling t) }
-        ensures { self.new.cutter ≡ self.old.cutter }
+        ensures cutter { self.new.cutter ≡ self.old.cutter }
+        ensures text { self.old.skipped ≡ 0 → OnOk result (text.new.items ≡ text.old.items
+            ++ cut_line_if (has_lines self.old.options self.old.kept.is_wanted) self.old.place burst.now) }
     {
-        if self.skipped > 0 {
-            self.tell_skipped(text)?;
-        }
+        self.tell_skipped(text)?;
         let offset = self.place;
         self.place = self.place.saturating_add(octets.len() as u64);
         self.statistics.hear_untimed(burst, octets);
-        if self.is_told() {
-            push_cut(text, offset, burst)?;
-        }
+        self.tell_cut(offset, burst, text)?;
         if self.kept.is_wanted() {
             self.keep_cut(octets)?;
         }
         Ok(())
+    }
+
+    /// Appends the line of a telegram at an offset, if bursts have lines.
+    #[inline(always)]
+    fn tell_cut(&self, offset: u64, burst: &Burst, text: &mut Vec<u8>) -> Result<(), AllocError>
+        ensures { OnOk result (text.new.items ≡ text.old.items
+            ++ cut_line_if (has_lines self.now.options self.now.kept.is_wanted) offset burst.now) }
+    {
+        if !self.is_told() {
+            return Ok(());
+        }
+        push_cut(text, offset, burst)
     }
 
     /// Keeps a telegram that is cut off, to hand it on.
@@ -274,13 +305,24 @@ impl Monitor {
     ) -> Result<(), AllocError> {
         self.place = self.place.saturating_add(1);
         let Some(baud) = self.options.baud else {
-            return self.hear_rare_octets(When::Unknown, octets, rooms, text);
+            return self.hear_unknown(octets, rooms, text);
         };
         let begin = match heads.bits(time, baud) {
             Some(bits) if let Some(origin) = self.near_origin => bits.saturating_sub(origin),
             _ => self.moment_of(heads.stamp(time), baud),
         };
         self.hear_octets_from(begin, octets, rooms, text)
+    }
+
+    /// A packet of these octets, of which no moment is known.
+    #[inline(never)]
+    fn hear_unknown(
+        &mut self,
+        octets: &[u8],
+        rooms: &mut Rooms,
+        text: &mut Vec<u8>,
+    ) -> Result<(), AllocError> {
+        self.hear_octets(When::Unknown, octets, rooms, text)
     }
 
     /// When a packet was on the bus, as far as the file says.

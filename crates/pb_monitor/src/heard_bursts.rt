@@ -94,7 +94,9 @@ impl Kept {
     }
 
     /// Whether they are wanted.
-    pub(crate) fn is_wanted(&self) -> bool {
+    pub(crate) fn is_wanted(&self) -> bool
+        ensures { result ≡ self.now.is_wanted }
+    {
         self.is_wanted
     }
 
@@ -144,7 +146,9 @@ impl Kept {
     }
 
     /// The burst ends.
-    pub(crate) fn end(&mut self, known: Known) -> Result<(), AllocError> {
+    pub(crate) fn end(&mut self, known: Known) -> Result<(), AllocError>
+        ensures { self.new.is_wanted ≡ self.old.is_wanted }
+    {
         let Known {
             span,
             count,

@@ -1,9 +1,12 @@
 //! A monitor: from the bytes of a capture to lines of text, as they come.
 
-ghost use Rattle.std.specs.Prelude.{◌≡◌, ◌++◌, IfOk, OnOk};
+ghost use Rattle.std.specs.Prelude.{◌≡◌, ◌++◌, IfOk, IsFalse, IsTrue, None, OnOk, Some};
 ghost use Rattle.pb_telegram.specs.Grammar.{spelling};
 ghost use Rattle.pb_monitor.specs.BurstTexts.{burst_text, untimed_text};
+ghost use Rattle.pb_monitor.specs.Hearing.{has_lines, heard_text, heard_untimed_text, judge_behind, judge_from, line_if, overlapped, raised_as, raised_by, raised_text, untimed_line_if, wrong_by_order, wrong_text};
+ghost use Rattle.pb_monitor.specs.Known.{alarmed, forgotten, refused};
 ghost use Rattle.pb_monitor.specs.Lines.{IsTold};
+ghost use Rattle.pb_monitor.specs.Orders.{last_in};
 
 use crate::alarms::Alarm;
 use crate::buffers::LineBuffer;
@@ -16,7 +19,7 @@ use crate::lines::{
     Characters, LONGEST_TELEGRAM, Line, LineFault, TimedLine, Told, When, push_line_fault,
     read_hex, read_line, timed_line,
 };
-use crate::meanings::{Meaning, meaning_in};
+use crate::meanings::{InitiatorTelegram, Meaning, meaning_in};
 use crate::orders::{Order, Wrong};
 use crate::pcap::Packets;
 use crate::reports::{
@@ -419,7 +422,12 @@ impl Monitor {
 
     /// Something was missed.
     pub(crate) fn begin_anew(&mut self)
-        ensures { self.new.cutter ≡ self.old.cutter }
+        ensures anew { self.new ≡ record self.old {
+          judge = None;
+          order = self.new.order;
+          statistics = forgotten self.old.statistics;
+        } }
+        ensures order { self.new.order.last ≡ None }
     {
         self.judge = None;
         self.order = Order::new();
@@ -428,7 +436,12 @@ impl Monitor {
 
     /// Some input was refused.
     pub(crate) fn refuse(&mut self)
-        ensures { self.new.cutter ≡ self.old.cutter }
+        ensures anew { self.new ≡ record self.old {
+          judge = None;
+          order = self.new.order;
+          statistics = refused (forgotten self.old.statistics);
+        } }
+        ensures order { self.new.order.last ≡ None }
     {
         self.begin_anew();
         self.statistics.refuse();
@@ -445,40 +458,107 @@ impl Monitor {
         text: &mut Vec<u8>,
     ) -> Result<(), AllocError>
         requires { IfOk burst.now.telegram (λ t. octets.now ≡ spelling t) }
+        ensures text { overlapped self.old.statistics.quiet self.old.options.slack burst.now.begin ≡ None
+            → self.old.options.every ≡ None → OnOk result (text.new.items ≡ text.old.items
+            ++ heard_text self.old.params self.old.options self.old.kept.is_wanted burst.now
+            (judge_from self.old.params self.old.options burst.now.begin self.old.judge)) }
+        ensures judge { overlapped self.old.statistics.quiet self.old.options.slack burst.now.begin ≡ None
+            → OnOk result (self.new.judge ≡ judge_behind burst.now
+            (judge_from self.old.params self.old.options burst.now.begin self.old.judge)) }
     {
-        if let Some(quiet) = self.statistics.quiet()
-            && burst.begin.saturating_add(u64::from(self.options.slack)) < quiet
-        {
+        if let Some(quiet) = self.overlapped(burst.begin) {
             self.refuse_order(burst.begin, quiet, text)?;
         }
+        self.hear_next(burst, octets, count, text)
+    }
+
+    /// The end of the last burst, if one that begins at a moment begins before it.
+    #[inline(always)]
+    fn overlapped(&self, begin: u64) -> Option<u64>
+        ensures { result ≡ overlapped self.now.statistics.quiet self.now.options.slack begin }
+    {
+        let quiet = self.statistics.quiet()?;
+        if begin.saturating_add(u64::from(self.options.slack)) < quiet {
+            return Some(quiet);
+        }
+        None
+    }
+
+    /// The next burst with moments, which begins no sooner than the last one ends.
+    #[inline(always)]
+    #[tactic(auto, using(crate::proofs::Hearing::line_alone))]
+    fn hear_next(
+        &mut self,
+        burst: &Burst,
+        octets: &[u8],
+        count: u64,
+        text: &mut Vec<u8>,
+    ) -> Result<(), AllocError>
+        requires { IfOk burst.now.telegram (λ t. octets.now ≡ spelling t) }
+        ensures text { self.old.options.every ≡ None → OnOk result (text.new.items ≡ text.old.items
+            ++ heard_text self.old.params self.old.options self.old.kept.is_wanted burst.now
+            (judge_from self.old.params self.old.options burst.now.begin self.old.judge)) }
+        ensures judge { OnOk result (self.new.judge ≡ judge_behind burst.now
+            (judge_from self.old.params self.old.options burst.now.begin self.old.judge)) }
+        ensures rest { (self.new.params ≡ self.old.params) × (self.new.options ≡ self.old.options) }
+    {
         self.statistics.hear_spelled(burst, octets);
         if self.kept.is_wanted() {
             return self.keep_timed(burst, count, text);
         }
         self.begin_judging(burst.begin);
-        if let Some(judge) = &mut self.judge {
-            let meaning = meaning_in(&burst.telegram);
-            if judge.alarm(burst, meaning).is_some() {
-                return self.hear_wrong(burst, text);
-            }
-            judge.keep(burst, meaning);
+        if self.is_wrong(burst) {
+            return self.hear_wrong(burst, text);
         }
-        if self.is_told() {
-            self.push_burst(burst, text)?;
-        }
+        self.tell_burst(burst, text)?;
         self.summarize(burst.end, text)
+    }
+
+    /// Whether a burst raises an alarm. If not, the judge, if there is one, hears it.
+    #[inline(always)]
+    fn is_wrong(&mut self, burst: &Burst) -> bool
+        ensures wrong { IsTrue result → self.new ≡ self.old }
+        ensures right { IsFalse result → self.new ≡ record self.old { judge = judge_behind burst.now self.old.judge } }
+        ensures none { IsFalse result → raised_by burst.now self.old.judge ≡ None }
+    {
+        let Some(judge) = &mut self.judge else {
+            return false;
+        };
+        let meaning = meaning_in(&burst.telegram);
+        // Only tokens and requests raise alarms; a path for each kind keeps more in registers.
+        match meaning {
+            Meaning::Initiator(telegram) => {
+                let meaning = Meaning::Initiator(telegram);
+                if judge.alarm(burst, meaning).is_some() {
+                    return true;
+                }
+                judge.keep(burst, meaning);
+            }
+            Meaning::Reply => judge.keep(burst, Meaning::Reply),
+            Meaning::NoTelegram => judge.keep(burst, Meaning::NoTelegram),
+        }
+        false
     }
 
     /// A burst that raises an alarm.
     #[inline(never)]
-    fn hear_wrong(&mut self, burst: &Burst, text: &mut Vec<u8>) -> Result<(), AllocError> {
+    #[tactic(auto, using(crate::proofs::Appending::front))]
+    fn hear_wrong(&mut self, burst: &Burst, text: &mut Vec<u8>) -> Result<(), AllocError>
+        ensures text { self.old.options.every ≡ None → OnOk result (text.new.items ≡ text.old.items
+            ++ heard_text self.old.params self.old.options self.old.kept.is_wanted burst.now
+            (judge_from self.old.params self.old.options burst.now.begin self.old.judge)) }
+        ensures rest { self.new ≡ record self.old {
+          judge = judge_behind burst.now
+              (judge_from self.old.params self.old.options burst.now.begin self.old.judge);
+          order = self.new.order;
+          statistics = self.new.statistics;
+          due = self.new.due;
+          apart = self.new.apart;
+        } }
+    {
         let raised = self.judge(burst);
-        if self.is_told() {
-            self.push_burst(burst, text)?;
-        }
-        if let Some(raised) = raised {
-            self.tell_alarm(&raised, burst.begin, text)?;
-        }
+        self.tell_burst(burst, text)?;
+        self.tell_raised(&raised, burst.begin, text)?;
         self.summarize(burst.end, text)
     }
 
@@ -511,18 +591,34 @@ impl Monitor {
         burst: &Burst,
         count: u64,
         text: &mut Vec<u8>,
-    ) -> Result<(), AllocError> {
+    ) -> Result<(), AllocError>
+        ensures text { self.old.options.every ≡ None → OnOk result (text.new.items ≡ text.old.items
+            ++ raised_text self.old.params self.old.options.slack burst.now.begin (raised_by burst.now
+            (judge_from self.old.params self.old.options burst.now.begin self.old.judge))) }
+        ensures rest { self.new ≡ record self.old {
+          judge = judge_behind burst.now
+              (judge_from self.old.params self.old.options burst.now.begin self.old.judge);
+          order = self.new.order;
+          statistics = self.new.statistics;
+          kept = self.new.kept;
+          due = self.new.due;
+          apart = self.new.apart;
+        } }
+    {
         let before = self.named_before(burst.begin);
         let raised = self.judge(burst);
         self.keep(burst, count, before, raised.as_ref())?;
-        if let Some(raised) = raised {
-            self.tell_alarm(&raised, burst.begin, text)?;
-        }
+        self.tell_raised(&raised, burst.begin, text)?;
         self.summarize(burst.end, text)
     }
 
     /// The judge listens since the first burst that it hears, which begins at a moment.
-    fn begin_judging(&mut self, begin: u64) {
+    fn begin_judging(&mut self, begin: u64)
+        ensures { self.new ≡ record self.old {
+          judge = judge_from self.old.params self.old.options begin self.old.judge;
+          order = self.new.order;
+        } }
+    {
         if self.judge.is_none()
             && let Some(params) = &self.params
         {
@@ -534,20 +630,34 @@ impl Monitor {
     }
 
     /// The alarm that a burst raises.
-    fn judge(&mut self, burst: &Burst) -> Option<Raised> {
+    fn judge(&mut self, burst: &Burst) -> Option<Raised>
+        ensures raised { result ≡ raised_by burst.now
+            (judge_from self.old.params self.old.options burst.now.begin self.old.judge) }
+        ensures rest { self.new ≡ record self.old {
+          judge = judge_behind burst.now
+              (judge_from self.old.params self.old.options burst.now.begin self.old.judge);
+          order = self.new.order;
+        } }
+    {
         self.begin_judging(burst.begin);
-        let judge = self.judge.as_mut()?;
-        let meaning = meaning_in(&burst.telegram);
-        let raised = match judge.alarm(burst, meaning) {
-            Some(alarm) => raised(alarm, meaning, judge.state()),
-            None => None,
+        self.judge_next(burst)
+    }
+
+    /// The alarm that a burst raises, if there is a judge.
+    fn judge_next(&mut self, burst: &Burst) -> Option<Raised>
+        ensures raised { result ≡ raised_by burst.now self.old.judge }
+        ensures rest { self.new ≡ record self.old { judge = judge_behind burst.now self.old.judge } }
+    {
+        let Some(judge) = &mut self.judge else {
+            return None;
         };
-        judge.keep(burst, meaning);
-        raised
+        hear_raised(judge, burst)
     }
 
     /// Whether bursts have lines: neither a summary alone is wanted, nor that bursts are handed on.
-    pub(crate) fn is_told(&self) -> bool {
+    pub(crate) fn is_told(&self) -> bool
+        ensures { result ≡ has_lines self.now.options self.now.kept.is_wanted }
+    {
         self.options.summary.is_none() && !self.kept.is_wanted()
     }
 
@@ -567,7 +677,9 @@ impl Monitor {
         count: u64,
         before: Option<Named>,
         raised: Option<&Raised>,
-    ) -> Result<(), AllocError> {
+    ) -> Result<(), AllocError>
+        ensures { self.new ≡ record self.old { kept = self.new.kept } }
+    {
         let holder = match &self.judge {
             Some(judge) => Some(judge.holder(burst.end)),
             None => None,
@@ -598,13 +710,46 @@ impl Monitor {
         text.extend_from_slice(&line)
     }
 
+    /// Appends the line of a burst, if bursts have lines.
+    #[inline(always)]
+    fn tell_burst(&self, burst: &Burst, text: &mut Vec<u8>) -> Result<(), AllocError>
+        ensures { OnOk result (text.new.items ≡ text.old.items
+            ++ line_if (has_lines self.now.options self.now.kept.is_wanted) burst.now self.now.judge) }
+    {
+        if !self.is_told() {
+            return Ok(());
+        }
+        self.push_burst(burst, text)
+    }
+
+    /// Counts an alarm and appends its line, if there is one.
+    fn tell_raised(
+        &mut self,
+        raised: &Option<Raised>,
+        begin: u64,
+        text: &mut Vec<u8>,
+    ) -> Result<(), AllocError>
+        ensures text { OnOk result (text.new.items ≡ text.old.items
+            ++ raised_text self.old.params self.old.options.slack begin raised.now) }
+        ensures rest { self.new ≡ record self.old { statistics = self.new.statistics } }
+    {
+        match raised {
+            Some(raised) => self.tell_alarm(raised, begin, text),
+            None => Ok(()),
+        }
+    }
+
     /// Counts an alarm and appends its line.
     fn tell_alarm(
         &mut self,
         raised: &Raised,
         begin: u64,
         text: &mut Vec<u8>,
-    ) -> Result<(), AllocError> {
+    ) -> Result<(), AllocError>
+        ensures text { OnOk result (text.new.items ≡ text.old.items
+            ++ raised_text self.old.params self.old.options.slack begin (Some raised.now)) }
+        ensures rest { self.new ≡ record self.old { statistics = alarmed self.old.statistics } }
+    {
         self.statistics.raise();
         match &self.params {
             Some(params) => push_alarm(text, params, self.options.slack, raised, begin),
@@ -614,7 +759,10 @@ impl Monitor {
 
     /// Appends a summary if one is due.
     #[inline(always)]
-    fn summarize(&mut self, moment: u64, text: &mut Vec<u8>) -> Result<(), AllocError> {
+    fn summarize(&mut self, moment: u64, text: &mut Vec<u8>) -> Result<(), AllocError>
+        ensures none { self.old.options.every ≡ None → text.new.items ≡ text.old.items }
+        ensures rest { self.new ≡ record self.old { due = self.new.due; apart = self.new.apart } }
+    {
         match self.options.every {
             Some(every) => self.summarize_every(every, moment, text),
             None => Ok(()),
@@ -628,7 +776,9 @@ impl Monitor {
         every: u64,
         moment: u64,
         text: &mut Vec<u8>,
-    ) -> Result<(), AllocError> {
+    ) -> Result<(), AllocError>
+        ensures { self.new ≡ record self.old { due = self.new.due; apart = self.new.apart } }
+    {
         let due = self.due.unwrap_or(moment.saturating_add(every));
         self.due = Some(due);
         if moment < due {
@@ -639,7 +789,9 @@ impl Monitor {
     }
 
     /// Appends a summary in the form that is asked for.
-    fn push_summary(&mut self, text: &mut Vec<u8>) -> Result<(), AllocError> {
+    fn push_summary(&mut self, text: &mut Vec<u8>) -> Result<(), AllocError>
+        ensures { self.new ≡ record self.old { apart = self.new.apart } }
+    {
         let Options { form, classes, .. } = self.options;
         let has_moments = self.statistics.traffic().has_moments();
         let unjudged = why_unjudged(self.params.is_some(), form, classes, has_moments);
@@ -652,6 +804,7 @@ impl Monitor {
 
     /// A burst without moments: it is judged by the order of telegrams alone. These are the octets of its telegram, if it
     /// has one.
+    #[tactic(auto, using(crate::proofs::Appending::front))]
     fn hear_untimed(
         &mut self,
         burst: &Burst,
@@ -660,26 +813,48 @@ impl Monitor {
         text: &mut Vec<u8>,
     ) -> Result<(), AllocError>
         requires { IfOk burst.now.telegram (λ t. octets.now ≡ spelling t) }
+        ensures { OnOk result (text.new.items ≡ text.old.items ++ heard_untimed_text self.old.params
+            self.old.options self.old.kept.is_wanted burst.now self.old.order.last) }
     {
         self.judge = None;
         let meaning = meaning_in(&burst.telegram);
         self.statistics.hear_untimed(burst, octets);
-        if self.is_told() {
-            push_untimed(burst, text)?;
-        }
+        self.tell_untimed(burst, text)?;
         let last = self.order.last();
-        let raised = self.judge_order(meaning);
+        let wrong = self.judge_order(meaning);
         if self.kept.is_wanted() {
-            let known = Known {
+            self.kept.end(Known {
                 span: None,
                 count,
                 before: None,
                 holder: None,
-                alarm: raised.map(|wrong| wrong.alarm),
-            };
-            self.kept.end(known)?;
+                alarm: wrong.map(|wrong| wrong.alarm),
+            })?;
         }
-        match raised {
+        self.tell_wrong(wrong, last, text)
+    }
+
+    /// Appends the line of a burst without moments, if bursts have lines.
+    fn tell_untimed(&self, burst: &Burst, text: &mut Vec<u8>) -> Result<(), AllocError>
+        ensures { OnOk result (text.new.items ≡ text.old.items
+            ++ untimed_line_if (has_lines self.now.options self.now.kept.is_wanted) burst.now) }
+    {
+        if !self.is_told() {
+            return Ok(());
+        }
+        push_untimed(burst, text)
+    }
+
+    /// Counts an alarm of a burst without moments and appends its line, if there is one.
+    fn tell_wrong(
+        &mut self,
+        wrong: Option<Wrong>,
+        last: Option<InitiatorTelegram>,
+        text: &mut Vec<u8>,
+    ) -> Result<(), AllocError>
+        ensures { OnOk result (text.new.items ≡ text.old.items ++ wrong_text last wrong) }
+    {
+        match wrong {
             Some(Wrong { alarm, source }) => {
                 self.statistics.raise();
                 push_untimed_alarm(text, alarm, last, source)
@@ -689,7 +864,11 @@ impl Monitor {
     }
 
     /// The alarm that a telegram without moments raises.
-    fn judge_order(&mut self, meaning: Meaning) -> Option<Wrong> {
+    fn judge_order(&mut self, meaning: Meaning) -> Option<Wrong>
+        ensures wrong { result ≡ wrong_by_order self.old.params self.old.options self.old.order.last meaning }
+        ensures last { self.new.order.last ≡ last_in self.old.order.last meaning }
+        ensures rest { self.new ≡ record self.old { order = self.new.order } }
+    {
         let raised = self.order.hear(meaning);
         if self.params.is_none() || !self.options.classes.legality {
             return None;
@@ -737,9 +916,25 @@ fn tell(
     Ok(Told::Refused)
 }
 
+/// Has a judge hear a burst. Returns the alarm that it raises.
+fn hear_raised(judge: &mut Judge, burst: &Burst) -> Option<Raised>
+    ensures raised { result ≡ raised_by burst.now (Some judge.old) }
+    ensures heard { Some judge.new ≡ judge_behind burst.now (Some judge.old) }
+{
+    let meaning = meaning_in(&burst.telegram);
+    let raised = match judge.alarm(burst, meaning) {
+        Some(alarm) => raised(alarm, meaning, judge.state()),
+        None => None,
+    };
+    judge.keep(burst, meaning);
+    raised
+}
+
 /// An alarm of a token or a request, with what was known before it.
 #[inline(never)]
-fn raised(alarm: Alarm, meaning: Meaning, before: State) -> Option<Raised> {
+fn raised(alarm: Alarm, meaning: Meaning, before: State) -> Option<Raised>
+    ensures { result ≡ raised_as alarm meaning before }
+{
     match meaning {
         Meaning::Initiator(telegram) => Some(Raised {
             alarm,
