@@ -3,11 +3,11 @@ what the pairs before it made. A line '# body: NAME' names the function whose bo
 '# breaks: NAME' one that it must leave unproved by changing something else.
 
 They stand in a crate's folder: in must-fail/ and misuse/ a file each, in gate.edits and more.edits many in one file (txtar.py).
-One of more.edits that changes a definition may name no function: then any may lose its proof.
 
     tools/edits.py apply EDIT CRATE     writes the edited files into the crate's folder
     tools/edits.py stale CRATE..        names each edit that can't be applied, that changes nothing, whose line '# body:' isn't true, that
-                                        names a function which the prover doesn't know, or that has other lines; and homes without edits
+                                        names no function, or one which the prover doesn't know, or that has other lines; and homes without
+                                        edits
 """
 
 import dataclasses
@@ -147,7 +147,7 @@ def faults(edit, crate):
         yield from (f"{edit.label}: it has the line: {line}" for line in edit.others)
         if not any(it.text or it.end > it.start for it in changed.values()):
             yield f"{edit.label}: it changes nothing"
-        if not edit.target and "/more.edits: " not in edit.label:
+        if not edit.target:
             yield f"{edit.label}: it names no function"
         name = edit.body.split("::")[-1]
         if name and not all(is_in_body(it, name, (crate / file).read_text()) for file, it in changed.items()):

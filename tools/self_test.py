@@ -94,6 +94,7 @@ CASES = {
     "a clause with an argument missing": (Kind.UNREADABLE, "breaks: least", "src/lib.rt", "result ≡ least_of one other third", "result ≡ least_of one other"),
     "a function that isn't there": (Kind.MISLABELLED, "breaks: largest", "src/lib.rt", SMALLER, "    if one < other { other } else { one }"),
     "the body of another function": (Kind.MISLABELLED, "body: least", "src/lib.rt", SMALLER, "    if one < other { other } else { one }"),
+    "no function at all": (Kind.MISLABELLED, "wants: an open goal", "src/lib.rt", SMALLER, "    if one < other { other } else { one }"),
     "a text that isn't there": (Kind.UNAPPLIED, "body: least", "src/lib.rt", "    larger(one, other)", LEAST),
 }
 # What is tried in one check: these, and then alone what isn't settled; and each of the others by itself.

@@ -112,7 +112,7 @@ class Trials:
             crate = pathlib.Path(room) / name
             shutil.copytree(self.repository.folder(name), crate, ignore=shutil.ignore_patterns("out"))
             edits.apply(together, crate)
-            only = [word for it in together if it.target for word in ("--only", f"{name}::{it.target}")]
+            only = [word for it in together for word in ("--only", f"{name}::{it.target}")]
             for _ in range(PATIENCE):
                 lines, taken = output(["nice", "-n", BACK, *self.repository.check(name), *only], crate, self.longest)
                 self.seconds[name] += taken

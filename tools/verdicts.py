@@ -46,8 +46,6 @@ def verdict(crate, function, others, by_hand, lines):
     functions were edited too."""
     if not any(line.startswith(("only=", "logic=")) for line in lines):
         return unchecked(crate, function, lines)
-    if not function:
-        return of_any(crate, lines)
     head = f"fn {crate}::{function}: "
     said = next((line.removeprefix(head) for line in lines if line.startswith(head)), None)
     if said is None:
@@ -70,17 +68,6 @@ def of_rt(edit, folder, words):
 def is_by_hand(function, folder):
     """Whether answers of a function's goals stand in a crate's folder."""
     return (folder / "proofs" / function.replace("::", "/")).is_dir()
-
-
-def of_any(crate, lines):
-    """Of an edit that names no function, the verdict on one that tells most; on a lemma that none needs, where all are proved."""
-    lined = [it for it in (re.match(rf"fn {crate}::(\S+): (.*)", line) for line in lines) if it]
-    told = [(kind_of(it[1], [], False, it[2], lines), f"{it[1]}: {it[2]}") for it in lined]
-    for kind in (Kind.REFUSED, Kind.MISFIT, Kind.UNREADABLE, Kind.BORROW, Kind.UNTOLD, Kind.CALLEE):
-        if words := next((words for other, words in told if other is kind), None):
-            return kind, words
-    wrong = next(filter(ERROR.match, lines), None)
-    return (Kind.MISFIT, wrong) if wrong else (Kind.PROVED, "")
 
 
 def unchecked(crate, function, lines):
