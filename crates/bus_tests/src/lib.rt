@@ -1,4 +1,4 @@
-//! Tests of one bus, its audit, scenario files and their bounds.
+//! Tests of one bus, its audit, scenario files, their bounds and streams.
 #![tactic(auto)]
 
 #[cfg(test)]

@@ -1,8 +1,9 @@
-//! Tests of scenario files: how they are read, each fault, and their runs.
+//! Tests of scenario files: how they are read, each fault, their runs and streams.
 
 mod bounds;
 mod edges;
 mod reviews;
+mod streams;
 mod two_masters;
 mod walks;
 

@@ -82,7 +82,8 @@ fn play_instant<S: Stage>(
     Ok(next)
 }
 
-/// Plays the events that some steps trigger before or after the turns.
+/// Plays the events that some steps trigger before or after the turns. Always inlined: most instants have no steps.
+#[inline(always)]
 fn play_steps<S: Stage>(
     alloc: Global,
     stage: &mut S,
@@ -100,6 +101,7 @@ fn play_steps<S: Stage>(
 }
 
 /// Plays the event that a step triggers then, if it does.
+#[inline(never)]
 fn play_deed<S: Stage>(
     alloc: Global,
     stage: &mut S,

@@ -9,6 +9,3 @@ mod streams;
 
 pub use audits::AuditStream;
 pub use streams::{Progress, STREAM_END, Stream};
-
-#[cfg(test)]
-mod tests;

@@ -43,7 +43,8 @@ pub(crate) fn play_instant<S: Stage>(
     Ok(next)
 }
 
-/// Plays the events that some deeds trigger before or after the turns.
+/// Plays the events that some deeds trigger before or after the turns. Always inlined: most instants have no steps.
+#[inline(always)]
 fn play_deeds<S: Stage>(
     alloc: Global,
     stage: &mut S,
@@ -63,6 +64,7 @@ fn play_deeds<S: Stage>(
 }
 
 /// Plays the event that a deed triggers then, if it does.
+#[inline(never)]
 fn play_deed<S: Stage>(
     alloc: Global,
     stage: &mut S,

@@ -12,7 +12,7 @@ ghost use Rattle.pb_world.specs.Watched.{FindsIn, GoesOnBy, IsOfNew, IsWatched, 
 
 use crate::buses::Bus;
 use crate::findings::Audit;
-use crate::premises::{Premise, Waited, first_waiting};
+use crate::premises::{Breach, Premise, Waited, first_waiting};
 use crate::watched::Watched;
 use pb_taps::{Event, Tap, WorldFault};
 use pb_timers::Moment;
@@ -98,9 +98,8 @@ impl Inquiry {
             × Refuses (world_in self.old.watched) (event_of event.now)
             (step (world_in self.old.watched) (event_of event.now)) fault) }
     {
-        let before = self.watched.watch.waited;
         self.watched.follow(alloc, event)?;
-        self.note_cause(event, before);
+        self.note_cause(event);
         Ok(())
     }
 
@@ -119,23 +118,21 @@ impl Inquiry {
             × Refuses (world_in self.old.watched) (event_of event.now)
             (step (world_in self.old.watched) (event_of event.now)) fault) }
     {
-        let before = self.watched.watch.waited;
         self.watched.follow_in_time(alloc, event)?;
-        self.note_cause(event, before);
+        self.note_cause(event);
         Ok(())
     }
 
-    /// Keeps why the first premise broke, after the event that broke it, by the tap that had been the last to wait out its
-    /// time-out before that event.
+    /// Keeps why the first premise broke, after the event that broke it.
     #[inline(always)]
-    fn note_cause(&mut self, event: &Event, before: Option<Waited>)
+    fn note_cause(&mut self, event: &Event)
         requires { IsWatched self.old.watched }
         ensures { self.new.watched ≡ self.old.watched }
     {
         if self.cause.is_none()
             && let Some(breach) = self.watched.watch.first_broken()
         {
-            self.cause = cause_of(&self.watched, breach.premise, event, before);
+            self.cause = cause_of(&self.watched, breach, event);
         }
     }
 
@@ -161,18 +158,13 @@ impl Inquiry {
     }
 }
 
-/// Why an event broke a premise, after it, by the tap that had been the last to wait out its time-out before it; none
-/// where that isn't seen. It is a call of its own since it happens once in a run.
+/// Why an event broke a premise, after it; none where that isn't seen. It is a call of its own since it happens once in a
+/// run.
 #[inline(never)]
-fn cause_of(
-    watched: &Watched,
-    premise: Premise,
-    event: &Event,
-    before: Option<Waited>,
-) -> Option<Cause>
+fn cause_of(watched: &Watched, breach: Breach, event: &Event) -> Option<Cause>
     requires { IsWatched watched.now }
 {
-    match (premise, event) {
+    match (breach.premise, event) {
         (Premise::OwnAddresses, _) => namesakes(&watched.bus.taps),
         (Premise::NothingLost, Event::Unheard { tap, speaker }) => Some(Cause::NothingLost {
             tap: *tap,
@@ -180,7 +172,7 @@ fn cause_of(
         }),
         (Premise::NothingLost, _) => None,
         (Premise::TurnsInTime, _) => first_late(&watched.bus),
-        (Premise::OneWaits, _) => meeting(watched, before),
+        (Premise::OneWaits, _) => meeting(watched, breach.last),
     }
 }
 

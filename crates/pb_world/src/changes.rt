@@ -45,7 +45,9 @@ impl Bus {
     }
 }
 
-/// The next moment at which something changes where one entry alone is recent, as at most instants.
+/// The next moment at which something changes where one entry alone is recent, as at most instants. Kept out of line: it
+/// needs fewer registers than the rest.
+#[inline(never)]
 fn change_of(only: &Entry, delay: u32, taps: &[Tap], now: Moment) -> Option<Moment>
     requires clock { now ≤ clock_limit }
     requires begun { entry_begin (entry_of only.now) ≤ now }

@@ -1,6 +1,6 @@
 //! The premises of a run: watches its events until the first premise breaks.
 
-ghost use Rattle.std.specs.Prelude.{◌≡◌, ◌+◌, ◌-◌, ◌<◌, ◌≤◌, ◌&&◌, false, nat_le, IfErr, IfSome, List, None, OnErr, OnOk, Ok, length, map};
+ghost use Rattle.std.specs.Prelude.{◌≡◌, ◌+◌, ◌-◌, ◌<◌, ◌≤◌, ◌&&◌, false, nat_le, IsTrue, IfErr, IfSome, List, None, OnErr, OnOk, Ok, length, map};
 ghost use Rattle.std.specs.List.{list_any};
 ghost use Rattle.std.specs.Option.{option_map};
 ghost use Rattle.law_model.specs.Behind.{IsPast};
@@ -17,6 +17,7 @@ ghost use Rattle.pb_taps.specs.Events.{event_of};
 ghost use Rattle.pb_taps.specs.Faults.{Refuses};
 ghost use Rattle.pb_world.specs.Premises.{waited_of, number_of, broken_of, watched_of, waiting_of, met_by, last_by, Foresees, IsFirstWaiting, IsLedFrom, IsOldest, IsQuiet, HaveHeard, Knows, Listens, GoesOn, KnowsOf, time_in};
 ghost use Rattle.pb_taps.specs.Taps.{tap_of};
+ghost use Rattle.pb_world.specs.declared.premises.Waiting.TheVariants.{Nobody};
 
 use crate::activity::is_active;
 use crate::buses::Bus;
@@ -40,11 +41,14 @@ pub(crate) enum Premise {
     OneWaits,
 }
 
-/// A premise that broke, and the clock after the event that broke it.
+/// A premise that broke.
 #[derive(Clone, Copy, Debug)]
 pub(crate) struct Breach {
     pub premise: Premise,
+    /// The clock after the event that broke it.
     pub clock: Moment,
+    /// The tap that was the last to wait out its time-out before that event.
+    pub last: Option<Waited>,
 }
 
 /// A tap that had waited out its time-out, and when.
@@ -92,9 +96,9 @@ impl Watch {
     ghost use Rattle.std.specs.Prelude.{◌≡◌, List, None, false, length, replicate};
     ghost use Rattle.std.specs.Option.{option_map};
     ghost use Rattle.law_model.specs.Trace.{Entry};
-    ghost use Rattle.law_runs.specs.Premises.{has_namesakes};
+    ghost use Rattle.law_runs.specs.Premises.{broken_or, first_number, has_namesakes};
     ghost use Rattle.pb_world.specs.Buses.{world_of, world_with, IsKept};
-    ghost use Rattle.pb_world.specs.Premises.{watched_of, broken_of, IsAfter, IsOldest, IsQuiet};
+    ghost use Rattle.pb_world.specs.Premises.{watched_of, broken_of, last_by, met_by, waited_of, IsAfter, IsOldest, IsQuiet};
 
     /// The watch before the first event of a run.
     pub(crate) fn new() -> Watch
@@ -119,7 +123,8 @@ impl Watch {
         self.broken
     }
 
-    /// Updates the watch after an event, by what was known before it.
+    /// Updates the watch after an event, by what was known before it. Most events change nothing here.
+    #[inline(always)]
     fn note(&mut self, bus: &Bus, foresight: Foresight)
         requires kept { IsKept bus.now }
         requires oldest { IsOldest self.old.oldest (length bus.now.taps.items) self.old.quiet }
@@ -131,10 +136,27 @@ impl Watch {
             → IsAfter self.old foresight (world_with old bus.entry.now) self.new }
     {
         let waiting = waiting_now(bus, &self.quiet, self.oldest);
+        if is_nobody(waiting) && !self.namesakes && !foresight.loses && !foresight.late {
+            return;
+        }
+        self.note_change(bus, foresight, waiting);
+    }
+
+    /// The same after an event that may break a premise or after which taps have waited out their time-outs.
+    #[inline(never)]
+    fn note_change(&mut self, bus: &Bus, foresight: Foresight, waiting: Waiting)
+        ensures waited { option_map waited_of self.new.waited
+            ≡ last_by bus.entry.now.now waiting (option_map waited_of self.old.waited) }
+        ensures broken { option_map broken_of self.new.broken
+            ≡ broken_or (option_map broken_of self.old.broken) bus.entry.now.now
+            (first_number self.old.namesakes foresight.loses foresight.late
+            (met_by bus.entry.now.params.ttd bus.entry.now.now waiting (option_map waited_of self.old.waited))) }
+        ensures rest { self.new ≡ record self.old { waited = self.new.waited; broken = self.new.broken } }
+    {
         let met = is_met(bus.params.ttd(), waiting, bus.now, self.waited);
         let premise = first_premise(self.namesakes, foresight, met);
+        note_breach(&mut self.broken, premise, bus.now, self.waited);
         note_waiting(&mut self.waited, waiting, bus.now);
-        note_breach(&mut self.broken, premise, bus.now);
     }
 }
 
@@ -163,6 +185,14 @@ pub(crate) fn follow(
     ensures stays { OnErr result (time_in (event_of event.now) ≡ None → watch.new ≡ watch.old) }
     ensures found { OnErr result (watched_of watch.new ≡ watched_of watch.old) }
 {
+    // In a turn nothing is lost or comes late: this copy of what follows is short.
+    if let Event::Turn(_) = event {
+        let foresight = Foresight {
+            loses: false,
+            late: false,
+        };
+        return follow_foreseen(watch, alloc, bus, event, foresight);
+    }
     let foresight = foresee(bus, event);
     follow_foreseen(watch, alloc, bus, event, foresight)
 }
@@ -201,6 +231,7 @@ pub(crate) fn follow_in_time(
 }
 
 /// The same by what is known of the event before it.
+#[inline(always)]
 fn follow_foreseen(
     watch: &mut Watch,
     alloc: Global,
@@ -421,6 +452,7 @@ pub(crate) fn first_waiting(bus: &Bus, quiet: &[u64; TAP_LIMIT], from: usize) ->
 
 /// The taps that have waited out their time-outs. There are none if no tap has been in silence for the shortest
 /// time-out.
+#[inline(always)]
 fn waiting_now(bus: &Bus, quiet: &[u64; TAP_LIMIT], oldest: u64) -> Waiting
     requires kept { IsKept bus.now }
     requires oldest { IsOldest oldest (length bus.now.taps.items) quiet.now }
@@ -434,6 +466,7 @@ fn waiting_now(bus: &Bus, quiet: &[u64; TAP_LIMIT], oldest: u64) -> Waiting
 }
 
 /// The taps that have waited out their time-outs, by testing each.
+#[inline(never)]
 fn waiting_taps(bus: &Bus, quiet: &[u64; TAP_LIMIT]) -> Waiting
     requires { IsKept bus.now }
     ensures { (old : List Entry) → IsQuiet (world_with old bus.entry.now) quiet.now
@@ -446,6 +479,16 @@ fn waiting_taps(bus: &Bus, quiet: &[u64; TAP_LIMIT]) -> Waiting
         return Waiting::Several(tap);
     }
     Waiting::One(tap)
+}
+
+/// Whether no tap has waited out its time-out.
+fn is_nobody(waiting: Waiting) -> bool
+    ensures { IsTrue result → waiting ≡ Nobody }
+{
+    match waiting {
+        Waiting::Nobody => true,
+        Waiting::One(_) | Waiting::Several(_) => false,
+    }
 }
 
 /// Whether another tap was the last to wait out its time-out, at most a cable delay ago.
@@ -500,8 +543,13 @@ fn first_premise(namesakes: bool, foresight: Foresight, met: bool) -> Option<Pre
     None
 }
 
-/// Stores the premise that breaks now, unless one broke before.
-fn note_breach(first: &mut Option<Breach>, premise: Option<Premise>, clock: Moment)
+/// Stores the premise that breaks now, unless one broke before, and the tap that was the last to wait out its time-out.
+fn note_breach(
+    first: &mut Option<Breach>,
+    premise: Option<Premise>,
+    clock: Moment,
+    last: Option<Waited>,
+)
     ensures { option_map broken_of first.new
         ≡ premises.broken_or (option_map broken_of first.old) clock (option_map number_of premise) }
 {
@@ -509,6 +557,10 @@ fn note_breach(first: &mut Option<Breach>, premise: Option<Premise>, clock: Mome
         return;
     };
     if first.is_none() {
-        *first = Some(Breach { premise, clock });
+        *first = Some(Breach {
+            premise,
+            clock,
+            last,
+        });
     }
 }

@@ -1,5 +1,5 @@
 use Rattle.pb_stream.specs.Streams.{IsStreaming}
-use Rattle.pb_stream.proofs.tests.most_kept.Given as goal
+use Rattle.bus_tests.proofs.scenarios.streams.streamed.Given as goal
 
 abbrev pub invariant-loop-instant : goal.invariant-loop-instant
 invariant-loop-instant g l = IsStreaming l.stream

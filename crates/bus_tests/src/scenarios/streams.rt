@@ -3,8 +3,9 @@
 ghost use Rattle.std.specs.Prelude.{◌≤◌};
 ghost use Rattle.pb_stream.specs.Streams.{stream_end};
 
-use crate::{Progress, STREAM_END, Stream};
-use pb_scenario::{Scenario, StreamScenario, WorldFault, events_of, read, read_stream, trace_text};
+use pb_scenario::{Scenario, StreamScenario, events_of, read, read_stream, trace_text};
+use pb_stream::{Progress, STREAM_END, Stream};
+use pb_taps::WorldFault;
 use pb_world::{World, run};
 use std::alloc::{AllocGlobal, Global};
 use std::process::Abort;
@@ -89,7 +90,7 @@ fn most_kept(rt: &impl Abort, alloc: Global, scenario: &StreamScenario, block: u
     let mut most = 0;
     for _instant in 0..MANY {
         match stream.advance(alloc, &mut text, block).expect(rt, "memory") {
-            Progress::Goes => most = most.max(stream.bus.trace.entries().len()),
+            Progress::Goes => most = most.max(stream.entries().len()),
             _ => return most,
         }
     }
