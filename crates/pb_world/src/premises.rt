@@ -185,13 +185,9 @@ pub(crate) fn follow(
     ensures stays { OnErr result (time_in (event_of event.now) ≡ None → watch.new ≡ watch.old) }
     ensures found { OnErr result (watched_of watch.new ≡ watched_of watch.old) }
 {
-    // In a turn nothing is lost or comes late: this copy of what follows is short.
+    // No turn comes late in a turn: what follows is a copy without most of its tests.
     if let Event::Turn(_) = event {
-        let foresight = Foresight {
-            loses: false,
-            late: false,
-        };
-        return follow_foreseen(watch, alloc, bus, event, foresight);
+        return follow_in_time(watch, alloc, bus, event);
     }
     let foresight = foresee(bus, event);
     follow_foreseen(watch, alloc, bus, event, foresight)
