@@ -10,6 +10,7 @@ pub mod Examples
 pub mod Promises
 pub mod Known
 pub mod Lines
+pub mod Repeats
 pub mod Times
 pub mod TelegramWords
 pub mod BurstTexts
