@@ -179,7 +179,7 @@ fn judged_taking(params: &BusParams, slack: u32, last: &LastHeard, begin: u64) -
 {
     let tid1 = u64::from(params.tid1());
     let latest = tid1 + u64::from(params.lag()) + 2 * u64::from(params.ttd()) + u64::from(slack);
-    if is_sooner(last.end, latest, begin, 0) {
+    if latest < begin.saturating_sub(last.end) {
         return Some(Alarm::TookLate);
     }
     if is_sooner(begin, u64::from(slack), last.end, tid1) {

@@ -129,7 +129,8 @@ pub(crate) fn is_past_live(params: &BusParams, slack: u32, from: u64, to: u64) -
     ensures { result ≡ nat_lt (from + judge.live params.now slack) to }
 {
     // Most silences are no longer than a slot.
-    is_sooner(from, u64::from(params.tsl()), to, 0) && is_sooner(from, live(params, slack), to, 0)
+    let silence = to.saturating_sub(from);
+    u64::from(params.tsl()) < silence && live(params, slack) < silence
 }
 
 /// The longest silence that a token in use leaves at a listener, in bit times.
