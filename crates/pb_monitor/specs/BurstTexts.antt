@@ -12,6 +12,8 @@ use Rattle.pb_monitor.specs.TelegramWords.{words_of}
 use Rattle.pb_monitor.specs.declared.alarms.Alarm.{Alarm}
 use Rattle.pb_monitor.specs.declared.alarms.Alarm.TheVariants.{SpokeWithoutToken, SpokeOutOfTurn, PassedAgainTooEarly, PassedAgainThoughHeard, TookAfterSlot, ClaimedTooEarly, SpokeAfterLoss, ClaimedTooEarlyAfterLoss, TookLate, TookTooSoon}
 use Rattle.pb_monitor.specs.declared.bursts.Burst.{Burst}
+use Rattle.pb_monitor.specs.declared.formats.Form.{Form}
+use Rattle.pb_monitor.specs.declared.formats.Form.TheVariants.{Lines, Pcap, Raw}
 use Rattle.pb_monitor.specs.declared.holders.Holder.{Holder}
 use Rattle.pb_monitor.specs.declared.holders.Holder.TheVariants.{One, OfferedTo, Nobody, Unknown}
 use Rattle.pb_monitor.specs.declared.meanings.InitiatorTelegram.{InitiatorTelegram}
@@ -134,3 +136,21 @@ order_text (Some t) = had_text t.source t.offered
 -- the begin of its line
 abbrev pub refused_text : (what : List ℕ) → (place : ℕ) → List ℕ
 refused_text what place = codes "refused " ++ what ++ codes " " ++ decimal place ++ codes ": "
+
+-- in what the places of a capture are counted
+abbrev pub unit_of : Form → List ℕ
+unit_of Lines = codes "line"
+unit_of Raw = codes "offset"
+unit_of Pcap = codes "packet"
+
+-- where moments are made of a file's times: whether the bits a second are right
+abbrev pub baud_text : Form → List ℕ
+baud_text Lines = []
+baud_text Raw = []
+baud_text Pcap = codes " (is --baud that of the bus?)"
+
+-- a burst that begins before the last one ends
+abbrev pub order_refused_text : Form → (place begin quiet : ℕ) → List ℕ
+order_refused_text form place begin quiet =
+    refused_text (unit_of form) place ++ codes "the burst begins at " ++ decimal begin
+    ++ codes ", before the last one ends at " ++ decimal quiet ++ codes "; wanted: bursts in order" ++ baud_text form ++ codes "\n"

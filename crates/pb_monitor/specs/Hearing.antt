@@ -1,13 +1,14 @@
 -- What a monitor appends for a burst.
 use Rattle.std.specs.Prelude.{ℕ, ◌+◌, Bool, ◌&&◌, not, is_some, nat_lt, if◌then◌else◌, List, [], ◌++◌, codes, Option, Some, None}
 use Rattle.pb_timers.specs.Timers.{Params}
-use Rattle.pb_monitor.specs.BurstTexts.{alarm_head, burst_text, cut_text, order_text, untimed_text, why_text}
+use Rattle.pb_monitor.specs.BurstTexts.{alarm_head, burst_text, cut_text, order_refused_text, order_text, untimed_text, why_text}
 use Rattle.pb_monitor.specs.Judge.{alarm_by, behind_by, listening}
 use Rattle.pb_monitor.specs.Judging.{Judging}
 use Rattle.pb_monitor.specs.Meanings.{arrival_in, meaning_of}
 use Rattle.pb_monitor.specs.Orders.{wrong_in}
 use Rattle.pb_monitor.specs.declared.alarms.Alarm.{Alarm}
 use Rattle.pb_monitor.specs.declared.bursts.Burst.{Burst}
+use Rattle.pb_monitor.specs.declared.formats.Form.{Form}
 use Rattle.pb_monitor.specs.declared.formats.Options.{Options}
 use Rattle.pb_monitor.specs.declared.meanings.InitiatorTelegram.{InitiatorTelegram}
 use Rattle.pb_monitor.specs.declared.meanings.Meaning.{Meaning}
@@ -74,6 +75,25 @@ heard_text p o handed_on b judge =
 abbrev pub overlapped : (quiet : Option ℕ) → (slack begin : ℕ) → Option ℕ
 overlapped None slack begin = None
 overlapped (Some quiet) slack begin = if nat_lt (begin + slack) quiet then Some quiet else None
+
+-- the line of a burst that does
+abbrev pub overlap_text : Form → (place begin : ℕ) → (over : Option ℕ) → List ℕ
+overlap_text form place begin None = []
+overlap_text form place begin (Some quiet) = order_refused_text form place begin quiet
+
+-- no judge goes on behind it
+abbrev pub judge_unless : (over : Option ℕ) → Option Judging → Option Judging
+judge_unless None judge = judge
+judge_unless (Some quiet) judge = None
+
+-- the judge of any burst with moments
+abbrev pub judge_for : Option Params → Options → (quiet : Option ℕ) → (begin : ℕ) → Option Judging → Option Judging
+judge_for p o quiet begin judge = judge_from p o begin (judge_unless (overlapped quiet o.slack begin) judge)
+
+-- Any burst with moments: first its line, if it overlaps the last one. Then it is heard as the first of all.
+abbrev pub timed_text : Option Params → Options → (handed_on : Bool) → (place : ℕ) → (quiet : Option ℕ) → Burst → Option Judging → List ℕ
+timed_text p o handed_on place quiet b judge =
+    overlap_text o.form place b.begin (overlapped quiet o.slack b.begin) ++ heard_text p o handed_on b (judge_for p o quiet b.begin judge)
 
 -- ---- a burst without moments
 

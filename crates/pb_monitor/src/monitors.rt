@@ -2,8 +2,8 @@
 
 ghost use Rattle.std.specs.Prelude.{◌≡◌, ◌++◌, IfOk, IsFalse, IsTrue, None, OnOk, Some};
 ghost use Rattle.pb_telegram.specs.Grammar.{spelling};
-ghost use Rattle.pb_monitor.specs.BurstTexts.{burst_text, untimed_text};
-ghost use Rattle.pb_monitor.specs.Hearing.{has_lines, heard_text, heard_untimed_text, judge_behind, judge_from, line_if, overlapped, raised_as, raised_by, raised_text, untimed_line_if, wrong_by_order, wrong_text};
+ghost use Rattle.pb_monitor.specs.BurstTexts.{baud_text, burst_text, order_refused_text, refused_text, unit_of, untimed_text};
+ghost use Rattle.pb_monitor.specs.Hearing.{has_lines, heard_text, heard_untimed_text, judge_behind, judge_for, judge_from, line_if, overlapped, raised_as, raised_by, raised_text, timed_text, untimed_line_if, wrong_by_order, wrong_text};
 ghost use Rattle.pb_monitor.specs.Known.{alarmed, forgotten, refused};
 ghost use Rattle.pb_monitor.specs.Lines.{IsTold};
 ghost use Rattle.pb_monitor.specs.Orders.{last_in};
@@ -28,7 +28,7 @@ use crate::reports::{
 use crate::states::State;
 use crate::statistics::Statistics;
 use crate::summaries::push_summary;
-use crate::texts::{push_number, put, put_number};
+use crate::texts::{push_counted, put, put_number};
 use arrayvec::ArrayVec;
 use bstr::ByteSlice;
 use pb_telegram::{Receiver, read_octets};
@@ -450,6 +450,7 @@ impl Monitor {
     /// A burst with moments, of so many characters. These are the octets of its telegram, if it has one. One that begins
     /// before the end of the last one is told, and heard as the first of all.
     #[inline(always)]
+    #[tactic(auto, using(crate::proofs::Appending::front))]
     fn hear_timed(
         &mut self,
         burst: &Burst,
@@ -458,13 +459,11 @@ impl Monitor {
         text: &mut Vec<u8>,
     ) -> Result<(), AllocError>
         requires { IfOk burst.now.telegram (λ t. octets.now ≡ spelling t) }
-        ensures text { overlapped self.old.statistics.quiet self.old.options.slack burst.now.begin ≡ None
-            → self.old.options.every ≡ None → OnOk result (text.new.items ≡ text.old.items
-            ++ heard_text self.old.params self.old.options self.old.kept.is_wanted burst.now
-            (judge_from self.old.params self.old.options burst.now.begin self.old.judge)) }
-        ensures judge { overlapped self.old.statistics.quiet self.old.options.slack burst.now.begin ≡ None
-            → OnOk result (self.new.judge ≡ judge_behind burst.now
-            (judge_from self.old.params self.old.options burst.now.begin self.old.judge)) }
+        ensures text { self.old.options.every ≡ None → OnOk result (text.new.items ≡ text.old.items
+            ++ timed_text self.old.params self.old.options self.old.kept.is_wanted self.old.place
+            self.old.statistics.quiet burst.now self.old.judge) }
+        ensures judge { OnOk result (self.new.judge ≡ judge_behind burst.now
+            (judge_for self.old.params self.old.options self.old.statistics.quiet burst.now.begin self.old.judge)) }
     {
         if let Some(quiet) = self.overlapped(burst.begin) {
             self.refuse_order(burst.begin, quiet, text)?;
@@ -564,24 +563,32 @@ impl Monitor {
 
     /// A burst that begins before the end of the last one.
     #[inline(never)]
-    fn refuse_order(
-        &mut self,
-        begin: u64,
-        quiet: u64,
-        text: &mut Vec<u8>,
-    ) -> Result<(), AllocError> {
-        self.push_place(text)?;
-        text.extend_from_slice(b"the burst begins at ")?;
-        push_number(text, begin)?;
-        text.extend_from_slice(b", before the last one ends at ")?;
-        push_number(text, quiet)?;
-        text.extend_from_slice(b"; wanted: bursts in order")?;
-        if self.options.form == Form::Pcap {
-            text.extend_from_slice(b" (is --baud that of the bus?)")?;
-        }
-        text.extend_from_slice(b"\n")?;
+    fn refuse_order(&mut self, begin: u64, quiet: u64, text: &mut Vec<u8>) -> Result<(), AllocError>
+        ensures text { OnOk result (text.new.items ≡ text.old.items
+            ++ order_refused_text self.old.options.form self.old.place begin quiet) }
+        ensures anew { OnOk result (self.new ≡ record self.old {
+          judge = None;
+          order = self.new.order;
+          statistics = refused (forgotten self.old.statistics);
+        }) }
+        ensures order { OnOk result (self.new.order.last ≡ None) }
+    {
+        self.push_order(begin, quiet, text)?;
         self.refuse();
         Ok(())
+    }
+
+    /// Appends the line of a burst that begins before the end of the last one.
+    fn push_order(&self, begin: u64, quiet: u64, text: &mut Vec<u8>) -> Result<(), AllocError>
+        ensures { OnOk result (text.new.items ≡ text.old.items
+            ++ order_refused_text self.now.options.form self.now.place begin quiet) }
+    {
+        self.push_place(text)?;
+        push_counted(text, b"the burst begins at ", begin)?;
+        push_counted(text, b", before the last one ends at ", quiet)?;
+        text.extend_from_slice(b"; wanted: bursts in order")?;
+        text.extend_from_slice(baud_question(self.options.form).as_bytes())?;
+        text.extend_from_slice(b"\n")
     }
 
     /// Judges a burst with moments that is handed on.
@@ -877,7 +884,10 @@ impl Monitor {
     }
 
     /// Appends the begin of a line for input that is refused.
-    pub(crate) fn push_place(&self, text: &mut Vec<u8>) -> Result<(), AllocError> {
+    pub(crate) fn push_place(&self, text: &mut Vec<u8>) -> Result<(), AllocError>
+        ensures { OnOk result (text.new.items ≡ text.old.items
+            ++ refused_text (unit_of self.now.options.form) self.now.place) }
+    {
         match self.options.form {
             Form::Lines => push_refused(text, b"line", self.place),
             Form::Raw => push_refused(text, b"offset", self.place),
@@ -942,6 +952,16 @@ fn raised(alarm: Alarm, meaning: Meaning, before: State) -> Option<Raised>
             before,
         }),
         Meaning::Reply | Meaning::NoTelegram => None,
+    }
+}
+
+/// Asks whether the bits a second are right, where moments are made of a file's times.
+fn baud_question(form: Form) -> &'static str
+    ensures { result.now ≡ baud_text form }
+{
+    match form {
+        Form::Lines | Form::Raw => "",
+        Form::Pcap => " (is --baud that of the bus?)",
     }
 }
 
