@@ -154,3 +154,8 @@ abbrev pub order_refused_text : Form → (place begin quiet : ℕ) → List ℕ
 order_refused_text form place begin quiet =
     refused_text (unit_of form) place ++ codes "the burst begins at " ++ decimal begin
     ++ codes ", before the last one ends at " ++ decimal quiet ++ codes "; wanted: bursts in order" ++ baud_text form ++ codes "\n"
+
+-- octets in a row at which no telegram begins
+abbrev pub skipped_text : (offset count : ℕ) → List ℕ
+skipped_text offset count =
+    refused_text (codes "offset") offset ++ decimal count ++ codes " octets skipped; no telegram begins at them\n"

@@ -1,9 +1,10 @@
 -- What a monitor appends for a burst.
-use Rattle.std.specs.Prelude.{ℕ, ◌+◌, Bool, ◌&&◌, not, is_some, nat_lt, if◌then◌else◌, List, [], ◌++◌, codes, Option, Some, None}
+use Rattle.std.specs.Prelude.{ℕ, ◌+◌, ◌-◌, ◌==◌, Bool, ◌&&◌, not, is_some, nat_lt, if◌then◌else◌, List, [], ◌++◌, codes, Option, Some, None}
 use Rattle.pb_timers.specs.Timers.{Params}
-use Rattle.pb_monitor.specs.BurstTexts.{alarm_head, burst_text, cut_text, order_refused_text, order_text, untimed_text, why_text}
+use Rattle.pb_monitor.specs.BurstTexts.{alarm_head, burst_text, cut_text, order_refused_text, order_text, skipped_text, untimed_text, why_text}
 use Rattle.pb_monitor.specs.Judge.{alarm_by, behind_by, listening}
 use Rattle.pb_monitor.specs.Judging.{Judging}
+use Rattle.pb_monitor.specs.Known.{Known, forgotten, refused}
 use Rattle.pb_monitor.specs.Meanings.{arrival_in, meaning_of}
 use Rattle.pb_monitor.specs.Orders.{wrong_in}
 use Rattle.pb_monitor.specs.declared.alarms.Alarm.{Alarm}
@@ -116,6 +117,18 @@ heard_untimed_text p o handed_on b last =
 
 -- ---- raw octets
 
--- a telegram that is cut off at an offset
+-- the line of octets that were skipped before an offset, if some were
+abbrev pub skips_text : (offset skipped : ℕ) → List ℕ
+skips_text offset skipped = if skipped == 0 then [] else skipped_text (offset - skipped) skipped
+
+-- what is known behind them
+abbrev pub known_past : (skipped : ℕ) → Known → Known
+known_past skipped k = if skipped == 0 then k else refused (forgotten k)
+
+-- the line of a telegram that is cut off at an offset
 abbrev pub cut_line_if : (has_line : Bool) → (offset : ℕ) → Burst → List ℕ
 cut_line_if has_line offset b = if has_line then cut_text offset b else []
+
+-- such a telegram, behind octets that were skipped
+abbrev pub cut_off_text : Options → (handed_on : Bool) → (offset skipped : ℕ) → Burst → List ℕ
+cut_off_text o handed_on offset skipped b = skips_text offset skipped ++ cut_line_if (has_lines o handed_on) offset b

@@ -1,9 +1,10 @@
 //! Captures of octets without boundaries, and files of packets.
 
-ghost use Rattle.std.specs.Prelude.{◌≡◌, ◌<◌, ◌≤◌, ◌++◌, [], length, max, IfOk, OnOk};
-ghost use Rattle.pb_monitor.specs.Hearing.{cut_line_if, has_lines};
+ghost use Rattle.std.specs.Prelude.{◌≡◌, ◌-◌, ◌<◌, ◌≤◌, ◌++◌, [], length, max, IfOk, None, OnOk};
+ghost use Rattle.pb_monitor.specs.Hearing.{cut_line_if, cut_off_text, has_lines, known_past, skips_text};
+ghost use Rattle.pb_monitor.specs.Known.{forgotten, heard_untimed, refused};
 ghost use Rattle.pb_monitor.specs.Times.{nearest_bits};
-ghost use Rattle.pb_monitor.specs.BurstTexts.{cut_text};
+ghost use Rattle.pb_monitor.specs.BurstTexts.{cut_text, skipped_text};
 ghost use Rattle.pb_telegram.specs.Grammar.{spelling};
 
 use crate::bursts::{Burst, Rooms, octets_of};
@@ -108,6 +109,10 @@ impl Monitor {
     #[inline(always)]
     fn tell_skipped(&mut self, text: &mut Vec<u8>) -> Result<(), AllocError>
         ensures none { self.old.skipped ≡ 0 → text.new.items ≡ text.old.items }
+        ensures text { OnOk result (text.new.items ≡ text.old.items
+            ++ skips_text self.old.place self.old.skipped) }
+        ensures statistics { OnOk result (self.new.statistics
+            ≡ known_past self.old.skipped self.old.statistics) }
         ensures rest { self.new ≡ record self.old {
           skipped = self.new.skipped;
           judge = self.new.judge;
@@ -118,22 +123,28 @@ impl Monitor {
         if self.skipped == 0 {
             return Ok(());
         }
-        self.push_skipped(text)
+        self.refuse_skipped(text)
     }
 
     /// The same, where some were.
     #[inline(never)]
-    fn push_skipped(&mut self, text: &mut Vec<u8>) -> Result<(), AllocError>
-        ensures { self.new ≡ record self.old {
+    fn refuse_skipped(&mut self, text: &mut Vec<u8>) -> Result<(), AllocError>
+        ensures text { OnOk result (text.new.items ≡ text.old.items
+            ++ skipped_text (self.old.place - self.old.skipped) self.old.skipped) }
+        ensures anew { OnOk result (self.new ≡ record self.old {
+          skipped = 0;
+          judge = None;
+          order = self.new.order;
+          statistics = refused (forgotten self.old.statistics);
+        }) }
+        ensures rest { self.new ≡ record self.old {
           skipped = self.new.skipped;
           judge = self.new.judge;
           order = self.new.order;
           statistics = self.new.statistics;
         } }
     {
-        push_refused(text, b"offset", self.place.saturating_sub(self.skipped))?;
-        push_number(text, self.skipped)?;
-        text.extend_from_slice(b" octets skipped; no telegram begins at them\n")?;
+        push_skipped(text, self.place.saturating_sub(self.skipped), self.skipped)?;
         self.skipped = 0;
         self.refuse();
         Ok(())
@@ -148,8 +159,10 @@ impl Monitor {
     ) -> Result<(), AllocError>
         requires { IfOk burst.now.telegram (λ t. octets.now ≡ spelling t) }
         ensures cutter { self.new.cutter ≡ self.old.cutter }
-        ensures text { self.old.skipped ≡ 0 → OnOk result (text.new.items ≡ text.old.items
-            ++ cut_line_if (has_lines self.old.options self.old.kept.is_wanted) self.old.place burst.now) }
+        ensures text { OnOk result (text.new.items ≡ text.old.items ++ cut_off_text self.old.options
+            self.old.kept.is_wanted self.old.place self.old.skipped burst.now) }
+        ensures statistics { OnOk result (self.new.statistics
+            ≡ heard_untimed burst.now (known_past self.old.skipped self.old.statistics)) }
     {
         self.tell_skipped(text)?;
         let offset = self.place;
@@ -177,7 +190,7 @@ impl Monitor {
     /// Keeps a telegram that is cut off, to hand it on.
     #[inline(never)]
     fn keep_cut(&mut self, octets: &[u8]) -> Result<(), AllocError>
-        ensures { self.new.cutter ≡ self.old.cutter }
+        ensures { self.new ≡ record self.old { kept = self.new.kept } }
     {
         self.kept.note_octets(octets);
         self.kept.end(Known {
@@ -369,6 +382,15 @@ fn bits_of(stamp: Stamp, baud: u32) -> u128
     let per_second = u128::from(stamp.per_second.max(1));
     let ticks = u128::from(stamp.ticks) * u128::from(baud);
     (ticks + per_second / 2) / per_second
+}
+
+/// Appends the line of octets that were skipped, so many from an offset on.
+fn push_skipped(text: &mut Vec<u8>, offset: u64, count: u64) -> Result<(), AllocError>
+    ensures { OnOk result (text.new.items ≡ text.old.items ++ skipped_text offset count) }
+{
+    push_refused(text, b"offset", offset)?;
+    push_number(text, count)?;
+    text.extend_from_slice(b" octets skipped; no telegram begins at them\n")
 }
 
 /// Appends the line of a telegram at an offset.
