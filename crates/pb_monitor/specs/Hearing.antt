@@ -4,7 +4,7 @@ use Rattle.pb_timers.specs.Timers.{Params}
 use Rattle.pb_monitor.specs.BurstTexts.{alarm_head, burst_text, cut_text, order_refused_text, order_text, skipped_text, untimed_text, why_text}
 use Rattle.pb_monitor.specs.Judge.{alarm_by, behind_by, listening}
 use Rattle.pb_monitor.specs.Judging.{Judging}
-use Rattle.pb_monitor.specs.Known.{Known, forgotten, refused}
+use Rattle.pb_monitor.specs.Known.{Known, alarmed_if, forgotten, heard, heard_untimed, refused}
 use Rattle.pb_monitor.specs.Meanings.{arrival_in, meaning_of}
 use Rattle.pb_monitor.specs.Orders.{wrong_in}
 use Rattle.pb_monitor.specs.declared.alarms.Alarm.{Alarm}
@@ -72,6 +72,10 @@ abbrev pub heard_text : Option Params → Options → (handed_on : Bool) → Bur
 heard_text p o handed_on b judge =
     line_if (has_lines o handed_on) b (judge_behind b judge) ++ raised_text p o.slack b.begin (raised_by b judge)
 
+-- what is known behind it
+abbrev pub known_behind : Burst → Option Judging → Known → Known
+known_behind b judge k = alarmed_if (is_some (raised_by b judge)) (heard b k)
+
 -- the end of the last burst, if one that begins at a moment begins before it
 abbrev pub overlapped : (quiet : Option ℕ) → (slack begin : ℕ) → Option ℕ
 overlapped None slack begin = None
@@ -82,10 +86,14 @@ abbrev pub overlap_text : Form → (place begin : ℕ) → (over : Option ℕ) �
 overlap_text form place begin None = []
 overlap_text form place begin (Some quiet) = order_refused_text form place begin quiet
 
--- no judge goes on behind it
+-- no judge goes on behind it, and nothing is known from before it
 abbrev pub judge_unless : (over : Option ℕ) → Option Judging → Option Judging
 judge_unless None judge = judge
 judge_unless (Some quiet) judge = None
+
+abbrev pub known_unless : (over : Option ℕ) → Known → Known
+known_unless None k = k
+known_unless (Some quiet) k = refused (forgotten k)
 
 -- the judge of any burst with moments
 abbrev pub judge_for : Option Params → Options → (quiet : Option ℕ) → (begin : ℕ) → Option Judging → Option Judging
@@ -95,6 +103,10 @@ judge_for p o quiet begin judge = judge_from p o begin (judge_unless (overlapped
 abbrev pub timed_text : Option Params → Options → (handed_on : Bool) → (place : ℕ) → (quiet : Option ℕ) → Burst → Option Judging → List ℕ
 timed_text p o handed_on place quiet b judge =
     overlap_text o.form place b.begin (overlapped quiet o.slack b.begin) ++ heard_text p o handed_on b (judge_for p o quiet b.begin judge)
+
+-- what is known behind it
+abbrev pub known_timed : Option Params → Options → Burst → Option Judging → Known → Known
+known_timed p o b judge k = known_behind b (judge_for p o k.quiet b.begin judge) (known_unless (overlapped k.quiet o.slack b.begin) k)
 
 -- ---- a burst without moments
 
@@ -114,6 +126,11 @@ abbrev pub heard_untimed_text : Option Params → Options → (handed_on : Bool)
 heard_untimed_text p o handed_on b last =
     untimed_line_if (has_lines o handed_on) b
     ++ wrong_text last (wrong_by_order p o last (meaning_of (arrival_in b.telegram)))
+
+-- what is known behind it
+abbrev pub known_untimed : Option Params → Options → Burst → (last : Option InitiatorTelegram) → Known → Known
+known_untimed p o b last k =
+    alarmed_if (is_some (wrong_by_order p o last (meaning_of (arrival_in b.telegram)))) (heard_untimed b k)
 
 -- ---- raw octets
 

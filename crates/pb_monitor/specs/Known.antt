@@ -478,5 +478,8 @@ heard_untimed b k =
 abbrev pub alarmed : Known → Known
 alarmed k = record k { traffic = record k.traffic { alarms = one_more k.traffic.alarms } }
 
+abbrev pub alarmed_if : (raised : Bool) → Known → Known
+alarmed_if raised k = if raised then alarmed k else k
+
 abbrev pub refused : Known → Known
 refused k = forgotten (record k { traffic = record k.traffic { refused = one_more k.traffic.refused } })

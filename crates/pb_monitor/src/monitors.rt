@@ -1,11 +1,12 @@
 //! A monitor: from the bytes of a capture to lines of text, as they come.
 
-ghost use Rattle.std.specs.Prelude.{◌≡◌, ◌++◌, IfOk, IsFalse, IsTrue, None, OnOk, Some};
+ghost use Rattle.std.specs.Prelude.{◌≡◌, ◌++◌, IfOk, IsFalse, IsTrue, None, OnOk, Some, is_some};
 ghost use Rattle.pb_telegram.specs.Grammar.{spelling};
 ghost use Rattle.pb_monitor.specs.BurstTexts.{baud_text, burst_text, order_refused_text, refused_text, unit_of, untimed_text};
-ghost use Rattle.pb_monitor.specs.Hearing.{has_lines, heard_text, heard_untimed_text, judge_behind, judge_for, judge_from, line_if, overlapped, raised_as, raised_by, raised_text, timed_text, untimed_line_if, wrong_by_order, wrong_text};
-ghost use Rattle.pb_monitor.specs.Known.{alarmed, forgotten, refused};
+ghost use Rattle.pb_monitor.specs.Hearing.{has_lines, heard_text, heard_untimed_text, judge_behind, judge_for, judge_from, known_behind, known_timed, known_untimed, line_if, overlapped, raised_as, raised_by, raised_text, timed_text, untimed_line_if, wrong_by_order, wrong_text};
+ghost use Rattle.pb_monitor.specs.Known.{alarmed, alarmed_if, forgotten, refused};
 ghost use Rattle.pb_monitor.specs.Lines.{IsTold};
+ghost use Rattle.pb_monitor.specs.Meanings.{arrival_in, meaning_of};
 ghost use Rattle.pb_monitor.specs.Orders.{last_in};
 
 use crate::alarms::Alarm;
@@ -464,6 +465,8 @@ impl Monitor {
             self.old.statistics.quiet burst.now self.old.judge) }
         ensures judge { OnOk result (self.new.judge ≡ judge_behind burst.now
             (judge_for self.old.params self.old.options self.old.statistics.quiet burst.now.begin self.old.judge)) }
+        ensures statistics { OnOk result (self.new.statistics
+            ≡ known_timed self.old.params self.old.options burst.now self.old.judge self.old.statistics) }
     {
         if let Some(quiet) = self.overlapped(burst.begin) {
             self.refuse_order(burst.begin, quiet, text)?;
@@ -485,7 +488,7 @@ impl Monitor {
 
     /// The next burst with moments, which begins no sooner than the last one ends.
     #[inline(always)]
-    #[tactic(auto, using(crate::proofs::Hearing::line_alone))]
+    #[tactic(auto, using(crate::proofs::Hearing::line_alone, crate::proofs::Hearing::known_alone))]
     fn hear_next(
         &mut self,
         burst: &Burst,
@@ -499,6 +502,9 @@ impl Monitor {
             (judge_from self.old.params self.old.options burst.now.begin self.old.judge)) }
         ensures judge { OnOk result (self.new.judge ≡ judge_behind burst.now
             (judge_from self.old.params self.old.options burst.now.begin self.old.judge)) }
+        ensures statistics { OnOk result (self.new.statistics ≡ known_behind burst.now
+            (judge_from self.old.params self.old.options burst.now.begin self.old.judge)
+            self.old.statistics) }
         ensures rest { (self.new.params ≡ self.old.params) × (self.new.options ≡ self.old.options) }
     {
         self.statistics.hear_spelled(burst, octets);
@@ -546,6 +552,9 @@ impl Monitor {
         ensures text { self.old.options.every ≡ None → OnOk result (text.new.items ≡ text.old.items
             ++ heard_text self.old.params self.old.options self.old.kept.is_wanted burst.now
             (judge_from self.old.params self.old.options burst.now.begin self.old.judge)) }
+        ensures statistics { OnOk result (self.new.statistics ≡ alarmed_if (is_some (raised_by burst.now
+            (judge_from self.old.params self.old.options burst.now.begin self.old.judge)))
+            self.old.statistics) }
         ensures rest { self.new ≡ record self.old {
           judge = judge_behind burst.now
               (judge_from self.old.params self.old.options burst.now.begin self.old.judge);
@@ -555,9 +564,9 @@ impl Monitor {
           apart = self.new.apart;
         } }
     {
-        let raised = self.judge(burst);
+        let wrong = self.judge(burst);
         self.tell_burst(burst, text)?;
-        self.tell_raised(&raised, burst.begin, text)?;
+        self.tell_raised(&wrong, burst.begin, text)?;
         self.summarize(burst.end, text)
     }
 
@@ -602,6 +611,9 @@ impl Monitor {
         ensures text { self.old.options.every ≡ None → OnOk result (text.new.items ≡ text.old.items
             ++ raised_text self.old.params self.old.options.slack burst.now.begin (raised_by burst.now
             (judge_from self.old.params self.old.options burst.now.begin self.old.judge))) }
+        ensures statistics { OnOk result (self.new.statistics ≡ alarmed_if (is_some (raised_by burst.now
+            (judge_from self.old.params self.old.options burst.now.begin self.old.judge)))
+            self.old.statistics) }
         ensures rest { self.new ≡ record self.old {
           judge = judge_behind burst.now
               (judge_from self.old.params self.old.options burst.now.begin self.old.judge);
@@ -738,7 +750,9 @@ impl Monitor {
     ) -> Result<(), AllocError>
         ensures text { OnOk result (text.new.items ≡ text.old.items
             ++ raised_text self.old.params self.old.options.slack begin raised.now) }
-        ensures rest { self.new ≡ record self.old { statistics = self.new.statistics } }
+        ensures rest { self.new ≡ record self.old {
+          statistics = alarmed_if (is_some raised.now) self.old.statistics;
+        } }
     {
         match raised {
             Some(raised) => self.tell_alarm(raised, begin, text),
@@ -820,8 +834,13 @@ impl Monitor {
         text: &mut Vec<u8>,
     ) -> Result<(), AllocError>
         requires { IfOk burst.now.telegram (λ t. octets.now ≡ spelling t) }
-        ensures { OnOk result (text.new.items ≡ text.old.items ++ heard_untimed_text self.old.params
+        ensures text { OnOk result (text.new.items ≡ text.old.items ++ heard_untimed_text self.old.params
             self.old.options self.old.kept.is_wanted burst.now self.old.order.last) }
+        ensures judge { self.new.judge ≡ None }
+        ensures last { OnOk result (self.new.order.last
+            ≡ last_in self.old.order.last (meaning_of (arrival_in burst.now.telegram))) }
+        ensures statistics { OnOk result (self.new.statistics ≡ known_untimed self.old.params
+            self.old.options burst.now self.old.order.last self.old.statistics) }
     {
         self.judge = None;
         let meaning = meaning_in(&burst.telegram);
@@ -859,7 +878,10 @@ impl Monitor {
         last: Option<InitiatorTelegram>,
         text: &mut Vec<u8>,
     ) -> Result<(), AllocError>
-        ensures { OnOk result (text.new.items ≡ text.old.items ++ wrong_text last wrong) }
+        ensures text { OnOk result (text.new.items ≡ text.old.items ++ wrong_text last wrong) }
+        ensures rest { self.new ≡ record self.old {
+          statistics = alarmed_if (is_some wrong) self.old.statistics;
+        } }
     {
         match wrong {
             Some(Wrong { alarm, source }) => {
