@@ -14,3 +14,4 @@ pub mod Appending
 pub mod HexDigits
 pub mod Times
 pub mod Hearing
+pub mod Listening

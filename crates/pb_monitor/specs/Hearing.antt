@@ -31,6 +31,12 @@ judge_from None o begin None = None
 judge_from (Some p) o begin None =
     Some (record { params = p; slack = o.slack; classes = o.classes; since = begin; state = listening begin })
 
+-- what is known of the last token or request by order alone: nothing, once a judge listens
+abbrev pub last_from : Option Params → Option Judging → Option InitiatorTelegram → Option InitiatorTelegram
+last_from p (Some j) last = last
+last_from None None last = last
+last_from (Some p) None last = None
+
 -- the judge behind a burst
 abbrev pub judge_behind : Burst → Option Judging → Option Judging
 judge_behind b None = None
@@ -91,6 +97,10 @@ abbrev pub judge_unless : (over : Option ℕ) → Option Judging → Option Judg
 judge_unless None judge = judge
 judge_unless (Some quiet) judge = None
 
+abbrev pub last_unless : (over : Option ℕ) → Option InitiatorTelegram → Option InitiatorTelegram
+last_unless None last = last
+last_unless (Some quiet) last = None
+
 abbrev pub known_unless : (over : Option ℕ) → Known → Known
 known_unless None k = k
 known_unless (Some quiet) k = refused (forgotten k)
@@ -98,6 +108,11 @@ known_unless (Some quiet) k = refused (forgotten k)
 -- the judge of any burst with moments
 abbrev pub judge_for : Option Params → Options → (quiet : Option ℕ) → (begin : ℕ) → Option Judging → Option Judging
 judge_for p o quiet begin judge = judge_from p o begin (judge_unless (overlapped quiet o.slack begin) judge)
+
+-- the same of the last token or request
+abbrev pub last_for : Option Params → Options → (quiet : Option ℕ) → (begin : ℕ) → Option Judging → Option InitiatorTelegram → Option InitiatorTelegram
+last_for p o quiet begin judge last =
+    let over = overlapped quiet o.slack begin in last_from p (judge_unless over judge) (last_unless over last)
 
 -- Any burst with moments: first its line, if it overlaps the last one. Then it is heard as the first of all.
 abbrev pub timed_text : Option Params → Options → (handed_on : Bool) → (place : ℕ) → (quiet : Option ℕ) → Burst → Option Judging → List ℕ

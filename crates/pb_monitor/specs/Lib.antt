@@ -16,3 +16,4 @@ pub mod TelegramWords
 pub mod BurstTexts
 pub mod SummaryTexts
 pub mod Hearing
+pub mod Listening

@@ -2,6 +2,7 @@
 
 ghost use Rattle.std.specs.Prelude.{◌≡◌, ◌≤◌};
 ghost use Rattle.pb_monitor.specs.Holders.{holder_of};
+ghost use Rattle.pb_monitor.specs.Times.{bits_of_characters};
 
 use crate::alarms::Alarm;
 use crate::holders::{Holder, named_holder};
@@ -205,6 +206,8 @@ fn named_until(params: &BusParams, slack: u32, state: State) -> u64 {
 }
 
 /// How long so many characters take, in bit times.
-pub(crate) fn bits(count: u64) -> u64 {
+pub(crate) fn bits(count: u64) -> u64
+    ensures { result ≡ bits_of_characters count }
+{
     CHARACTER_BITS.saturating_mul(count)
 }

@@ -1,11 +1,18 @@
 //! A monitor: from the bytes of a capture to lines of text, as they come.
 
-ghost use Rattle.std.specs.Prelude.{◌≡◌, ◌++◌, IfOk, IsFalse, IsTrue, None, OnOk, Some, is_some};
+ghost use Rattle.std.specs.Prelude.{◌≡◌, List, ◌++◌, IfOk, IsFalse, IsTrue, None, OnOk, Result, Some, is_some, length, map};
 ghost use Rattle.pb_telegram.specs.Grammar.{spelling};
+ghost use Rattle.pb_telegram.specs.Receiving.{StandsFor};
+ghost use Rattle.pb_telegram.specs.declared.chars.RxChar.{RxChar};
+ghost use Rattle.pb_telegram.specs.declared.chars.RxChar.TheVariants.{Good};
+ghost use Rattle.pb_telegram.specs.declared.telegrams.Telegram.{Telegram};
+ghost use Rattle.pb_telegram.specs.declared.faults.TelegramFault.{TelegramFault};
 ghost use Rattle.pb_monitor.specs.BurstTexts.{baud_text, burst_text, order_refused_text, refused_text, unit_of, untimed_text};
-ghost use Rattle.pb_monitor.specs.Hearing.{has_lines, heard_text, heard_untimed_text, judge_behind, judge_for, judge_from, known_behind, known_timed, known_untimed, line_if, overlapped, raised_as, raised_by, raised_text, timed_text, untimed_line_if, wrong_by_order, wrong_text};
-ghost use Rattle.pb_monitor.specs.Known.{alarmed, alarmed_if, forgotten, refused};
+ghost use Rattle.pb_monitor.specs.Hearing.{has_lines, heard_text, heard_untimed_text, judge_behind, judge_for, judge_from, known_behind, known_timed, known_untimed, last_for, last_from, line_if, overlapped, raised_as, raised_by, raised_text, timed_text, untimed_line_if, wrong_by_order, wrong_text};
+ghost use Rattle.pb_monitor.specs.Known.{alarmed, alarmed_if, forgotten, plus, refused};
 ghost use Rattle.pb_monitor.specs.Lines.{IsTold};
+ghost use Rattle.pb_monitor.specs.declared.lines.When.TheVariants.{From};
+ghost use Rattle.pb_monitor.specs.Listening.{IsReadAs, behind, burst_of, heard_of, setting_of, told};
 ghost use Rattle.pb_monitor.specs.Meanings.{arrival_in, meaning_of};
 ghost use Rattle.pb_monitor.specs.Orders.{last_in};
 
@@ -339,7 +346,16 @@ impl Monitor {
         octets: &[u8],
         rooms: &mut Rooms,
         text: &mut Vec<u8>,
-    ) -> Result<(), AllocError> {
+    ) -> Result<(), AllocError>
+        ensures text { (r : Result Telegram TelegramFault) → IsReadAs (map Good octets.now) r
+            → self.old.options.every ≡ None → OnOk result (text.new.items ≡ text.old.items
+            ++ told (setting_of self.old) (heard_of self.old) when (burst_of when (length octets.now) r)) }
+        ensures heard { (r : Result Telegram TelegramFault) → IsReadAs (map Good octets.now) r
+            → OnOk result (heard_of self.new ≡ behind (setting_of self.old) when
+            (burst_of when (length octets.now) r) (heard_of self.old)) }
+        ensures setting { OnOk result (setting_of self.new ≡ setting_of self.old) }
+        ensures lines { OnOk result (self.new.lines ≡ self.old.lines) }
+    {
         self.hear_octets(when, octets, rooms, text)
     }
 
@@ -351,7 +367,16 @@ impl Monitor {
         octets: &[u8],
         rooms: &mut Rooms,
         text: &mut Vec<u8>,
-    ) -> Result<(), AllocError> {
+    ) -> Result<(), AllocError>
+        ensures text { (r : Result Telegram TelegramFault) → IsReadAs (map Good octets.now) r
+            → self.old.options.every ≡ None → OnOk result (text.new.items ≡ text.old.items
+            ++ told (setting_of self.old) (heard_of self.old) when (burst_of when (length octets.now) r)) }
+        ensures heard { (r : Result Telegram TelegramFault) → IsReadAs (map Good octets.now) r
+            → OnOk result (heard_of self.new ≡ behind (setting_of self.old) when
+            (burst_of when (length octets.now) r) (heard_of self.old)) }
+        ensures setting { OnOk result (setting_of self.new ≡ setting_of self.old) }
+        ensures lines { OnOk result (self.new.lines ≡ self.old.lines) }
+    {
         let burst = rooms.room(octets);
         read_octets(octets, &mut self.receiver, &mut burst.telegram);
         self.hear_when(when, burst, octets, octets.len() as u64, text)
@@ -365,7 +390,16 @@ impl Monitor {
         octets: &[u8],
         rooms: &mut Rooms,
         text: &mut Vec<u8>,
-    ) -> Result<(), AllocError> {
+    ) -> Result<(), AllocError>
+        ensures text { (r : Result Telegram TelegramFault) → IsReadAs (map Good octets.now) r
+            → self.old.options.every ≡ None → OnOk result (text.new.items ≡ text.old.items
+            ++ told (setting_of self.old) (heard_of self.old) (From begin) (burst_of (From begin) (length octets.now) r)) }
+        ensures heard { (r : Result Telegram TelegramFault) → IsReadAs (map Good octets.now) r
+            → OnOk result (heard_of self.new ≡ behind (setting_of self.old) (From begin)
+            (burst_of (From begin) (length octets.now) r) (heard_of self.old)) }
+        ensures setting { OnOk result (setting_of self.new ≡ setting_of self.old) }
+        ensures lines { OnOk result (self.new.lines ≡ self.old.lines) }
+    {
         let count = octets.len() as u64;
         let burst = rooms.room(octets);
         burst.begin = begin;
@@ -381,7 +415,18 @@ impl Monitor {
         when: When,
         unfed: u64,
         text: &mut Vec<u8>,
-    ) -> Result<(), AllocError> {
+    ) -> Result<(), AllocError>
+        ensures text { (chars : List RxChar) → StandsFor self.old.receiver chars
+            → (r : Result Telegram TelegramFault) → IsReadAs chars r → self.old.options.every ≡ None
+            → OnOk result (text.new.items ≡ text.old.items ++ told (setting_of self.old)
+            (heard_of self.old) when (burst_of when (plus (length chars) unfed) r)) }
+        ensures heard { (chars : List RxChar) → StandsFor self.old.receiver chars
+            → (r : Result Telegram TelegramFault) → IsReadAs chars r → OnOk result (heard_of self.new
+            ≡ behind (setting_of self.old) when (burst_of when (plus (length chars) unfed) r)
+            (heard_of self.old)) }
+        ensures setting { OnOk result (setting_of self.new ≡ setting_of self.old) }
+        ensures lines { OnOk result (self.new.lines ≡ self.old.lines) }
+    {
         let mut burst = Burst::none();
         burst.telegram = self.receiver.answer();
         let octets = octets_of(&burst.telegram);
@@ -400,6 +445,12 @@ impl Monitor {
         text: &mut Vec<u8>,
     ) -> Result<(), AllocError>
         requires { IfOk burst.old.telegram (λ t. octets.now ≡ spelling t) }
+        ensures text { self.old.options.every ≡ None → OnOk result (text.new.items ≡ text.old.items
+            ++ told (setting_of self.old) (heard_of self.old) when (burst_of when count burst.old.telegram)) }
+        ensures heard { OnOk result (heard_of self.new
+            ≡ behind (setting_of self.old) when (burst_of when count burst.old.telegram) (heard_of self.old)) }
+        ensures setting { OnOk result (setting_of self.new ≡ setting_of self.old) }
+        ensures lines { OnOk result (self.new.lines ≡ self.old.lines) }
     {
         match when {
             When::Within { begin, end } => {
@@ -467,6 +518,17 @@ impl Monitor {
             (judge_for self.old.params self.old.options self.old.statistics.quiet burst.now.begin self.old.judge)) }
         ensures statistics { OnOk result (self.new.statistics
             ≡ known_timed self.old.params self.old.options burst.now self.old.judge self.old.statistics) }
+        ensures last { OnOk result (self.new.order.last ≡ last_for self.old.params self.old.options
+            self.old.statistics.quiet burst.now.begin self.old.judge self.old.order.last) }
+        ensures kept { OnOk result (self.new.kept.is_wanted ≡ self.old.kept.is_wanted) }
+        ensures rest { OnOk result (self.new ≡ record self.old {
+          judge = self.new.judge;
+          order = self.new.order;
+          statistics = self.new.statistics;
+          kept = self.new.kept;
+          due = self.new.due;
+          apart = self.new.apart;
+        }) }
     {
         if let Some(quiet) = self.overlapped(burst.begin) {
             self.refuse_order(burst.begin, quiet, text)?;
@@ -505,7 +567,17 @@ impl Monitor {
         ensures statistics { OnOk result (self.new.statistics ≡ known_behind burst.now
             (judge_from self.old.params self.old.options burst.now.begin self.old.judge)
             self.old.statistics) }
-        ensures rest { (self.new.params ≡ self.old.params) × (self.new.options ≡ self.old.options) }
+        ensures last { self.new.order.last
+            ≡ last_from self.old.params self.old.judge self.old.order.last }
+        ensures kept { OnOk result (self.new.kept.is_wanted ≡ self.old.kept.is_wanted) }
+        ensures rest { self.new ≡ record self.old {
+          judge = self.new.judge;
+          order = self.new.order;
+          statistics = self.new.statistics;
+          kept = self.new.kept;
+          due = self.new.due;
+          apart = self.new.apart;
+        } }
     {
         self.statistics.hear_spelled(burst, octets);
         if self.kept.is_wanted() {
@@ -563,6 +635,8 @@ impl Monitor {
           due = self.new.due;
           apart = self.new.apart;
         } }
+        ensures last { self.new.order.last
+            ≡ last_from self.old.params self.old.judge self.old.order.last }
     {
         let wrong = self.judge(burst);
         self.tell_burst(burst, text)?;
@@ -623,6 +697,9 @@ impl Monitor {
           due = self.new.due;
           apart = self.new.apart;
         } }
+        ensures last { self.new.order.last
+            ≡ last_from self.old.params self.old.judge self.old.order.last }
+        ensures kept { self.new.kept.is_wanted ≡ self.old.kept.is_wanted }
     {
         let before = self.named_before(burst.begin);
         let raised = self.judge(burst);
@@ -633,10 +710,12 @@ impl Monitor {
 
     /// The judge listens since the first burst that it hears, which begins at a moment.
     fn begin_judging(&mut self, begin: u64)
-        ensures { self.new ≡ record self.old {
+        ensures begun { self.new ≡ record self.old {
           judge = judge_from self.old.params self.old.options begin self.old.judge;
           order = self.new.order;
         } }
+        ensures last { self.new.order.last
+            ≡ last_from self.old.params self.old.judge self.old.order.last }
     {
         if self.judge.is_none()
             && let Some(params) = &self.params
@@ -657,6 +736,8 @@ impl Monitor {
               (judge_from self.old.params self.old.options burst.now.begin self.old.judge);
           order = self.new.order;
         } }
+        ensures last { self.new.order.last
+            ≡ last_from self.old.params self.old.judge self.old.order.last }
     {
         self.begin_judging(burst.begin);
         self.judge_next(burst)
@@ -697,7 +778,8 @@ impl Monitor {
         before: Option<Named>,
         raised: Option<&Raised>,
     ) -> Result<(), AllocError>
-        ensures { self.new ≡ record self.old { kept = self.new.kept } }
+        ensures kept { self.new.kept.is_wanted ≡ self.old.kept.is_wanted }
+        ensures rest { self.new ≡ record self.old { kept = self.new.kept } }
     {
         let holder = match &self.judge {
             Some(judge) => Some(judge.holder(burst.end)),
@@ -841,6 +923,13 @@ impl Monitor {
             ≡ last_in self.old.order.last (meaning_of (arrival_in burst.now.telegram))) }
         ensures statistics { OnOk result (self.new.statistics ≡ known_untimed self.old.params
             self.old.options burst.now self.old.order.last self.old.statistics) }
+        ensures kept { self.new.kept.is_wanted ≡ self.old.kept.is_wanted }
+        ensures rest { self.new ≡ record self.old {
+          judge = self.new.judge;
+          order = self.new.order;
+          statistics = self.new.statistics;
+          kept = self.new.kept;
+        } }
     {
         self.judge = None;
         let meaning = meaning_in(&burst.telegram);
