@@ -1,6 +1,6 @@
 //! A monitor: from the bytes of a capture to lines of text, as they come.
 
-ghost use Rattle.std.specs.Prelude.{◌≡◌, List, ◌++◌, IfOk, IsFalse, IsTrue, None, OnOk, Result, Some, is_some, length, map};
+ghost use Rattle.std.specs.Prelude.{◌≡◌, List, ◌++◌, IfOk, IsFalse, IsTrue, None, OnOk, Result, Some, is_some, length, map, take};
 ghost use Rattle.pb_telegram.specs.Grammar.{spelling};
 ghost use Rattle.pb_telegram.specs.Receiving.{StandsFor};
 ghost use Rattle.pb_telegram.specs.declared.chars.RxChar.{RxChar};
@@ -12,7 +12,7 @@ ghost use Rattle.pb_monitor.specs.Hearing.{has_lines, heard_text, heard_untimed_
 ghost use Rattle.pb_monitor.specs.Known.{alarmed, alarmed_if, forgotten, plus, refused};
 ghost use Rattle.pb_monitor.specs.Lines.{IsTold};
 ghost use Rattle.pb_monitor.specs.declared.lines.When.TheVariants.{From};
-ghost use Rattle.pb_monitor.specs.Listening.{IsReadAs, behind, burst_of, heard_of, setting_of, told};
+ghost use Rattle.pb_monitor.specs.Listening.{AreSaid, IsReadAs, behind, behind_line, behind_timed, burst_of, heard_of, line_told, one_line_more, setting_of, told, told_timed};
 ghost use Rattle.pb_monitor.specs.Meanings.{arrival_in, meaning_of};
 ghost use Rattle.pb_monitor.specs.Orders.{last_in};
 
@@ -235,6 +235,16 @@ impl Monitor {
         text: &mut Vec<u8>,
     ) -> Result<(), AllocError>
         requires { line.count ≤ 255 }
+        ensures text { (r : Result Telegram TelegramFault) → IsReadAs (map Good (take line.count room.now)) r
+            → self.old.options.every ≡ None → OnOk result (text.new.items ≡ text.old.items
+            ++ told_timed (setting_of self.old) (one_line_more (heard_of self.old))
+            (record { begin = line.begin; end = line.end; telegram = r })) }
+        ensures heard { (r : Result Telegram TelegramFault) → IsReadAs (map Good (take line.count room.now)) r
+            → OnOk result (heard_of self.new ≡ behind_timed (setting_of self.old)
+            (record { begin = line.begin; end = line.end; telegram = r })
+            (one_line_more (heard_of self.old))) }
+        ensures setting { OnOk result (setting_of self.new ≡ setting_of self.old) }
+        ensures lines { OnOk result (self.new.lines ≡ self.old.lines) }
     {
         self.place = self.place.saturating_add(1);
         let when = When::Within {
@@ -320,6 +330,15 @@ impl Monitor {
         text: &mut Vec<u8>,
     ) -> Result<(), AllocError>
         requires { IsTold told }
+        ensures text { (chars : List RxChar) → AreSaid told room.now self.old.receiver chars
+            → (r : Result Telegram TelegramFault) → IsReadAs chars r → self.old.options.every ≡ None
+            → OnOk result (text.new.items ≡ text.old.items
+            ++ line_told (setting_of self.old) (heard_of self.old) told (length chars) r) }
+        ensures heard { (chars : List RxChar) → AreSaid told room.now self.old.receiver chars
+            → (r : Result Telegram TelegramFault) → IsReadAs chars r → OnOk result (heard_of self.new
+            ≡ behind_line (setting_of self.old) told (length chars) r (heard_of self.old)) }
+        ensures setting { OnOk result (setting_of self.new ≡ setting_of self.old) }
+        ensures lines { OnOk result (self.new.lines ≡ self.old.lines) }
     {
         match told {
             Told::Nothing => Ok(()),
@@ -393,7 +412,8 @@ impl Monitor {
     ) -> Result<(), AllocError>
         ensures text { (r : Result Telegram TelegramFault) → IsReadAs (map Good octets.now) r
             → self.old.options.every ≡ None → OnOk result (text.new.items ≡ text.old.items
-            ++ told (setting_of self.old) (heard_of self.old) (From begin) (burst_of (From begin) (length octets.now) r)) }
+            ++ told (setting_of self.old) (heard_of self.old) (From begin)
+            (burst_of (From begin) (length octets.now) r)) }
         ensures heard { (r : Result Telegram TelegramFault) → IsReadAs (map Good octets.now) r
             → OnOk result (heard_of self.new ≡ behind (setting_of self.old) (From begin)
             (burst_of (From begin) (length octets.now) r) (heard_of self.old)) }
@@ -446,9 +466,10 @@ impl Monitor {
     ) -> Result<(), AllocError>
         requires { IfOk burst.old.telegram (λ t. octets.now ≡ spelling t) }
         ensures text { self.old.options.every ≡ None → OnOk result (text.new.items ≡ text.old.items
-            ++ told (setting_of self.old) (heard_of self.old) when (burst_of when count burst.old.telegram)) }
-        ensures heard { OnOk result (heard_of self.new
-            ≡ behind (setting_of self.old) when (burst_of when count burst.old.telegram) (heard_of self.old)) }
+            ++ told (setting_of self.old) (heard_of self.old) when
+            (burst_of when count burst.old.telegram)) }
+        ensures heard { OnOk result (heard_of self.new ≡ behind (setting_of self.old) when
+            (burst_of when count burst.old.telegram) (heard_of self.old)) }
         ensures setting { OnOk result (setting_of self.new ≡ setting_of self.old) }
         ensures lines { OnOk result (self.new.lines ≡ self.old.lines) }
     {
@@ -515,7 +536,8 @@ impl Monitor {
             ++ timed_text self.old.params self.old.options self.old.kept.is_wanted self.old.place
             self.old.statistics.quiet burst.now self.old.judge) }
         ensures judge { OnOk result (self.new.judge ≡ judge_behind burst.now
-            (judge_for self.old.params self.old.options self.old.statistics.quiet burst.now.begin self.old.judge)) }
+            (judge_for self.old.params self.old.options self.old.statistics.quiet burst.now.begin
+            self.old.judge)) }
         ensures statistics { OnOk result (self.new.statistics
             ≡ known_timed self.old.params self.old.options burst.now self.old.judge self.old.statistics) }
         ensures last { OnOk result (self.new.order.last ≡ last_for self.old.params self.old.options
