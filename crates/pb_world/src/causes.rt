@@ -12,7 +12,7 @@ ghost use Rattle.pb_world.specs.Watched.{FindsIn, GoesOnBy, IsOfNew, IsWatched, 
 
 use crate::buses::Bus;
 use crate::findings::Audit;
-use crate::premises::{Breach, Premise, Waited, first_waiting};
+use crate::premises::{Premise, first_waiting};
 use crate::watched::Watched;
 use pb_taps::{Event, Tap, WorldFault};
 use pb_timers::Moment;
@@ -132,7 +132,7 @@ impl Inquiry {
         if self.cause.is_none()
             && let Some(breach) = self.watched.watch.first_broken()
         {
-            self.cause = cause_of(&self.watched, breach, event);
+            self.cause = cause_of(&self.watched, breach.premise, event);
         }
     }
 
@@ -161,10 +161,10 @@ impl Inquiry {
 /// Why an event broke a premise, after it; none where that isn't seen. It is a call of its own since it happens once in a
 /// run.
 #[inline(never)]
-fn cause_of(watched: &Watched, breach: Breach, event: &Event) -> Option<Cause>
+fn cause_of(watched: &Watched, premise: Premise, event: &Event) -> Option<Cause>
     requires { IsWatched watched.now }
 {
-    match (breach.premise, event) {
+    match (premise, event) {
         (Premise::OwnAddresses, _) => namesakes(&watched.bus.taps),
         (Premise::NothingLost, Event::Unheard { tap, speaker }) => Some(Cause::NothingLost {
             tap: *tap,
@@ -172,7 +172,7 @@ fn cause_of(watched: &Watched, breach: Breach, event: &Event) -> Option<Cause>
         }),
         (Premise::NothingLost, _) => None,
         (Premise::TurnsInTime, _) => first_late(&watched.bus),
-        (Premise::OneWaits, _) => meeting(watched, breach.last),
+        (Premise::OneWaits, _) => meeting(watched),
     }
 }
 
@@ -213,7 +213,7 @@ fn first_with(taps: &[Tap], address: u8, behind: usize) -> Option<usize> {
 }
 
 /// The tap that has waited out its time-out now, and the one that it meets.
-fn meeting(watched: &Watched, last: Option<Waited>) -> Option<Cause>
+fn meeting(watched: &Watched) -> Option<Cause>
     requires { IsWatched watched.now }
 {
     let Watched { bus, watch, .. } = watched;
@@ -225,7 +225,7 @@ fn meeting(watched: &Watched, last: Option<Waited>) -> Option<Cause>
             moment: bus.now,
         });
     }
-    let last = last?;
+    let last = watch.before?;
     Some(Cause::OneWaits {
         tap,
         other: last.tap,

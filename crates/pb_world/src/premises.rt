@@ -41,14 +41,11 @@ pub(crate) enum Premise {
     OneWaits,
 }
 
-/// A premise that broke.
+/// A premise that broke, and the clock after the event that broke it.
 #[derive(Clone, Copy, Debug)]
 pub(crate) struct Breach {
     pub premise: Premise,
-    /// The clock after the event that broke it.
     pub clock: Moment,
-    /// The tap that was the last to wait out its time-out before that event.
-    pub last: Option<Waited>,
 }
 
 /// A tap that had waited out its time-out, and when.
@@ -88,6 +85,8 @@ pub(crate) struct Watch {
     /// The last tap that waited out its time-out, and when. As long as no two have met, this is enough to decide
     /// whether a later one meets any.
     pub(crate) waited: Option<Waited>,
+    /// The one before the event that broke the first premise, once one has.
+    pub(crate) before: Option<Waited>,
     /// The first premise that broke.
     broken: Option<Breach>,
 }
@@ -112,6 +111,7 @@ impl Watch {
             oldest: 0,
             namesakes: false,
             waited: None,
+            before: None,
             broken: None,
         }
     }
@@ -151,12 +151,19 @@ impl Watch {
             ≡ broken_or (option_map broken_of self.old.broken) bus.entry.now.now
             (first_number self.old.namesakes foresight.loses foresight.late
             (met_by bus.entry.now.params.ttd bus.entry.now.now waiting (option_map waited_of self.old.waited))) }
-        ensures rest { self.new ≡ record self.old { waited = self.new.waited; broken = self.new.broken } }
+        ensures rest { self.new ≡ record self.old {
+          waited = self.new.waited;
+          before = self.new.before;
+          broken = self.new.broken;
+        } }
     {
         let met = is_met(bus.params.ttd(), waiting, bus.now, self.waited);
         let premise = first_premise(self.namesakes, foresight, met);
-        note_breach(&mut self.broken, premise, bus.now, self.waited);
+        if self.broken.is_none() {
+            self.before = self.waited;
+        }
         note_waiting(&mut self.waited, waiting, bus.now);
+        note_breach(&mut self.broken, premise, bus.now);
     }
 }
 
@@ -539,13 +546,8 @@ fn first_premise(namesakes: bool, foresight: Foresight, met: bool) -> Option<Pre
     None
 }
 
-/// Stores the premise that breaks now, unless one broke before, and the tap that was the last to wait out its time-out.
-fn note_breach(
-    first: &mut Option<Breach>,
-    premise: Option<Premise>,
-    clock: Moment,
-    last: Option<Waited>,
-)
+/// Stores the premise that breaks now, unless one broke before.
+fn note_breach(first: &mut Option<Breach>, premise: Option<Premise>, clock: Moment)
     ensures { option_map broken_of first.new
         ≡ premises.broken_or (option_map broken_of first.old) clock (option_map number_of premise) }
 {
@@ -553,10 +555,6 @@ fn note_breach(
         return;
     };
     if first.is_none() {
-        *first = Some(Breach {
-            premise,
-            clock,
-            last,
-        });
+        *first = Some(Breach { premise, clock });
     }
 }
