@@ -1,10 +1,15 @@
 -- What a line of a capture says.
-use Rattle.std.specs.Prelude.{◌≡◌, ℕ, ◌≤◌, ◌<◌, Bool, true, false, List, length}
+use Rattle.std.specs.Prelude.{◌≡◌, ℕ, ◌^◌, ◌≤◌, ◌<◌, Bool, true, false, List, length, Option, SomeIff}
+use Rattle.std.specs.Str.Parse.{AllDigits, digits_value}
 use Rattle.pb_monitor.specs.declared.buffers.LineBuffer.{LineBuffer}
 use Rattle.pb_monitor.specs.declared.lines.Characters.{Characters}
 use Rattle.pb_monitor.specs.declared.lines.Characters.TheVariants.{Octets, Fed}
 use Rattle.pb_monitor.specs.declared.lines.Told.{Told}
 use Rattle.pb_monitor.specs.declared.lines.Told.TheVariants.{Nothing, Gap, Refused, Burst}
+
+-- a field is a moment: decimal digits alone, of a number that has 64 bits
+abbrev pub IsMoment : Option ℕ → (field : List ℕ) → Type 0
+IsMoment moment field = SomeIff moment (AllDigits 10 field × (digits_value 10 field < 2 ^ 64)) (digits_value 10 field)
 
 -- there is room for the octets
 abbrev pub IsInRoom : Characters → Type 0

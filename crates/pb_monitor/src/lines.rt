@@ -1,7 +1,7 @@
 //! Reads lines of a capture: `BEGIN END HEX`, `BEGIN HEX` or `HEX`.
 
-ghost use Rattle.std.specs.Prelude.{◌<◌, ◌≤◌, ◌*◌, length, IfSome};
-ghost use Rattle.pb_monitor.specs.Lines.{IsInRoom};
+ghost use Rattle.std.specs.Prelude.{◌≡◌, ◌<◌, ◌≤◌, ◌*◌, length, slice_index, take, IfSome, Some};
+ghost use Rattle.pb_monitor.specs.Lines.{IsInRoom, IsMoment};
 
 use crate::reports::push_refused;
 use crate::texts::{push_number, push_quoted};
@@ -168,7 +168,10 @@ struct Moment {
 /// The moment at the front of some bytes, with a space behind it, if no sum overflows.
 #[inline(always)]
 fn moment_before_space(bytes: &[u8]) -> Option<Moment>
-    ensures { IfSome result (λ moment. moment.digits < length bytes.now) }
+    ensures within { IfSome result (λ moment. moment.digits < length bytes.now) }
+    ensures some { IfSome result (λ moment. 0 < moment.digits) }
+    ensures moment { IfSome result (λ moment. IsMoment (Some moment.bits) (take moment.digits bytes.now)) }
+    ensures space { IfSome result (λ moment. slice_index bytes.now moment.digits ≡ 32) }
 {
     let mut bits: u64 = 0;
     for place in 0..bytes.len() {
@@ -309,7 +312,9 @@ fn octets_in(hex: &[u8], room: &mut [u8; LONGEST_TELEGRAM]) -> Option<usize>
 }
 
 /// The number that a field spells in decimal digits.
-fn moment_in(field: &[u8]) -> Option<u64> {
+fn moment_in(field: &[u8]) -> Option<u64>
+    ensures { IsMoment result field.now }
+{
     let mut bits: u64 = 0;
     for byte in field {
         let digit = byte.wrapping_sub(b'0');
