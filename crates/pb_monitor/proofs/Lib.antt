@@ -15,3 +15,4 @@ pub mod HexDigits
 pub mod Times
 pub mod Hearing
 pub mod Listening
+pub mod Characters

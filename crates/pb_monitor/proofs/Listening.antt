@@ -1,5 +1,5 @@
 -- Characters are read in one way.
-use Rattle.std.proofs.Common.{◌≡◌, ℕ, List, map, ap, Some, None, Result, Ok, Err}
+use Rattle.std.proofs.Common.{◌≡◌, ℕ, List, map, ap, Some, Result, Ok, Err}
 use Rattle.std.specs.Prelude.{IfOk, IfErr}
 use Rattle.pb_telegram.specs.Faults.{fault_of}
 use Rattle.pb_telegram.specs.Grammar.{spelling, Spells}

@@ -1,7 +1,11 @@
 //! Reads lines of a capture: `BEGIN END HEX`, `BEGIN HEX` or `HEX`.
 
-ghost use Rattle.std.specs.Prelude.{◌≡◌, ◌<◌, ◌≤◌, ◌*◌, length, slice_index, take, IfSome, Some};
+ghost use Rattle.std.specs.Prelude.{◌≡◌, ◌<◌, ◌≤◌, ◌*◌, List, is_some, length, map, slice_index, take, IfSome, Some};
+ghost use Rattle.pb_telegram.specs.declared.chars.RxChar.{RxChar};
+ghost use Rattle.pb_telegram.specs.declared.chars.RxChar.TheVariants.{Good};
+ghost use Rattle.pb_decode.specs.Characters.{characters_of};
 ghost use Rattle.pb_monitor.specs.Lines.{IsInRoom, IsMoment};
+ghost use Rattle.pb_monitor.specs.Listening.{AreCharacters};
 
 use crate::reports::push_refused;
 use crate::texts::{push_number, push_quoted};
@@ -281,7 +285,10 @@ pub(crate) fn read_hex(
     room: &mut [u8; LONGEST_TELEGRAM],
     receiver: &mut Receiver,
 ) -> Option<Characters>
-    ensures { IfSome result (λ c. IsInRoom c) }
+    ensures room { IfSome result (λ c. IsInRoom c) }
+    ensures hex { is_some result ≡ is_some (characters_of hex.now) }
+    ensures chars { IfSome result (λ c. (chars : List RxChar) → characters_of hex.now ≡ Some chars
+        → AreCharacters c room.new receiver.new chars) }
 {
     if let Some(count) = octets_in(hex, room) {
         return Some(Characters::Octets(count));
@@ -296,7 +303,9 @@ pub(crate) fn read_hex(
 /// How many undamaged characters hex spells, at most 255, which are then in the room. `None` if it spells others, or is
 /// no hex.
 fn octets_in(hex: &[u8], room: &mut [u8; LONGEST_TELEGRAM]) -> Option<usize>
-    ensures { IfSome result (λ count. count ≤ 255) }
+    ensures count { IfSome result (λ count. count ≤ 255) }
+    ensures chars { IfSome result (λ count.
+        characters_of hex.now ≡ Some (map Good (take count room.new))) }
 {
     let count = hex.len() / 2;
     if hex.len() % 2 != 0 || count > LONGEST_TELEGRAM {
