@@ -1,8 +1,8 @@
 -- Undamaged characters of a line's hex, pair by pair.
-use Rattle.std.proofs.Common.{◌≡◌, ℕ, ◌+◌, ◌*◌, ◌<◌, Bool, true, false, not, cond, ◌&&◌, ◌||◌, ◌==◌, if◌then◌else◌, List, [], ◌∷◌, ◌++◌, length, map, take, drop, set, get_or, Option, Some, None, refl, sym, ap, ◌∙◌, append_assoc, arith}
+use Rattle.std.proofs.Common.{◌≡◌, ℕ, ◌+◌, ◌*◌, ◌<◌, ◌≤◌, Bool, true, false, not, cond, ◌&&◌, ◌||◌, ◌==◌, if◌then◌else◌, List, [], ◌∷◌, ◌++◌, length, map, take, set, get_or, Option, Some, None, refl, sym, ap, ◌∙◌, append_assoc, arith}
 use Rattle.std.specs.Option.{option_map}
 use Rattle.std.proofs.lemmas.Bool.{eqb-true}
-use Rattle.std.proofs.lemmas.List.{drop_more, map-append, take_more_set}
+use Rattle.std.proofs.lemmas.List.{append-nil, map-append, take_all, take_more, take_more_set}
 use Rattle.hex.specs.Hex.{hex_digit_value}
 use Rattle.pb_telegram.specs.declared.chars.RxChar.{RxChar}
 use Rattle.pb_telegram.specs.declared.chars.RxChar.TheVariants.{Good, Bad}
@@ -35,11 +35,8 @@ not_true : (z : Bool) → (z ≡ true → ⊥) → z ≡ false
 not_true true never = absurd (never refl)
 not_true false never = refl
 
-next_digit : (hex : List ℕ) (i : ℕ) → i < length hex → is_blank (get_or hex i 0) ≡ false → digits_of (drop i hex) ≡ get_or hex i 0 ∷ digits_of (drop (i + 1) hex)
-next_digit hex i within digit =
-    let x = get_or hex i 0 in
-    let rest = drop (i + 1) hex in
-    ap digits_of (drop_more hex i 0 within) ∙ ap (λ (b : Bool). cond (not b) (x ∷ digits_of rest) (digits_of rest)) digit
+digits_of-digit : (byte : ℕ) (rest : List ℕ) → is_blank byte ≡ false → digits_of (byte ∷ rest) ≡ byte ∷ digits_of rest
+digits_of-digit byte rest digit = ap (λ (b : Bool). cond (not b) (byte ∷ digits_of rest) (digits_of rest)) digit
 
 -- ---- one more pair
 
@@ -56,30 +53,43 @@ option_map-before : (chars : List RxChar) (char : RxChar) (found : Option (List 
 option_map-before chars char None = refl
 option_map-before chars char (Some more) = ap Some (sym (append_assoc chars (char ∷ []) more))
 
-pub none_yet : (hex : List ℕ) → characters_of hex ≡ with_rest [] (digits_of hex)
-none_yet hex = sym (option_map-nil (characters_of hex))
-
--- the first octets of a room are the first characters of hex
+-- the first octets of a room are the first characters of hex, whatever is behind them
 pub record AreFirst (hex room : List ℕ) (count : ℕ) : Type 0 where
-  pub whole : characters_of hex ≡ with_rest (map Good (take count room)) (digits_of (drop (2 * count) hex))
+  pub whole : (rest : List ℕ) → characters_of (take (2 * count) hex ++ rest) ≡ with_rest (map Good (take count room)) (digits_of rest)
+
+pub none_yet : (hex room : List ℕ) → AreFirst hex room 0
+none_yet hex room = record { whole = λ rest. sym (option_map-nil (characters_of rest)) }
 
 pub one_more : (hex room : List ℕ) (i octet : ℕ) → 2 * i + 1 < length hex → i < length room
     → character_of (get_or hex (2 * i) 0) (get_or hex (2 * i + 1) 0) ≡ Some (Good octet) → AreFirst hex room i → AreFirst hex (set room i octet) (i + 1)
 one_more hex room i octet within room_for found so_far = record {
-  whole =
+  whole = λ rest.
       let a = get_or hex (2 * i) 0 in
       let b = get_or hex (2 * i + 1) 0 in
       let chars = map Good (take i room) in
-      let behind = drop (2 * i + 1 + 1) hex in
-      let first = next_digit hex (2 * i) (omega arith) (not_true (is_blank a) (no_first a b (Good octet) found)) in
-      let second = next_digit hex (2 * i + 1) within (not_true (is_blank b) (no_second a b (Good octet) found)) in
-      let pair : digits_of (drop (2 * i) hex) ≡ a ∷ b ∷ digits_of behind = first ∙ ap (λ (ds : List ℕ). a ∷ ds) second in
-      let place : 2 * i + 1 + 1 ≡ 2 * (i + 1) = omega arith in
+      let place : 2 * (i + 1) ≡ 2 * i + 1 + 1 = omega arith in
+      let two : take (2 * (i + 1)) hex ++ rest ≡ take (2 * i) hex ++ (a ∷ b ∷ rest) =
+      ap (λ (n : ℕ). take n hex ++ rest) place
+      ∙ ap (λ (xs : List ℕ). xs ++ rest) (take_more hex (2 * i + 1) 0 within)
+      ∙ append_assoc (take (2 * i + 1) hex) (b ∷ []) rest
+      ∙ ap (λ (xs : List ℕ). xs ++ (b ∷ rest)) (take_more hex (2 * i) 0 (omega arith))
+      ∙ append_assoc (take (2 * i) hex) (a ∷ []) (b ∷ rest) in
+      let first = digits_of-digit a (b ∷ rest) (not_true (is_blank a) (no_first a b (Good octet) found)) in
+      let second = digits_of-digit b rest (not_true (is_blank b) (no_second a b (Good octet) found)) in
+      let pair : digits_of (a ∷ b ∷ rest) ≡ a ∷ b ∷ digits_of rest = first ∙ ap (λ (ds : List ℕ). a ∷ ds) second in
       let more : map Good (take (i + 1) (set room i octet)) ≡ chars ++ Good octet ∷ [] =
       ap (map Good) (take_more_set room i octet room_for) ∙ map-append Good (take i room) (octet ∷ []) in
-      so_far.whole ∙ ap (with_rest chars) pair
-      ∙ ap (λ (c : Option RxChar). option_map (λ (rest : List RxChar). chars ++ rest) (before c (characters_of_pairs (digits_of behind)))) found
-      ∙ option_map-before chars (Good octet) (characters_of_pairs (digits_of behind))
-      ∙ ap (λ (cs : List RxChar). with_rest cs (digits_of behind)) (sym more)
-      ∙ ap (λ (n : ℕ). with_rest (map Good (take (i + 1) (set room i octet))) (digits_of (drop n hex))) place;
+      ap characters_of two ∙ so_far.whole (a ∷ b ∷ rest) ∙ ap (with_rest chars) pair
+      ∙ ap (λ (c : Option RxChar). option_map (λ (others : List RxChar). chars ++ others) (before c (characters_of_pairs (digits_of rest)))) found
+      ∙ option_map-before chars (Good octet) (characters_of_pairs (digits_of rest))
+      ∙ ap (λ (cs : List RxChar). with_rest cs (digits_of rest)) (sym more);
 }
+
+-- the front of hex
+pub front_is : (hex room : List ℕ) (count : ℕ) → AreFirst hex room count → characters_of (take (2 * count) hex) ≡ Some (map Good (take count room))
+front_is hex room count so_far =
+    ap characters_of (sym (append-nil (take (2 * count) hex))) ∙ so_far.whole [] ∙ ap Some (append-nil (map Good (take count room)))
+
+-- all of it
+pub all_is : (hex room : List ℕ) (count : ℕ) → length hex ≤ 2 * count → AreFirst hex room count → characters_of hex ≡ Some (map Good (take count room))
+all_is hex room count over so_far = ap characters_of (sym (take_all (2 * count) hex over)) ∙ front_is hex room count so_far

@@ -200,9 +200,13 @@ fn moment_before_space(bytes: &[u8]) -> Option<Moment>
 /// How many undamaged characters, at most 255, the hex at the front of some bytes spells, if the line ends behind it. They are
 /// then in the room.
 #[inline(always)]
+#[tactic(auto, using(crate::proofs::Characters::front_is))]
 fn octets_before_end(bytes: &[u8], room: &mut [u8; LONGEST_TELEGRAM]) -> Option<usize>
     ensures count { IfSome result (λ count. count ≤ 255) }
     ensures within { IfSome result (λ count. 2 * count < length bytes.now) }
+    ensures end { IfSome result (λ count. slice_index bytes.now (2 * count) ≡ 10) }
+    ensures chars { IfSome result (λ count.
+        characters_of (take (2 * count) bytes.now) ≡ Some (map Good (take count room.new))) }
 {
     let most = (bytes.len() / 2).min(LONGEST_TELEGRAM);
     for place in 0..most {
