@@ -239,7 +239,8 @@ impl Monitor {
             → self.old.options.every ≡ None → OnOk result (text.new.items ≡ text.old.items
             ++ told_timed (setting_of self.old) (one_line_more (heard_of self.old))
             (record { begin = line.begin; end = line.end; telegram = r })) }
-        ensures heard { (r : Result Telegram TelegramFault) → IsReadAs (map Good (take line.count room.now)) r
+        ensures heard { (r : Result Telegram TelegramFault)
+            → IsReadAs (map Good (take line.count room.now)) r
             → OnOk result (heard_of self.new ≡ behind_timed (setting_of self.old)
             (record { begin = line.begin; end = line.end; telegram = r })
             (one_line_more (heard_of self.old))) }
