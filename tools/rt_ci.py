@@ -5,10 +5,10 @@
 
 What is checked, by which words, and what is said of it is rt's own: its file is loaded as a module. With kit 13b three things in it are
 set, since it is not done in three hours for this tree without them: what it asks again and again of the graph of crates it computes once
-(it follows each path of crates.txt, 67,000 from ringplay); the crate with the longest chain of others behind it gets every
-processor that it can use, while others run on what it leaves, with one job each, since each further job loads all libraries once
-more; and the check of a static library keeps what it has proved, as that of a program does, so that its archive is built without a
-second proof. With another kit it is 'rt ci' as it is.
+(it follows each path of crates.txt, 67,000 from ringplay); the crate with the longest chain of others behind it gets the processors
+that it can use, while others run on what it leaves, with one job each, since each further job loads all libraries once more; and the
+check of a static library keeps what it has proved, as that of a program does, so that its archive is built without a second proof.
+With another kit it is 'rt ci' as it is.
 """
 
 import concurrent.futures
@@ -29,6 +29,8 @@ KIT = RT.parent.parent
 KNOWN = "rattle-kit-13b "
 # How far each kind of task stands back behind the check that most wait for (niceness).
 BACK = {"proof": 5, "tests": 10, "edits": 15}
+# How many lines of code are worth a job.
+LINES = 1000
 # What must stay free of memory, and what part of rt's estimate a check takes in fact, and with each further job.
 SPARE = 2_000_000_000
 PART = {"proof": 0.4, "tests": 0.6, "edits": 0.5}
@@ -93,7 +95,7 @@ def in_order(tasks):
         proofs = [it for it in [*left, *(key for key, _ in running.values())] if it[1] == "proof"]
         first = max(proofs, key=behind.get, default=None)
         for key in [it for it in left if all(below in given for below in tasks[it][0])]:
-            jobs = processors if key == first else 1
+            jobs = max(1, min(processors, tasks[key][1] // LINES)) if key == first else 1
             needs = tasks[key][2] * (PART[key[1]] + PART_OF_JOB * (jobs - 1))
             room = free() - sum(needs for _, needs in running.values()) / 2
             if not running or len(running) <= processors and needs <= room:
